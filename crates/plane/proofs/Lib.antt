@@ -1,0 +1,6 @@
+-- Laws that belong to no one function, in reading order.
+pub mod Terms
+pub mod Vectors
+pub mod Directions
+pub mod Contours
+pub mod Size
