@@ -4,3 +4,4 @@ pub mod Size
 pub mod Test
 pub mod Greatest
 pub mod Lists
+pub mod Faults

@@ -53,6 +53,9 @@ areaTwo a b c = cross (b -ᵖ a) (c -ᵖ a)
 abbrev pub turn : Pt → Pt → Pt → ℤ
 turn a b c = cross (b -ᵖ a) (c -ᵖ b)
 
+abbrev pub eqPt : Pt → Pt → Bool
+eqPt a b = cond (eqZ (a .x) (b .x)) (eqZ (a .y) (b .y)) false
+
 unfoldable pub isZero : Pt → Bool
 isZero v = cond (eqZ (v .x) (pos 0)) (eqZ (v .y) (pos 0)) false
 
@@ -73,3 +76,18 @@ byHalves true true k = byCross k
 -- "within a half, a positive cross": the direction of u against that of v.
 unfoldable pub angleCmp : Pt → Pt → Ordering
 angleCmp u v = byHalves (lower u) (lower v) (cross u v)
+
+abbrev pub isLess : Ordering → Bool
+isLess Less = true
+isLess Equal = false
+isLess Greater = false
+
+abbrev pub isEqual : Ordering → Bool
+isEqual Less = false
+isEqual Equal = true
+isEqual Greater = false
+
+abbrev pub isGreater : Ordering → Bool
+isGreater Less = false
+isGreater Equal = false
+isGreater Greater = true

@@ -1,0 +1,31 @@
+-- `vectors::signed_double` meets its contract: below half the number itself, else -1 less what is left to the top. Assumes nothing.
+use mathlib.Core.Path.{_∙_}
+use Prim.Native.Nat.{_-_}
+use native.Mathlib.Omega.{arith}
+use borrow.Author.Needs.{needs}
+use mir.Syntax.{w64}
+use mir.ValLaws.{toZ-pos}
+use Rattle.vectors.proofs.Signed.{signed-low, signed-high, down-fits, down-is}
+use Rattle.vectors.proofs.signed_double.Statement.{statement}
+use Rattle.vectors.proofs.signed_double.Tie as tie
+
+cast-result : tie.Need-cast-result
+cast-result c = search needs
+
+returns : tie.Need-returns
+returns c = toZ-pos w64 _ (omega arith) ∙ signed-low 9223372036854775808 _ (c .if1 .taken)
+
+sub-result : tie.Need-sub-result
+sub-result c = search needs
+
+cast-result-2 : tie.Need-cast-result-2
+cast-result-2 c = search needs
+
+sub-result-2 : tie.Need-sub-result-2
+sub-result-2 c = down-fits w64 (18446744073709551615 - c .before .args .n) (omega arith)
+
+returns-2 : tie.Need-returns-2
+returns-2 c = down-is w64 (18446744073709551615 - c .before .args .n) (omega arith) ∙ signed-high 9223372036854775808 _ (c .if1 .left)
+
+pub signed-double-spec : {M : Type 1} → statement M
+signed-double-spec = tie.close (tie.spec cast-result returns sub-result cast-result-2 sub-result-2 returns-2)

@@ -1,0 +1,18 @@
+//! The driver of the runs beside the Rust.
+//!
+//! - `entry`: what an entry point is, and how one is run: every input asked of
+//!   both sides, counted, and a difference made as small as possible
+//! - `told`: what the boundary's functions hand back
+//! - `plane`: `cross_product`, `area_two`, `angle_cmp`
+//! - `boundary`: the C functions of the Rattle archive and the list of entry
+//!   points, where it is linked
+//!
+//! An entry point joins with a module that implements `EntryPoint` and one line
+//! in the list of `boundary`.
+
+pub mod entry;
+pub mod plane;
+pub mod told;
+
+#[cfg(feature = "linked")]
+pub mod boundary;

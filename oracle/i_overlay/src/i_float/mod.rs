@@ -1,0 +1,4 @@
+//! Integer points, vectors and the numbers below them.
+
+pub mod int;
+pub mod triangle;

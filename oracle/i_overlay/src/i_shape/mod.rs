@@ -1,0 +1,4 @@
+//! Contours and what hands them out.
+
+pub mod int;
+pub mod source;

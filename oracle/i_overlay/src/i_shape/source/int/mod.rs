@@ -1,0 +1,3 @@
+//! What hands out paths of integer points.
+
+pub mod resource;

@@ -1,0 +1,3 @@
+//! What hands out paths.
+
+pub mod int;

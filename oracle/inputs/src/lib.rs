@@ -1,0 +1,24 @@
+//! Inputs for the runs beside the Rust, all from one seeded generator. The tests
+//! of each module ask the judge whether it gives what it promises.
+//!
+//! - `rng`: the generator; `coordinates`: numbers of every size and at the limits
+//! - `plane`: four points, for crosses, areas and directions
+//! - `contours`: small ones exhaustively; convex, dressed, in line, crossing,
+//!   of zero winding, round more than once, around each limit
+//! - `meshes`: small ones exhaustively; polygons, grids, strips, fans, copies,
+//!   ones that overlap or wind round a vertex more than once
+//! - `mesh_damage`: copies of a good mesh with one fault or two
+//! - `operands`: part tables with bounds; `pair_damage`: with one fault or two
+//! - `stored`: stored tables and mesh files, good and damaged
+//! - `places`: walks as a caller may make them
+
+pub mod contours;
+pub mod coordinates;
+pub mod mesh_damage;
+pub mod meshes;
+pub mod operands;
+pub mod pair_damage;
+pub mod places;
+pub mod plane;
+pub mod rng;
+pub mod stored;

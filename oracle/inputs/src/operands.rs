@@ -1,0 +1,123 @@
+//! Part tables with bounds, and pairs of them that the faults accept.
+
+use crate::contours;
+use crate::coordinates::EDGE;
+use crate::rng::Rng;
+use judge::limits::{CONTOUR, CORNERS, PARTS};
+use judge::pairs::{Operand, Operation};
+use judge::table::Table;
+use judge::{Contour, Point};
+
+/// A left and a right operand and what is asked of them.
+#[derive(Debug, Clone, PartialEq, Eq)]
+pub struct Pair {
+    pub operation: Operation,
+    pub left: Operand,
+    pub right: Operand,
+}
+
+/// An operand of these contours; its bounds are theirs, or wider within reach.
+pub fn operand(rng: &mut Rng, parts: &[Contour], reach: i32) -> Operand {
+    let corners: Vec<Point> = parts.concat();
+    let mut bounds = contours::bounds(&corners);
+    if rng.once_in(3) {
+        for (i, bound) in bounds.iter_mut().enumerate() {
+            *bound = match i % 2 {
+                0 => rng.between(-reach, *bound),
+                _ => rng.between(*bound, reach),
+            };
+        }
+    }
+    Operand {
+        table: Table::of(parts),
+        bounds,
+    }
+}
+
+/// Up to so many contours of every kind within reach.
+pub fn parts(rng: &mut Rng, most: usize, corners: usize, reach: i32) -> Vec<Contour> {
+    let count = 1 + rng.below(most);
+    (0..count)
+        .map(|_| contours::any(rng, corners, reach))
+        .collect()
+}
+
+/// An accepted pair: the two reaches together stay below 2^30.
+pub fn good(rng: &mut Rng, most: usize, corners: usize) -> Pair {
+    let (left_reach, right_reach) = match rng.below(6) {
+        0 => (EDGE, 0),
+        1 => (0, EDGE),
+        2 => (1 << 29, (1 << 29) - 1),
+        3 => (1_000_000, 1_000),
+        _ => (6, 6),
+    };
+    let mut side = |reach: i32| {
+        let mut parts = match reach {
+            0 => vec![vec![(0, 0); 1 + rng.below(3)]],
+            _ => parts(rng, most, corners, reach),
+        };
+        // A random contour of the whole range may wind too far.
+        for contour in &mut parts {
+            let far = |reflected| judge::walk::winding_leaves_64_bits(contour, reflected);
+            if far(false) || far(true) {
+                contour.truncate(4);
+            }
+        }
+        operand(rng, &parts, reach)
+    };
+    let (left, right) = (side(left_reach), side(right_reach));
+    let operation = rng.pick(&[Operation::Sum, Operation::Difference]);
+    Pair {
+        operation,
+        left,
+        right,
+    }
+}
+
+/// Contours whose numbers stand at a limit: parts, corners, or corners of one
+/// contour, `past` more than it.
+pub fn at_limit(rng: &mut Rng, past: i32) -> Vec<Contour> {
+    let at = |limit: usize| (limit as i64 + i64::from(past)) as usize;
+    match rng.below(3) {
+        0 => vec![vec![(0, 0)]; at(PARTS)],
+        1 => {
+            let mut parts = vec![vec![(1, 1); 1_000]; CORNERS / 1_000];
+            parts.push(vec![(1, 1); at(CORNERS) - 1_000 * parts.len()]);
+            parts
+        }
+        _ => vec![contours::random(rng, at(CONTOUR), 9)],
+    }
+}
+
+#[cfg(test)]
+mod tests {
+    use super::*;
+    use judge::pairs::fault;
+    use judge::table;
+
+    #[test]
+    fn good_pairs_are_accepted() {
+        let mut rng = Rng::new(31);
+        for _ in 0..3_000 {
+            let pair = good(&mut rng, 4, 12);
+            assert_eq!(
+                fault(pair.operation, &pair.left, &pair.right),
+                0,
+                "{pair:?}"
+            );
+        }
+    }
+
+    #[test]
+    fn limits_are_met_from_both_sides() {
+        let mut rng = Rng::new(32);
+        for _ in 0..60 {
+            for past in [-1, 0] {
+                let table = Table::of(&at_limit(&mut rng, past));
+                assert_eq!(table::fault(&table), 0);
+            }
+            let table = Table::of(&at_limit(&mut rng, 1));
+            assert_eq!(table::fault(&table), 7);
+        }
+    }
+}

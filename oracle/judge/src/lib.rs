@@ -1,0 +1,45 @@
+//! The judge of faults, written from document 01 alone: independent of the
+//! Rattle crates (`specs/`, `src/`) and of the given Rust, which has no refusal
+//! but 10. Sums and products that could leave 64 bits are formed in 128.
+//!
+//! Every judging function answers the number of the first fault in document
+//! 01's order, or 0. Each kind is tried over the whole input before the next.
+//!
+//! - `mesh`: 1, 2, 3, 4, 5, 6, 11
+//! - `file`: the mesh file, 13 and 1, then the mesh's own
+//! - `table`: the part table's rules and limits (7), its coordinates (2)
+//! - `stored`: the stored form, read and written
+//! - `shown`: the part shown, 7 and 12
+//! - `pairs`: 7, 2, 9, 8, 10, 20
+//! - `walk`: a walk begun, stepped, its point, and a pair's step
+//! - `room`: 22 and 21, once the answer's size is known
+//! - `round`: once round a convex area above zero; strictly convex
+//! - `listing`: the text of the area program
+
+pub mod file;
+pub mod limits;
+pub mod listing;
+pub mod mesh;
+pub mod pairs;
+pub mod room;
+pub mod round;
+pub mod shown;
+pub mod stored;
+pub mod table;
+pub mod walk;
+
+/// A fault's number; 0 is none.
+pub type Fault = u32;
+
+/// A point as (x, y), and a contour as a list of them.
+pub type Point = (i32, i32);
+pub type Contour = Vec<Point>;
+
+/// The first of the kinds whose test fails the input. The tests run in order and
+/// none runs after the first that answers yes.
+pub(crate) fn first(kinds: &[(Fault, &dyn Fn() -> bool)]) -> Fault {
+    kinds
+        .iter()
+        .find(|(_, given)| given())
+        .map_or(0, |&(fault, _)| fault)
+}
