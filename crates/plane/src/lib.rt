@@ -3,7 +3,7 @@
 // entry points above have refused all others), and says how large its result can be. Leans on integers.
 ghost use mathlib.Core.Path.{_≡_};
 ghost use lib.IntN.{_-ℤ_, _*ℤ_};
-ghost use Rattle.plane.specs.Plane.{inRange, onGrid, cross, areaTwo, lower, isZero, byCross, angleCmp, _-ᵖ_};
+ghost use Rattle.plane.specs.Plane.{inRange, onGrid, eqPt, cross, areaTwo, lower, isZero, byCross, angleCmp, _-ᵖ_};
 ghost use Rattle.plane.specs.Machine.{Coordinate, Extent, CrossSize, OnGrid, Short, point, vector};
 
 // A point of the integer grid.
@@ -89,6 +89,16 @@ pub fn area_two(a: IntPoint, b: IntPoint, c: IntPoint) -> i64
     ensures { λ r. ⌜ (r ≡ areaTwo (point a) (point b) (point c)) × CrossSize r ⌝ }
 {
     cross_product(subtract(b, a), subtract(c, a))
+}
+
+// Whether two points are one.
+pub fn same_point(a: IntPoint, b: IntPoint) -> bool
+    ensures { λ r. ⌜ r ≡ eqPt (point a) (point b) ⌝ }
+{
+    if a.x != b.x {
+        return false;
+    }
+    a.y == b.y
 }
 
 // Whether v is the zero vector.

@@ -1,0 +1,4 @@
+-- Laws of joining.
+pub mod Taken
+pub mod Ends
+pub mod Zipper

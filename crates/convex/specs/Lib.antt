@@ -1,0 +1,2 @@
+-- Joining (document 01, "Joining").
+pub mod Joining

@@ -1,0 +1,119 @@
+-- What an accepted mesh has, side by side: where no fault is found, each test's rule holds of every triangle and side (`accepted`).
+-- Assumes nothing.
+use mathlib.Core.Path.{_≡_, refl, sym, _∙_, ap}
+use mathlib.Core.Bool.{Bool, true, false, not, cond}
+use mathlib.Core.List.{List, [], _∷_}
+use Prim.Native.Nat.{ℕ, zero, suc, _≤_, _<_}
+use native.Mathlib.Omega.{arith}
+use borrow.Author.Tests.{eqb-true, eqb-false, ltb-false, leb-false}
+use lib.Dec.{eqb, leb, ltb, lit<}
+use lib.ListN.{length}
+use lib.IntN.{ℤ, pos}
+use lib.Signed.{_≤ℤ_, _<ℤ_, leZ, ltZ}
+use Rattle.integers.specs.Faults.{Kind, firstFault}
+use Rattle.integers.specs.Test.{eqZ}
+use Rattle.integers.proofs.Faults.{first-none}
+use Rattle.integers.proofs.Tests.{differ, ltZ-≤, leZ-<, eqZ-true}
+use Rattle.plane.specs.Plane.{Pt, eqPt, onGrid}
+use Rattle.plane.proofs.Vectors.{pt-eq}
+use Rattle.mesh.specs.Mesh.{Triangle, Mesh, none, vertex, neighbour, after, before, triangleAt, triangleArea, tooMany, offGrid, strayNeighbour, named, misnamed, opposite, runsOppositely, mismatched, flat, meshArea, tooLarge, meshKinds}
+use Rattle.mesh.proofs.Sides.{some-false, mesh-side-false, not-false}
+
+pub record Accepted (m : Mesh) : Type 0 where
+  pub few : length m ≤ 1024
+  pub on-grid : (k i : ℕ) → k < length m → onGrid (vertex (triangleAt m k) i) ≡ true
+  pub in-mesh : (k i : ℕ) → k < length m → i < 3 → (neighbour (triangleAt m k) i ≡ none → ⊥) → neighbour (triangleAt m k) i < length m
+  pub not-self : (k i : ℕ) → k < length m → i < 3 → (neighbour (triangleAt m k) i ≡ none → ⊥) → neighbour (triangleAt m k) i ≡ k → ⊥
+  pub named-once : (k i : ℕ) → k < length m → i < 3 → (neighbour (triangleAt m k) i ≡ none → ⊥) → named (triangleAt m k) (neighbour (triangleAt m k) i) ≡ 1
+  pub named-back : (k i : ℕ) → k < length m → i < 3 → (neighbour (triangleAt m k) i ≡ none → ⊥) → named (triangleAt m (neighbour (triangleAt m k) i)) k ≡ 1
+  pub meets : (k i : ℕ) → k < length m → i < 3 → (neighbour (triangleAt m k) i ≡ none → ⊥) →
+      let u = triangleAt m (neighbour (triangleAt m k) i) in
+      (vertex (triangleAt m k) (after i) ≡ vertex u (before (opposite u k))) × (vertex (triangleAt m k) (before i) ≡ vertex u (after (opposite u k)))
+  pub turns-left : (k : ℕ) → k < length m → pos 0 <ℤ triangleArea (triangleAt m k)
+  pub fits : meshArea m ≤ℤ pos 9223372036854775807
+
+both-true : (s t : Bool) → cond s t false ≡ true → (s ≡ true) × (t ≡ true)
+both-true true t h = (refl, h)
+both-true false t h = differ h
+
+either-false : (s t : Bool) → cond s true t ≡ false → (s ≡ false) × (t ≡ false)
+either-false true t h = differ (sym h)
+either-false false t h = (refl, h)
+
+pub eqPt-true : (a b : Pt) → eqPt a b ≡ true → a ≡ b
+eqPt-true a b h = let e = both-true (eqZ (a .x) (b .x)) (eqZ (a .y) (b .y)) h in pt-eq (eqZ-true (a .x) (b .x) (e .0)) (eqZ-true (a .y) (b .y) (e .1))
+
+module _ (m : Mesh) where
+  pub grid-rule : offGrid m ≡ false → (k i : ℕ) → k < length m → onGrid (vertex (triangleAt m k) i) ≡ true
+  unfolding offGrid vertex
+  grid-rule h k i l = at i
+    where
+      all : (onGrid (triangleAt m k .v0) ≡ true) × ((onGrid (triangleAt m k .v1) ≡ true) × (onGrid (triangleAt m k .v2) ≡ true))
+      all =
+          let e = both-true (onGrid (triangleAt m k .v0)) (cond (onGrid (triangleAt m k .v1)) (onGrid (triangleAt m k .v2)) false) (not-false _ (some-false (λ k t. not (cond (onGrid (t .v0)) (cond (onGrid (t .v1)) (onGrid (t .v2)) false) false)) m k h l)) in
+          (e .0, both-true (onGrid (triangleAt m k .v1)) (onGrid (triangleAt m k .v2)) (e .1))
+
+      at : (i : ℕ) → onGrid (vertex (triangleAt m k) i) ≡ true
+      at zero = all .0
+      at (suc zero) = all .1 .0
+      at (suc (suc i)) = all .1 .1
+
+  module _ (k i : ℕ) (l : k < length m) (s : i < 3) (d : neighbour (triangleAt m k) i ≡ none → ⊥) where
+    abbrev n : ℕ
+    n = neighbour (triangleAt m k) i
+
+    pub stray-rule : strayNeighbour m ≡ false → (n ≡ k → ⊥) × (n < length m)
+    unfolding strayNeighbour
+    stray-rule h =
+        let e = either-false (eqb n k) (leb (length m) n) (mesh-side-false (λ k t i n. cond (eqb n k) true (leb (length m) n)) m k i l s d h) in
+        (eqb-false n k (e .0), leb-false (length m) n (e .1))
+
+    named-rule : misnamed m ≡ false → (named (triangleAt m k) n ≡ 1) × (named (triangleAt m n) k ≡ 1)
+    unfolding misnamed
+    named-rule h =
+        let e =
+        both-true (eqb (named (triangleAt m k) n) 1) (eqb (named (triangleAt m n) k) 1)
+        (not-false _ (mesh-side-false (λ k t i n. not (cond (eqb (named t n) 1) (eqb (named (triangleAt m n) k) 1) false)) m k i l s d h)) in
+        (eqb-true _ 1 (e .0), eqb-true _ 1 (e .1))
+
+    meets-rule : mismatched m ≡ false → let u = triangleAt m n in (vertex (triangleAt m k) (after i) ≡ vertex u (before (opposite u k))) × (vertex (triangleAt m k) (before i) ≡ vertex u (after (opposite u k)))
+    unfolding mismatched runsOppositely
+    meets-rule h =
+        let u = triangleAt m n in
+        let e =
+        both-true (eqPt (vertex (triangleAt m k) (after i)) (vertex u (before (opposite u k)))) (eqPt (vertex (triangleAt m k) (before i)) (vertex u (after (opposite u k))))
+        (not-false _ (mesh-side-false (λ k t i n. not (runsOppositely t i (triangleAt m n) (opposite (triangleAt m n) k))) m k i l s d h)) in
+        (eqPt-true _ _ (e .0), eqPt-true _ _ (e .1))
+
+  pub area-rule : flat m ≡ false → (k : ℕ) → k < length m → pos 0 <ℤ triangleArea (triangleAt m k)
+  unfolding flat
+  area-rule h k l = leZ-< (triangleArea (triangleAt m k)) (pos 0) (some-false (λ k t. leZ (triangleArea t) (pos 0)) m k h l)
+
+  few-rule : tooMany m ≡ false → length m ≤ 1024
+  unfolding tooMany
+  few-rule h = ltb-false 1024 (length m) h
+
+  fits-rule : tooLarge m ≡ false → meshArea m ≤ℤ pos 9223372036854775807
+  unfolding tooLarge
+  fits-rule h = ltZ-≤ (pos 9223372036854775807) (meshArea m) h
+
+  pub accepted : firstFault (meshKinds m) ≡ 0 → Accepted m
+  accepted h =
+      let f1 = first-none 1 (tooMany m) _ (lit< tt) h in
+      let f2 = first-none 2 (offGrid m) _ (lit< tt) (f1 .1) in
+      let f3 = first-none 3 (strayNeighbour m) _ (lit< tt) (f2 .1) in
+      let f4 = first-none 4 (misnamed m) _ (lit< tt) (f3 .1) in
+      let f5 = first-none 5 (mismatched m) _ (lit< tt) (f4 .1) in
+      let f6 = first-none 6 (flat m) _ (lit< tt) (f5 .1) in
+      let f11 = first-none 11 (tooLarge m) _ (lit< tt) (f6 .1) in
+      record {
+        few = few-rule (f1 .0);
+        on-grid = λ k i l. grid-rule (f2 .0) k i l;
+        in-mesh = λ k i l s d. stray-rule k i l s d (f3 .0) .1;
+        not-self = λ k i l s d. stray-rule k i l s d (f3 .0) .0;
+        named-once = λ k i l s d. named-rule k i l s d (f4 .0) .0;
+        named-back = λ k i l s d. named-rule k i l s d (f4 .0) .1;
+        meets = λ k i l s d. meets-rule k i l s d (f5 .0);
+        turns-left = λ k l. area-rule (f6 .0) k l;
+        fits = fits-rule (f11 .0);
+      }

@@ -1,0 +1,35 @@
+-- A row's vertices and neighbours by their places (`vertex-row`, `neighbour-row`), a mesh's triangles by their rows (`triangle-row`).
+-- Assumes nothing.
+use mathlib.Core.Path.{_≡_, refl, sym, _∙_, ap}
+use mathlib.Core.List.{List, [], _∷_, map}
+use Prim.Native.Nat.{ℕ, zero, suc, _+_, _*_, _<_}
+use native.Mathlib.Omega.{arith}
+use lib.ListN.{length, getD, length-map}
+use lib.IntN.{ℤ}
+use Rattle.plane.specs.Plane.{Pt}
+use Rattle.mesh.specs.Mesh.{Triangle, Mesh, vertex, neighbour, triangleAt, noTriangle}
+use Rattle.mesh.specs.Rows.{number, word, rowTriangle, rowsMesh}
+
+pub vertex-row : (row : List ℤ) (i : ℕ) → i < 3 → vertex (rowTriangle row) i ≡ record { x = number row (2 * i); y = number row (2 * i + 1) }
+unfolding vertex rowTriangle
+vertex-row row zero h = refl
+vertex-row row (suc zero) h = refl
+vertex-row row (suc (suc zero)) h = refl
+vertex-row row (suc (suc (suc i))) h = absurd (omega arith)
+
+pub neighbour-row : (row : List ℤ) (i : ℕ) → i < 3 → neighbour (rowTriangle row) i ≡ word (number row (6 + i))
+unfolding neighbour rowTriangle
+neighbour-row row zero h = refl
+neighbour-row row (suc zero) h = refl
+neighbour-row row (suc (suc zero)) h = refl
+neighbour-row row (suc (suc (suc i))) h = absurd (omega arith)
+
+pub length-rows : (rows : List (List ℤ)) → length (rowsMesh rows) ≡ length rows
+unfolding rowsMesh
+length-rows rows = length-map rows rowTriangle
+
+pub triangle-row : (rows : List (List ℤ)) (k : ℕ) → k < length rows → triangleAt (rowsMesh rows) k ≡ rowTriangle (getD rows k [])
+unfolding rowsMesh
+triangle-row [] k h = absurd (omega arith)
+triangle-row (r ∷ rows) zero h = refl
+triangle-row (r ∷ rows) (suc k) h = triangle-row rows k (omega arith)

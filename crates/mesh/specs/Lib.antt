@@ -1,0 +1,2 @@
+pub mod Mesh
+pub mod Rows

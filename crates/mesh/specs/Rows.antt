@@ -1,0 +1,36 @@
+-- A mesh as it is lent: a row of nine numbers a triangle, six coordinates (x, y of the three points) and three neighbours, whose 32 bits are read
+-- unsigned, so that none, 4,294,967,295, is -1. Assumes nothing.
+use mathlib.Core.Path.{_≡_}
+use mathlib.Core.Bool.{true}
+use mathlib.Core.List.{List, map}
+use Prim.Native.Nat.{ℕ}
+use lib.ListN.{getD}
+use lib.IntN.{ℤ, pos}
+use mir.Syntax.{w32}
+use mir.Val.{ofZ}
+use Rattle.plane.specs.Plane.{Pt, onGrid}
+use Rattle.mesh.specs.Mesh.{Triangle, Mesh, vertex}
+
+abbrev pub number : List ℤ → ℕ → ℤ
+number row k = getD row k (pos 0)
+
+-- the 32 bits of a number read unsigned
+abbrev pub word : ℤ → ℕ
+word z = ofZ w32 z
+
+unfoldable pub rowTriangle : List ℤ → Triangle
+rowTriangle row = record {
+  v0 = record { x = number row 0; y = number row 1 };
+  v1 = record { x = number row 2; y = number row 3 };
+  v2 = record { x = number row 4; y = number row 5 };
+  n0 = word (number row 6);
+  n1 = word (number row 7);
+  n2 = word (number row 8);
+}
+
+unfoldable pub rowsMesh : List (List ℤ) → Mesh
+rowsMesh rows = map rowTriangle rows
+
+-- every vertex of a row is on the grid: what the code that computes with a row asks
+pub record RowOnGrid (row : List ℤ) : Type 0 where
+  pub on : (i : ℕ) → onGrid (vertex (rowTriangle row) i) ≡ true

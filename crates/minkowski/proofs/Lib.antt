@@ -1,0 +1,2 @@
+-- Laws of all pairs.
+pub mod EachPair

@@ -1,0 +1,134 @@
+-- Laws of lists and points that belong in crates/integers and crates/plane: one element on in a rotation (Rotation), a list reversed about
+-- its element k (Rotation); the edges of a contour rotated, reversed, read backwards from the same corner, turned through the origin, and by
+-- place (Contours); `eqPt` (Vectors). Assumes nothing.
+use mathlib.Core.Path.{_≡_, refl, sym, _∙_, ap, ap₂}
+use mathlib.Core.Bool.{true, false, cond}
+use mathlib.Core.List.{List, [], _∷_, _++_, map, append-assoc, reverse, reverse-cons, reverse-append}
+use Prim.Native.Nat.{ℕ, suc, _-_, _<_}
+use native.Mathlib.Omega.{arith}
+use borrow.Author.Tests.{eqb-true, eqb-false}
+use lib.Dec.{eqb}
+use lib.ListN.{length, take, drop, getD, length-drop, length-reverse, length-map, drop-of-length-le, List·getD-map}
+use lib.Seq.{take-suc, take-all, drop-cons, split-at}
+use Rattle.integers.specs.Lists.{rotate, links, neighbours, swap, both}
+use Rattle.integers.specs.Test.{eqZ}
+use Rattle.integers.proofs.Ring.{_:≡ᵖ_, pt, ringᵖ}
+use Rattle.integers.proofs.Order.{zarith, sub-parts, by-test}
+use Rattle.integers.proofs.Tests.{differ, eqZ-true, eqZ-refl}
+use Rattle.integers.proofs.Rotation.{rotate-eq, rotate-zero, rotate-append, map-rotate, map-reverse}
+use Rattle.integers.proofs.Neighbours.{length-neighbours, neighbours-rotate, neighbours-reverse, neighbours-cons, links-reverse, map-neighbours, getD-neighbours, getD-neighbours-last}
+use Rattle.plane.specs.Plane.{Pt, O, _-ᵖ_, negᵖ, eqPt, isZero}
+use Rattle.plane.specs.Contour.{edges}
+use Rattle.plane.proofs.Terms.{OE, _-E_, negE}
+use Rattle.plane.proofs.Vectors.{pt-eq, negᵖ-edge, isZero-true}
+
+-- ---- one element on
+
+module _ {A : Type 0} where
+  -- from element k: it, those after it, those before it
+  pub rotate-at : (k : ℕ) (l : List A) (d : A) → k < length l → rotate k l ≡ getD l k d ∷ (drop (suc k) l ++ take k l)
+  rotate-at k l d h = rotate-eq k l ∙ ap (λ r. r ++ take k l) (drop-cons l k d h)
+
+  -- from the element after k, round the end: those after it, those before it, it
+  pub rotate-after : (k : ℕ) (l : List A) (d : A) → k < length l → rotate (cond (eqb (suc k) (length l)) 0 (suc k)) l ≡ (drop (suc k) l ++ take k l) ++ (getD l k d ∷ [])
+  rotate-after k l d h = by-test (eqb (suc k) (length l))
+      (λ t. let e : suc k ≡ length l = eqb-true (suc k) (length l) t in
+      rw t (rotate-zero l ∙ sym (take-all (suc k) l (omega arith)) ∙ take-suc l k d h ∙ ap (λ r. (r ++ take k l) ++ (getD l k d ∷ [])) (sym (drop-of-length-le l {i = suc k} (omega arith)))))
+      (λ t. rw t (rotate-eq (suc k) l ∙ ap (λ r. drop (suc k) l ++ r) (take-suc l k d h) ∙ sym (append-assoc (drop (suc k) l) (take k l) (getD l k d ∷ []))))
+
+  -- l reversed, from where its element k stands: it, those before it backwards, those after it backwards
+  pub rotate-reverse : (k : ℕ) (l : List A) (d : A) → k < length l → rotate (length l - suc k) (reverse l) ≡ getD l k d ∷ reverse (drop (suc k) l ++ take k l)
+  rotate-reverse k l d h =
+      let n : length (reverse (drop (suc k) l)) ≡ length l - suc k = length-reverse (drop (suc k) l) ∙ length-drop (suc k) l in
+      ap₂ rotate (sym n) (ap reverse (split-at l k d h) ∙ reverse-append (take k l) (getD l k d ∷ drop (suc k) l) ∙ ap (λ r. r ++ reverse (take k l)) (reverse-cons (getD l k d) (drop (suc k) l)) ∙ append-assoc (reverse (drop (suc k) l)) (getD l k d ∷ []) (reverse (take k l)))
+      ∙ rotate-append (reverse (drop (suc k) l)) (getD l k d ∷ reverse (take k l))
+      ∙ ap (λ r. getD l k d ∷ r) (sym (reverse-append (drop (suc k) l) (take k l)))
+
+-- ---- edges
+
+-- from the first to the second
+abbrev diff : Pt × Pt → Pt
+diff e = e .1 -ᵖ e .0
+
+negᵖ-sub : (a b : Pt) → b -ᵖ a ≡ negᵖ (a -ᵖ b)
+negᵖ-sub = ringᵖ (pt ∷ pt ∷ []) (λ a b. b -E a :≡ᵖ negE (a -E b)) tt
+
+sub-self : (a : Pt) → a -ᵖ a ≡ O
+sub-self = ringᵖ (pt ∷ []) (λ a. a -E a :≡ᵖ OE) tt
+
+-- as many as corners
+pub length-edges : (l : List Pt) → length (edges l) ≡ length l
+unfolding edges
+length-edges l = length-map (neighbours l) diff ∙ length-neighbours l
+
+-- from another corner, from another edge
+pub edges-rotate : (k : ℕ) (l : List Pt) → edges (rotate k l) ≡ rotate k (edges l)
+unfolding edges
+edges-rotate k l = ap (map diff) (neighbours-rotate k l) ∙ map-rotate diff k (neighbours l)
+
+-- edge i: from corner i to the next, round the end
+pub getD-edges : (l : List Pt) (i : ℕ) → i < length l → getD (edges l) i O ≡ getD l (cond (eqb (suc i) (length l)) 0 (suc i)) O -ᵖ getD l i O
+unfolding edges
+getD-edges l i h =
+    List·getD-map diff (neighbours l) i (O, O)
+    ∙ by-test (eqb (suc i) (length l))
+    (λ t. rw t (ap diff (getD-neighbours-last l i O (O, O) (eqb-true (suc i) (length l) t))))
+    (λ t. rw t (ap diff (getD-neighbours l i O (O, O) (further t))))
+  where
+    further : eqb (suc i) (length l) ≡ false → suc i < length l
+    further t = let n : suc i ≡ length l → ⊥ = eqb-false (suc i) (length l) t in omega arith
+
+diff-swap : (m : List (Pt × Pt)) → map diff (map swap m) ≡ map negᵖ (map diff m)
+diff-swap [] = refl
+diff-swap (e ∷ m) = λ i. negᵖ-sub (e .1) (e .0) i ∷ diff-swap m i
+
+-- the other way round, each edge negated: (a - b) = -(b - a)
+pub edges-reverse : (l : List Pt) → edges (reverse l) ≡ rotate 1 (reverse (map negᵖ (edges l)))
+unfolding edges
+edges-reverse l =
+    ap (map diff) (neighbours-reverse l) ∙ map-rotate diff 1 (reverse (map swap (neighbours l)))
+    ∙ ap (rotate 1) (map-reverse diff (map swap (neighbours l)) ∙ ap reverse (diff-swap (neighbours l)))
+
+-- read backwards from the same corner: the edges negated, in the other order
+pub edges-backwards : (c : Pt) (l : List Pt) → edges (c ∷ reverse l) ≡ reverse (map negᵖ (edges (c ∷ l)))
+unfolding edges
+edges-backwards c l =
+    ap (map diff) (neighbours-cons c (reverse l) ∙ links-reverse c l c) ∙ map-reverse diff (map swap (links c (l ++ (c ∷ []))))
+    ∙ ap (λ m. reverse (map diff (map swap m))) (sym (neighbours-cons c l)) ∙ ap reverse (diff-swap (neighbours (c ∷ l)))
+
+-- of the contour turned through the origin: -b - (-a) = -(b - a)
+pub edges-negᵖ : (l : List Pt) → edges (map negᵖ l) ≡ map negᵖ (edges l)
+unfolding edges
+edges-negᵖ l = ap (map diff) (sym (map-neighbours negᵖ l)) ∙ each (neighbours l)
+  where
+    each : (m : List (Pt × Pt)) → map diff (map (both negᵖ) m) ≡ map negᵖ (map diff m)
+    each [] = refl
+    each (e ∷ m) = λ i. negᵖ-edge (e .0) (e .1) i ∷ each m i
+
+-- ---- points
+
+pub eqPt-true : (a b : Pt) → eqPt a b ≡ true → a ≡ b
+eqPt-true a b h = by-test (eqZ (a .x) (b .x))
+    (λ t. pt-eq (eqZ-true (a .x) (b .x) t) (eqZ-true (a .y) (b .y) (rw t at h))) (λ t. differ (rw t at h))
+
+pub eqPt-refl : (a : Pt) → eqPt a a ≡ true
+eqPt-refl a = rw (eqZ-refl (a .x), eqZ-refl (a .y))
+
+pub eqPt-false : (a b : Pt) → eqPt a b ≡ false → a ≡ b → ⊥
+eqPt-false a b h e = differ (sym h ∙ ap (eqPt a) (sym e) ∙ eqPt-refl a)
+
+pub ≢-eqPt : {a b : Pt} → (a ≡ b → ⊥) → eqPt a b ≡ false
+≢-eqPt {a} {b} h = by-test (eqPt a b) (λ t. absurd (h (eqPt-true a b t))) (λ t. t)
+
+isZero-O : isZero O ≡ true
+unfolding isZero
+isZero-O = refl
+
+-- q - p is zero exactly where p and q are equal
+pub isZero-sub : (p q : Pt) → isZero (q -ᵖ p) ≡ eqPt p q
+isZero-sub p q = by-test (eqPt p q)
+    (λ t. ap (λ c. isZero (q -ᵖ c)) (eqPt-true p q t) ∙ ap isZero (sub-self q) ∙ isZero-O ∙ sym t)
+    (λ t. by-test (isZero (q -ᵖ p)) (λ z. absurd (eqPt-false p q t (sub-zero p q (isZero-true (q -ᵖ p) z)))) (λ z. z ∙ sym t))
+  where
+    sub-zero : (p q : Pt) → q -ᵖ p ≡ O → p ≡ q
+    sub-zero p q e = pt-eq (omega (zarith, sub-parts (q .x) (p .x), ap (λ c. c .x) e)) (omega (zarith, sub-parts (q .y) (p .y), ap (λ c. c .y) e))

@@ -1,0 +1,3 @@
+-- Laws of splitting.
+pub mod Shares
+pub mod Sectors

@@ -1,0 +1,132 @@
+-- What a walk begun, its point, a walk stepped and a pair stepped answer, refusals first (document 01, "Faults that come from the state").
+-- Contours are lists of numbers, x, y in turn, as they are lent. Assumes nothing.
+use mathlib.Core.Bool.{Bool, true, false, not, cond}
+use mathlib.Core.List.{List, [], _∷_}
+use Prim.Native.Nat.{ℕ, _/_, _%_}
+use lib.Dec.{eqb, leb, ltb}
+use lib.ListN.{length}
+use lib.IntN.{ℤ, pos}
+use Rattle.integers.specs.Faults.{Kind, firstFault}
+use Rattle.plane.specs.Plane.{Pt, onGrid}
+use Rattle.plane.specs.declared.IntPoint.{IntPoint}
+use Rattle.plane.specs.declared.IntVector.{IntVector}
+use Rattle.table.specs.Table.{pointsOf, offRange}
+use Rattle.pair.specs.declared.Place.{Place}
+use Rattle.pair.specs.declared.ConvexSum.{ConvexSum}
+use Rattle.pair.specs.Walk.{cornerAt, windingLeaves, begin, nextIndex, edgeOf, advance}
+use Rattle.pair.specs.Walk as walk
+use Rattle.pair.specs.Pair.{Emitted, corner, end, pairStep}
+use Rattle.walk.specs.declared.Begun.{Begun}
+use Rattle.walk.specs.declared.Begun.the-variants as begun
+use Rattle.walk.specs.declared.Pointed.{Pointed}
+use Rattle.walk.specs.declared.Pointed.the-variants as pointed
+use Rattle.walk.specs.declared.Stepped.{Stepped}
+use Rattle.walk.specs.declared.Stepped.the-variants as stepped
+use Rattle.walk.specs.declared.Next.{Next}
+use Rattle.walk.specs.declared.Next.the-variants as next
+
+-- ---- the tests
+
+-- "7 for length (odd, or over 1,026 corners)"
+unfoldable pub lengthBroken : List ℤ → Bool
+lengthBroken l = cond (eqb (length l % 2) 0) (ltb 1026 (length l / 2)) true
+
+-- "whose place or either segment end isn't a corner of its contour", of n corners; the ends count where it walks a segment
+unfoldable pub misplaced : ℕ → Place → Bool
+misplaced n w = cond (leb n (w .index)) true (cond (w .segment) (cond (leb n (w .start)) true (leb n (w .end))) false)
+
+-- "a walk with no step left"
+abbrev pub finished : Place → Bool
+finished w = eqb (w .remaining) 0
+
+abbrev pub offAt : List Pt → ℕ → Bool
+offAt l i = not (onGrid (cornerAt l i))
+
+abbrev pub either : Bool → Bool → Bool
+either s t = cond s true t
+
+-- ---- "Walk begun: 7 for length (odd, or over 1,026 corners), 2, 8, 20"
+
+unfoldable pub beginFault : List ℤ → Bool → ℕ
+beginFault l reflected =
+    firstFault ((7, lengthBroken l) ∷ (2, offRange l) ∷ (8, windingLeaves reflected (pointsOf l)) ∷ (20, eqb (length l) 0) ∷ [])
+
+unfoldable pub begunOf : List ℤ → Bool → Begun
+begunOf l reflected = cond (eqb (beginFault l reflected) 0) (begun.At (begin reflected (pointsOf l))) (begun.Refused (beginFault l reflected))
+
+-- ---- "Its point alone needs no step left, and 2 only at its place."
+
+unfoldable pub pointFault : List ℤ → Place → ℕ
+pointFault l w = firstFault ((7, lengthBroken l) ∷ (23, misplaced (length (pointsOf l)) w) ∷ (2, offAt (pointsOf l) (w .index)) ∷ [])
+
+abbrev pub intPoint : Pt → IntPoint
+intPoint p = record { x = p .x; y = p .y }
+
+abbrev pub intVector : Pt → IntVector
+intVector p = record { x = p .x; y = p .y }
+
+unfoldable pub pointedOf : List ℤ → Place → Pointed
+pointedOf l w = cond (eqb (pointFault l w) 0) (pointed.Point (intPoint (walk.pointOf (pointsOf l) w))) (pointed.Refused (pointFault l w))
+
+-- ---- "stepped: 7 for length, 23, then 2 for the corner at its place or at the next"
+
+unfoldable pub stepFault : List ℤ → Place → ℕ
+stepFault l w =
+    firstFault (
+    (7, lengthBroken l)
+    ∷ (23, either (finished w) (misplaced (length (pointsOf l)) w))
+    ∷ (2, either (offAt (pointsOf l) (w .index)) (offAt (pointsOf l) (nextIndex (length (pointsOf l)) w)))
+    ∷ []
+    )
+
+unfoldable pub steppedOf : List ℤ → Place → Stepped
+steppedOf l w =
+    cond (eqb (stepFault l w) 0) (stepped.Edge (intVector (edgeOf (pointsOf l) w)) (advance (length (pointsOf l)) w)) (stepped.Refused (stepFault l w) w)
+
+-- ---- "A pair's step: 7, 23, 2 likewise over both walks, but 23 only for a place or segment end .. and 2 for any corner", left before right
+
+unfoldable pub pairStepFault : List ℤ → List ℤ → ConvexSum → ℕ
+pairStepFault l r s =
+    firstFault (
+    (7, lengthBroken l) ∷ (7, lengthBroken r)
+    ∷ (23, misplaced (length (pointsOf l)) (s .a)) ∷ (23, misplaced (length (pointsOf r)) (s .b))
+    ∷ (2, offRange l) ∷ (2, offRange r)
+    ∷ []
+    )
+
+-- "with no nonzero edge left it tells the end, no fault"
+abbrev pub nextOf : Emitted → Next
+nextOf (corner p t) = next.Corner (intPoint p) t
+nextOf (end t) = next.End t
+
+unfoldable pub pairSteppedOf : List ℤ → List ℤ → ConvexSum → Next
+pairSteppedOf l r s = cond (eqb (pairStepFault l r s) 0) (nextOf (pairStep (pointsOf l) (pointsOf r) s)) (next.Refused (pairStepFault l r s) s)
+
+-- ---- the paper's number and values for each case of an answer: 0 where there is no fault
+
+abbrev pub begunNumber : Begun → ℕ
+begunNumber (begun.At w) = 0
+begunNumber (begun.Refused f) = f
+
+abbrev pub pointedNumber : Pointed → ℕ
+pointedNumber (pointed.Point p) = 0
+pointedNumber (pointed.Refused f) = f
+
+abbrev pub steppedNumber : Stepped → ℕ
+steppedNumber (stepped.Edge e w) = 0
+steppedNumber (stepped.Refused f w) = f
+
+-- where the walk stands: a refusal "hands a walk back as it came"
+abbrev pub steppedPlace : Stepped → Place
+steppedPlace (stepped.Edge e w) = w
+steppedPlace (stepped.Refused f w) = w
+
+abbrev pub nextNumber : Next → ℕ
+nextNumber (next.Corner p t) = 0
+nextNumber (next.End t) = 0
+nextNumber (next.Refused f t) = f
+
+abbrev pub nextPlaces : Next → ConvexSum
+nextPlaces (next.Corner p t) = t
+nextPlaces (next.End t) = t
+nextPlaces (next.Refused f t) = t
