@@ -2,3 +2,5 @@
 pub mod Sides
 pub mod Accepted
 pub mod Rows
+pub mod Passes
+pub mod Neighbours

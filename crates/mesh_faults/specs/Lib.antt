@@ -1,0 +1,2 @@
+-- Sums that stop past 64 bits.
+pub mod Totals
