@@ -11,11 +11,10 @@ use lib.ListN.{length}
 use lib.IntN.{ℤ, pos}
 use lib.Signed.{_≤ℤ_, _<ℤ_, leZ, ltZ}
 use Rattle.integers.specs.Faults.{Kind, firstFault}
-use Rattle.integers.specs.Test.{eqZ}
 use Rattle.integers.proofs.Faults.{first-none}
-use Rattle.integers.proofs.Tests.{differ, ltZ-≤, leZ-<, eqZ-true}
+use Rattle.integers.proofs.Tests.{differ, ltZ-≤, leZ-<}
 use Rattle.plane.specs.Plane.{Pt, eqPt, onGrid}
-use Rattle.plane.proofs.Vectors.{pt-eq}
+use Rattle.plane.proofs.Edges.{eqPt-true}
 use Rattle.mesh.specs.Mesh.{Triangle, Mesh, none, vertex, neighbour, after, before, triangleAt, triangleArea, tooMany, offGrid, strayNeighbour, named, misnamed, opposite, runsOppositely, mismatched, flat, meshArea, tooLarge, meshKinds}
 use Rattle.mesh.proofs.Sides.{some-false, mesh-side-false, not-false}
 
@@ -39,9 +38,6 @@ both-true false t h = differ h
 either-false : (s t : Bool) → cond s true t ≡ false → (s ≡ false) × (t ≡ false)
 either-false true t h = differ (sym h)
 either-false false t h = (refl, h)
-
-pub eqPt-true : (a b : Pt) → eqPt a b ≡ true → a ≡ b
-eqPt-true a b h = let e = both-true (eqZ (a .x) (b .x)) (eqZ (a .y) (b .y)) h in pt-eq (eqZ-true (a .x) (b .x) (e .0)) (eqZ-true (a .y) (b .y) (e .1))
 
 module _ (m : Mesh) where
   pub grid-rule : offGrid m ≡ false → (k i : ℕ) → k < length m → onGrid (vertex (triangleAt m k) i) ≡ true

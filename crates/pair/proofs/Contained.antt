@@ -20,7 +20,7 @@ use Rattle.plane.proofs.Vectors.{pt-eq}
 use Rattle.plane.proofs.Directions.{Lt, Nz}
 use Rattle.pair.specs.Premise.{reach}
 use Rattle.pair.specs.Berg.{cornersFrom}
-use Rattle.pair.proofs.MissingVectors.{sub-zero}
+use Rattle.plane.proofs.Sides.{sub-zero}
 use Rattle.pair.proofs.Convex.{In, Sorted, Convex}
 use Rattle.pair.proofs.Totals.{cut}
 use Rattle.pair.proofs.Splits.{corners-cuts, cut-next}

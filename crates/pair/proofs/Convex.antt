@@ -11,7 +11,7 @@ use Rattle.plane.proofs.Directions.{Le, Nz}
 use Rattle.pair.specs.Premise.{reach}
 use Rattle.pair.specs.Berg.{cornersFrom}
 use Rattle.pair.specs.Demand.{sumᵖ}
-use Rattle.pair.proofs.MissingVectors.{Line}
+use Rattle.plane.proofs.Sides.{Line}
 
 -- c is one of l
 abbrev pub In : List Pt → Pt → Type 0

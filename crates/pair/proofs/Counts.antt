@@ -9,7 +9,8 @@ use Rattle.integers.specs.Lists.{All, sumℕ, links, neighbours}
 use Rattle.integers.proofs.Elements.{all-map}
 use Rattle.plane.specs.Plane.{Pt, angleCmp, isGreater}
 use Rattle.plane.proofs.Directions.{Le, before, beside, after, angle-cases, clash}
-use Rattle.pair.specs.Premise.{howMany, lastOf}
+use Rattle.pair.specs.Premise.{howMany}
+use Rattle.plane.specs.Contour.{lastOf}
 use Rattle.pair.specs.Demand.{ascending}
 use Rattle.pair.proofs.Convex.{Sorted}
 

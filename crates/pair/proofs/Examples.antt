@@ -12,7 +12,8 @@ use Rattle.plane.specs.Plane.{Pt, isZero, lower, byCross, angleCmp}
 use Rattle.plane.specs.Contour.{edges, contourArea}
 use Rattle.pair.specs.Walk.{below, leastFrom, greatestFrom, leastAt, greatestAt, startAt, endAt, windingTerms, winding, begin, nextIndex, pointOf, edgeOf, advance}
 use Rattle.pair.specs.Pair.{lesser, nextStep, belongs, headed, run, pairStep, emit, pairContour}
-use Rattle.pair.specs.Premise.{fresh, lastOf, withoutRepeats, turns, howMany, forward, descent, left, roundBy, onceRound, strictlyConvex}
+use Rattle.pair.specs.Premise.{fresh, withoutRepeats, turns, howMany, forward, descent, left, roundBy, onceRound, strictlyConvex}
+use Rattle.plane.specs.Contour.{lastOf}
 use Rattle.pair.specs.Berg.{anticlockwise, fromLowest, mergeOne, mergeByAngle, cornersFrom, bergOf, deBerg}
 
 -- ---- tests over a list of contours

@@ -13,7 +13,7 @@ use Rattle.pair.specs.Walk.{cornerAt}
 use Rattle.pair.specs.Premise.{reach}
 use Rattle.pair.specs.Berg.{cornersFrom}
 use Rattle.pair.specs.Demand.{SameReach, FarthestReach}
-use Rattle.pair.proofs.MissingVectors.{+ᵖ-cross}
+use Rattle.plane.proofs.Sides.{+ᵖ-cross}
 use Rattle.pair.proofs.Convex.{In, in-self, Sorted, Convex, Outline}
 use Rattle.pair.proofs.Totals.{cut}
 use Rattle.pair.proofs.Splits.{corners-cuts}

@@ -13,7 +13,7 @@ use Rattle.integers.proofs.Elements.{all-map, all-map2}
 use Rattle.plane.specs.Plane.{Pt, cross}
 use Rattle.plane.proofs.Terms.{crossE}
 use Rattle.plane.proofs.Directions.{Le, Lt, Nz, lt-le, le-refl}
-use Rattle.pair.proofs.MissingVectors.{past-left, before-left, between-right}
+use Rattle.plane.proofs.Sides.{past-left, before-left, between-right}
 use Rattle.pair.proofs.Convex.{Sorted, Convex}
 use Rattle.pair.proofs.Totals.{all-line-left, all-line-right}
 use Rattle.pair.proofs.Splits.{Split, split-start, split-next, split-before, split-all, all-split}

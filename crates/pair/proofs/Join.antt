@@ -13,7 +13,7 @@ use Rattle.plane.proofs.Vectors.{+ᵖ-assoc, +ᵖ-zero, isZero-true}
 use Rattle.plane.proofs.Directions.{Le, Lt, Nz, Same, before, beside, after, angle-cases, le-trans, lt-le, clash, same-le, same-refl, same-sym, same-trans, same-lt, lt-same, lt-le-trans, nz-not-zero}
 use Rattle.pair.specs.Demand.{live}
 use Rattle.pair.proofs.EdgeLists.{stepOne, stepped, runs, grouped}
-use Rattle.pair.proofs.MissingVectors.{Line, line-swap, line-trans, AddSame, add-same}
+use Rattle.plane.proofs.Sides.{Line, line-swap, line-trans, AddSame, add-same}
 use Rattle.pair.proofs.Convex.{Sorted, Convex}
 use Rattle.pair.proofs.Totals.{one, total, total-sum, total-append, total-perm, Dirs, ahead-of, cut, dirs-ahead}
 use Rattle.pair.proofs.Live.{live-zero, live-keep}

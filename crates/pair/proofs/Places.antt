@@ -25,7 +25,8 @@ use Rattle.plane.proofs.Vectors.{+ᵖ--ᵖ}
 use Rattle.pair.specs.declared.Place.{Place}
 use Rattle.pair.specs.Walk.{cornerAt, startAt, endAt, winding, begin, nextIndex, turned, pointOf, edgeOf, advance}
 use Rattle.pair.specs.Demand.{handed, walkEdges}
-use Rattle.pair.proofs.MissingLists.{rotate-at, rotate-after, rotate-reverse, length-edges, edges-rotate, edges-negᵖ, getD-edges, eqPt-refl, eqPt-false, ≢-eqPt}
+use Rattle.integers.proofs.Rotation.{rotate-at, rotate-after, rotate-reverse}
+use Rattle.plane.proofs.Edges.{length-edges, edges-rotate, edges-negᵖ, getD-edges, eqPt-refl, eqPt-false, ≢-eqPt}
 use Rattle.pair.proofs.Start.{start-inside, end-inside}
 
 -- from its first corner, the other way round

@@ -20,7 +20,7 @@ use Rattle.plane.proofs.Directions.{level, Le, Lt, Nz, le-trans, le-lt-trans, l
 use Rattle.pair.specs.Premise.{reach}
 use Rattle.pair.specs.Berg.{cornersFrom}
 use Rattle.pair.specs.Demand.{sumᵖ}
-use Rattle.pair.proofs.MissingVectors.{+ᵖ-next, Line, Ahead, ahead, behind, ahead-cases, le-lt, cross-zero-l, between-left, past-left, before-left, between-right, before-right, past-right}
+use Rattle.plane.proofs.Sides.{+ᵖ-next, Line, Ahead, ahead, behind, ahead-cases, le-lt, cross-zero-l, between-left, past-left, before-left, between-right, before-right, past-right}
 use Rattle.pair.proofs.Convex.{In, Sorted, Convex}
 use Rattle.pair.proofs.Totals.{sum-cons, total, cut, cut-take, cut-none, cut-whole, sum-left, sum-right, cut-left, cut-most}
 use Rattle.pair.proofs.Splits.{Split, split-start, split-next, split-before, split-all, split-total, split-sum}

@@ -22,7 +22,7 @@ use Rattle.pair.specs.Walk.{cornerAt, below, windingTerms}
 use Rattle.pair.specs.Berg.{cornersFrom}
 use Rattle.pair.specs.Demand.{live}
 use Rattle.pair.proofs.Convex.{Outline}
-use Rattle.pair.proofs.MissingLists.{rotate-at}
+use Rattle.integers.proofs.Rotation.{rotate-at}
 use Rattle.pair.proofs.Start.{not-below-up}
 use Rattle.pair.proofs.Places.{backwards}
 use Rattle.pair.proofs.Repeats.{RoundEdges, round-rotate, round-backwards}

@@ -19,9 +19,10 @@ use Rattle.integers.proofs.Rotation.{rotate-append, reverse-rotate}
 use Rattle.integers.proofs.Neighbours.{neighbours-cons, perm-neighbours-rotate, perm-neighbours-reverse, map-neighbours}
 use Rattle.plane.specs.Plane.{Pt, _-ᵖ_, negᵖ, eqPt}
 use Rattle.plane.specs.Contour.{edges}
-use Rattle.pair.specs.Premise.{fresh, lastOf, withoutRepeats, turns, howMany, forward, descent, roundBy, onceRound}
+use Rattle.pair.specs.Premise.{fresh, withoutRepeats, turns, howMany, forward, descent, roundBy, onceRound}
+use Rattle.plane.specs.Contour.{lastOf}
 use Rattle.pair.specs.Demand.{live}
-use Rattle.pair.proofs.MissingLists.{edges-rotate, edges-reverse, edges-backwards, eqPt-true, isZero-sub}
+use Rattle.plane.proofs.Edges.{edges-rotate, edges-reverse, edges-backwards, eqPt-true, isZero-sub}
 use Rattle.pair.proofs.Places.{backwards}
 use Rattle.pair.proofs.Live.{live-zero, live-keep, live-rotate, live-reverse, live-negᵖ}
 

@@ -25,9 +25,9 @@ use Rattle.plane.proofs.Directions.{Le, Lt, Nz, nz-cases, lt-irrefl, lt-asym, l
 use Rattle.pair.specs.Walk.{cornerAt, below, windingTerms}
 use Rattle.pair.specs.Premise.{howMany, forward, descent, left, both, roundBy, strictlyConvex}
 use Rattle.pair.specs.Demand.{live}
-use Rattle.pair.proofs.MissingVectors.{cross-zero-l, le-lt}
+use Rattle.plane.proofs.Sides.{cross-zero-l, le-lt}
 use Rattle.pair.proofs.Convex.{In, in-self, Sorted, Convex}
-use Rattle.pair.proofs.MissingLists.{edges-rotate}
+use Rattle.plane.proofs.Edges.{edges-rotate}
 use Rattle.pair.proofs.Start.{below-total}
 use Rattle.pair.proofs.Places.{backwards}
 use Rattle.pair.proofs.Repeats.{RoundEdges}

@@ -11,7 +11,7 @@ use Rattle.plane.proofs.Vectors.{+ᵖ-comm, +ᵖ-zero}
 use Rattle.plane.proofs.Directions.{Lt, lt-le, le-refl}
 use Rattle.pair.specs.Demand.{sumᵖ}
 use Rattle.pair.specs.Berg.{cornersFrom}
-use Rattle.pair.proofs.MissingVectors.{+ᵖ-next}
+use Rattle.plane.proofs.Sides.{+ᵖ-next}
 use Rattle.pair.proofs.Convex.{Sorted}
 use Rattle.pair.proofs.Totals.{total, total-sum, total-append, total-perm, cut, cut-none, cut-whole, sum-cons}
 

@@ -12,10 +12,11 @@ use Rattle.plane.specs.Plane.{Pt, O, _+ᵖ_, _-ᵖ_}
 use Rattle.plane.specs.Contour.{edges}
 use Rattle.plane.proofs.Vectors.{+ᵖ-assoc, +ᵖ-zero}
 use Rattle.plane.proofs.Directions.{Lt, lt-le, nz-not-zero}
-use Rattle.pair.specs.Premise.{howMany, descent, left, both, roundBy, strictlyConvex, lastOf}
+use Rattle.pair.specs.Premise.{howMany, descent, left, both, roundBy, strictlyConvex}
+use Rattle.plane.specs.Contour.{lastOf}
 use Rattle.pair.specs.Berg.{cornersFrom}
 use Rattle.pair.specs.Demand.{sumᵖ}
-use Rattle.pair.proofs.MissingVectors.{+ᵖ-sub, lt-ahead, le-behind}
+use Rattle.plane.proofs.Sides.{+ᵖ-sub, lt-ahead, le-behind}
 use Rattle.pair.proofs.Convex.{Sorted, Convex}
 use Rattle.pair.proofs.Reaches.{convex-nonempty}
 use Rattle.pair.proofs.Gaps.{turns-left}

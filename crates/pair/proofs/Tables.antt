@@ -19,10 +19,11 @@ use Rattle.plane.specs.Contour.{edges}
 use Rattle.plane.proofs.Terms.{OE, _+E_, _-E_, crossE}
 use Rattle.plane.proofs.Vectors.{+ᵖ-assoc, +ᵖ-zero, +ᵖ--ᵖ}
 use Rattle.plane.proofs.Directions.{Up, LtAt, Le, Lt, Same, before, beside, after, angle-cases, Nz, le-trans, clash, same-le, lower-up, lower-down, nz-not-zero}
-use Rattle.pair.specs.Premise.{howMany, forward, descent, lastOf}
+use Rattle.pair.specs.Premise.{howMany, forward, descent}
+use Rattle.plane.specs.Contour.{lastOf}
 use Rattle.pair.specs.Berg.{cornersFrom}
 use Rattle.pair.specs.Demand.{live, sumᵖ}
-use Rattle.pair.proofs.MissingVectors.{+ᵖ-sub, +ᵖ-cancel, sub-zero, sub-self, neg-of-sum, Line, line-swap, line-trans, ahead, behind, ahead-cases, lt-ahead}
+use Rattle.plane.proofs.Sides.{+ᵖ-sub, +ᵖ-cancel, sub-zero, sub-self, neg-of-sum, Line, line-swap, line-trans, ahead, behind, ahead-cases, lt-ahead}
 use Rattle.pair.proofs.Convex.{In, Sorted, Convex, Outline}
 use Rattle.pair.proofs.Live.{live-by, live-nz, sum-live}
 use Rattle.pair.proofs.Reaches.{reach-same, convex-nonempty, corners-nonempty}

@@ -17,7 +17,7 @@ use Rattle.plane.proofs.Terms.{negE, crossE}
 use Rattle.plane.proofs.Vectors.{+ᵖ-assoc, +ᵖ-zero, zero-+ᵖ, cross-add-l, cross-add-r, cross-swap}
 use Rattle.plane.proofs.Directions.{Le, Lt, Nz, Same, clash}
 use Rattle.pair.specs.Demand.{sumᵖ}
-use Rattle.pair.proofs.MissingVectors.{+ᵖ-left, cross-zero-l, cross-zero-r, cross-neg-swap-r, Line, ahead, behind, ahead-cases, ahead-same}
+use Rattle.plane.proofs.Sides.{+ᵖ-left, cross-zero-l, cross-zero-r, cross-neg-swap-r, Line, ahead, behind, ahead-cases, ahead-same}
 
 -- ---- sums
 

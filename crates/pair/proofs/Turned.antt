@@ -27,7 +27,7 @@ use Rattle.pair.specs.Walk.{cornerAt, below, windingTerms}
 use Rattle.pair.specs.Premise.{howMany, forward, descent}
 use Rattle.pair.specs.Demand.{live}
 use Rattle.pair.proofs.Convex.{Outline}
-use Rattle.pair.proofs.MissingLists.{edges-negᵖ}
+use Rattle.plane.proofs.Edges.{edges-negᵖ}
 use Rattle.pair.proofs.Start.{below-negᵖ}
 use Rattle.pair.proofs.Places.{backwards}
 use Rattle.pair.proofs.Repeats.{RoundEdges}

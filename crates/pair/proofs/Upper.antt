@@ -19,7 +19,7 @@ use Rattle.plane.proofs.Vectors.{cross-add-r, cross-self}
 use Rattle.plane.proofs.Directions.{Up, above, level, LeAt, Le, Lt, Nz, lt-le, lt-trans, lt-irrefl, lt-in-half, lower-up, nz-of-up}
 use Rattle.pair.specs.Demand.{sumᵖ}
 use Rattle.pair.specs.Berg.{cornersFrom}
-use Rattle.pair.proofs.MissingVectors.{+ᵖ-cancel, neg-of-sum, cross-neg-swap-l, nz-up, nz-down, up-add, down-add}
+use Rattle.plane.proofs.Sides.{+ᵖ-cancel, neg-of-sum, cross-neg-swap-l, nz-up, nz-down, up-add, down-add}
 use Rattle.pair.proofs.Convex.{Sorted, Convex}
 use Rattle.pair.proofs.Totals.{sum-cons, sum-some, sum-left, sum-right, cut}
 use Rattle.pair.proofs.Splits.{Split, split-start, split-next, split-before, split-all, split-sum, cut-split, corners-cuts}

@@ -11,7 +11,7 @@ use Rattle.plane.specs.Plane.{Pt, O, _+ᵖ_, cross}
 use Rattle.plane.proofs.Vectors.{+ᵖ-comm, zero-+ᵖ, cross-self}
 use Rattle.plane.proofs.Directions.{Le, Nz, nz-of-up}
 use Rattle.pair.specs.Demand.{sumᵖ}
-use Rattle.pair.proofs.MissingVectors.{Line, line-swap, line-add, line-trans}
+use Rattle.plane.proofs.Sides.{Line, line-swap, line-add, line-trans}
 use Rattle.pair.proofs.Convex.{Convex}
 use Rattle.pair.proofs.Totals.{sum-cons, zero-sum}
 use Rattle.pair.proofs.Splits.{Split, split-start, split-next}

@@ -9,7 +9,7 @@ use lib.Signed.{ltZ}
 use Rattle.integers.specs.Lists.{neighbours}
 use Rattle.integers.specs.Greatest.{greatest}
 use Rattle.plane.specs.Plane.{Pt, _-ᵖ_, negᵖ, eqPt, cross, dot, angleCmp, isEqual, isLess}
-use Rattle.plane.specs.Contour.{edges}
+use Rattle.plane.specs.Contour.{lastOf, edges}
 
 -- ---- "corners equal to the one before dropped (the last is before the first; no other repeats are dropped)"
 
@@ -17,11 +17,6 @@ use Rattle.plane.specs.Contour.{edges}
 unfoldable pub fresh : Pt → List Pt → List Pt
 fresh q [] = []
 fresh q (p ∷ l) = cond (eqPt q p) (fresh p l) (p ∷ fresh p l)
-
--- the last of p ∷ l
-unfoldable pub lastOf : Pt → List Pt → Pt
-lastOf p [] = p
-lastOf p (q ∷ l) = lastOf q l
 
 unfoldable pub withoutRepeats : List Pt → List Pt
 withoutRepeats [] = []

@@ -2,5 +2,7 @@
 pub mod Terms
 pub mod Vectors
 pub mod Directions
+pub mod Sides
 pub mod Contours
+pub mod Edges
 pub mod Size

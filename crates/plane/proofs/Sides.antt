@@ -1,5 +1,4 @@
--- Laws of vectors and directions that belong to the crate plane (proofs/Vectors and proofs/Directions), until they are moved there.
--- In order: equations of vectors; from an equation of sums to one of vectors; vectors on one line (`Line`); the upper half and sums (`up-add`,
+-- Vectors added up and their directions. In order: equations of vectors; from an equation of sums to one of vectors; vectors on one line (`Line`); the upper half and sums (`up-add`,
 -- `add-same`); a test with its fact (`Ahead`); where edges in ascending order lie left and right of a direction r. Assumes nothing.
 use mathlib.Core.Path.{_≡_, sym, _∙_, ap, subst}
 use mathlib.Core.Bool.{Bool, true, false}

@@ -1,6 +1,5 @@
--- Laws of lists and points that belong in crates/integers and crates/plane: one element on in a rotation (Rotation), a list reversed about
--- its element k (Rotation); the edges of a contour rotated, reversed, read backwards from the same corner, turned through the origin, and by
--- place (Contours); `eqPt` (Vectors). Assumes nothing.
+-- The edges of a contour: as many as corners, from another corner, the other way round, read backwards from the same corner, turned through the
+-- origin, by place; and whether two points are one (`eqPt`), which is whether the edge between them is zero (`isZero-sub`). Assumes nothing.
 use mathlib.Core.Path.{_≡_, refl, sym, _∙_, ap, ap₂}
 use mathlib.Core.Bool.{true, false, cond}
 use mathlib.Core.List.{List, [], _∷_, _++_, map, append-assoc, reverse, reverse-cons, reverse-append}
@@ -17,32 +16,10 @@ use Rattle.integers.proofs.Order.{zarith, sub-parts, by-test}
 use Rattle.integers.proofs.Tests.{differ, eqZ-true, eqZ-refl}
 use Rattle.integers.proofs.Rotation.{rotate-eq, rotate-zero, rotate-append, map-rotate, map-reverse}
 use Rattle.integers.proofs.Neighbours.{length-neighbours, neighbours-rotate, neighbours-reverse, neighbours-cons, links-reverse, map-neighbours, getD-neighbours, getD-neighbours-last}
 use Rattle.plane.specs.Plane.{Pt, O, _-ᵖ_, negᵖ, eqPt, isZero}
 use Rattle.plane.specs.Contour.{edges}
 use Rattle.plane.proofs.Terms.{OE, _-E_, negE}
 use Rattle.plane.proofs.Vectors.{pt-eq, negᵖ-edge, isZero-true}
-
--- ---- one element on
-
-module _ {A : Type 0} where
-  -- from element k: it, those after it, those before it
-  pub rotate-at : (k : ℕ) (l : List A) (d : A) → k < length l → rotate k l ≡ getD l k d ∷ (drop (suc k) l ++ take k l)
-  rotate-at k l d h = rotate-eq k l ∙ ap (λ r. r ++ take k l) (drop-cons l k d h)
-
-  -- from the element after k, round the end: those after it, those before it, it
-  pub rotate-after : (k : ℕ) (l : List A) (d : A) → k < length l → rotate (cond (eqb (suc k) (length l)) 0 (suc k)) l ≡ (drop (suc k) l ++ take k l) ++ (getD l k d ∷ [])
-  rotate-after k l d h = by-test (eqb (suc k) (length l))
-      (λ t. let e : suc k ≡ length l = eqb-true (suc k) (length l) t in
-      rw t (rotate-zero l ∙ sym (take-all (suc k) l (omega arith)) ∙ take-suc l k d h ∙ ap (λ r. (r ++ take k l) ++ (getD l k d ∷ [])) (sym (drop-of-length-le l {i = suc k} (omega arith)))))
-      (λ t. rw t (rotate-eq (suc k) l ∙ ap (λ r. drop (suc k) l ++ r) (take-suc l k d h) ∙ sym (append-assoc (drop (suc k) l) (take k l) (getD l k d ∷ []))))
-
-  -- l reversed, from where its element k stands: it, those before it backwards, those after it backwards
-  pub rotate-reverse : (k : ℕ) (l : List A) (d : A) → k < length l → rotate (length l - suc k) (reverse l) ≡ getD l k d ∷ reverse (drop (suc k) l ++ take k l)
-  rotate-reverse k l d h =
-      let n : length (reverse (drop (suc k) l)) ≡ length l - suc k = length-reverse (drop (suc k) l) ∙ length-drop (suc k) l in
-      ap₂ rotate (sym n) (ap reverse (split-at l k d h) ∙ reverse-append (take k l) (getD l k d ∷ drop (suc k) l) ∙ ap (λ r. r ++ reverse (take k l)) (reverse-cons (getD l k d) (drop (suc k) l)) ∙ append-assoc (reverse (drop (suc k) l)) (getD l k d ∷ []) (reverse (take k l)))
-      ∙ rotate-append (reverse (drop (suc k) l)) (getD l k d ∷ reverse (take k l))
-      ∙ ap (λ r. getD l k d ∷ r) (sym (reverse-append (drop (suc k) l) (take k l)))
 
 -- ---- edges
 
