@@ -1,3 +1,4 @@
 -- Laws of splitting.
 pub mod Shares
 pub mod Sectors
+pub mod Chords
