@@ -109,6 +109,9 @@ start-few k t =
       stacked-le k (neighbour t 2) 0 1 [],
     )
 
+pub start-left : (m : Mesh) (seen : List ℕ) (k : ℕ) → left m seen (start k (triangleAt m k)) ≤ enough m
+start-left m seen k = omega (arith, start-few k (triangleAt m k), untaken-le (length m) (seen ++ start k (triangleAt m k) .taken))
+
 pub region-ends : (m : Mesh) (seen : List ℕ) (k : ℕ) → region m seen k .stack ≡ []
 region-ends m seen k =
-    grow-ends (enough m) m seen (start k (triangleAt m k)) (omega (arith, start-few k (triangleAt m k), untaken-le (length m) (seen ++ start k (triangleAt m k) .taken)))
+    grow-ends (enough m) m seen (start k (triangleAt m k)) (start-left m seen k)

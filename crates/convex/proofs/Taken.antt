@@ -1,4 +1,4 @@
--- Triangles taken and not yet taken: membership (`isIn`) and how many numbers below n a list lacks (`untaken`). Assumes nothing.
+-- Triangles taken and not yet taken: membership (`isIn`), as a count (`isIn-false`, `isIn-true`), and how many numbers below n a list lacks (`untaken`). Assumes nothing.
 use mathlib.Core.Path.{_≡_, refl, sym, _∙_, ap}
 use mathlib.Core.Bool.{Bool, true, false, cond}
 use mathlib.Core.List.{List, [], _∷_, _++_, append-assoc}
@@ -6,6 +6,7 @@ use Prim.Native.Nat.{ℕ, zero, suc, _+_, _≤_, _<_}
 use native.Mathlib.Omega.{arith}
 use borrow.Author.Tests.{eqb-true, eqb-false, eq-eqb, ne-eqb}
 use lib.Dec.{eqb}
+use Rattle.integers.specs.Lists.{count}
 use Rattle.integers.proofs.Order.{by-test}
 use Rattle.integers.proofs.Tests.{differ}
 use Rattle.convex.specs.Joining.{isIn}
@@ -24,6 +25,16 @@ isIn-append n (k ∷ l) m = either (eqb k n) (isIn n l) (isIn n m) (isIn n (l ++
 pub isIn-one : (n k : ℕ) → isIn n (k ∷ []) ≡ eqb k n
 unfolding isIn
 isIn-one n k = by-test (eqb k n) (λ e. rw e) (λ e. rw e)
+
+pub isIn-false : (n : ℕ) (l : List ℕ) → isIn n l ≡ false → count n l ≡ 0
+unfolding isIn count
+isIn-false n [] h = refl
+isIn-false n (k ∷ l) h = by-test (eqb k n) (λ t. differ (sym h ∙ rw t)) (λ t. rw t (omega (arith, isIn-false n l (rw t at h))))
+
+pub isIn-true : (n : ℕ) (l : List ℕ) → isIn n l ≡ true → 0 < count n l
+unfolding isIn count
+isIn-true n [] h = differ h
+isIn-true n (k ∷ l) h = by-test (eqb k n) (λ t. rw t (omega arith)) (λ t. rw t (omega (arith, isIn-true n l (rw t at h))))
 
 -- ---- the numbers below n that a list lacks
 

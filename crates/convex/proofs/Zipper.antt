@@ -1,6 +1,6 @@
 -- Joining without numbers for corners: the contour is a zipper. The stacked edges lie in contour order with the top last, and what comes after the
 -- edge taken is final; so the region is its pending corners, each with its outgoing edge, the top first, and its done corners, the first first.
--- `slots-…` name the edge out of a pending corner. Assumes nothing.
+-- Slots names the sides that pending corners stand for, Zipped shows that this is the paper's region. Assumes nothing.
 use mathlib.Core.Bool.{Bool, true, false, cond}
 use mathlib.Core.List.{List, [], _∷_, _++_, map, reverse}
 use Prim.Native.Nat.{ℕ, zero, suc, _+_, _*_, _-_}
