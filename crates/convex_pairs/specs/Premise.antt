@@ -2,7 +2,6 @@
 use mathlib.Core.Path.{_≡_}
 use mathlib.Core.Bool.{Bool, true, false}
 use mathlib.Core.List.{List}
-use Prim.Native.Nat.{ℕ}
 use Rattle.integers.specs.Lists.{All}
 use Rattle.integers.specs.Faults.{firstFault}
 use Rattle.plane.specs.Plane.{Pt, _+ᵖ_}

@@ -1,11 +1,11 @@
 -- The mesh file (document 01, "The file and its listing"): "a header of five little-endian u32 (total bytes, triangle count, offset of records,
 -- corner limit, split: 0 ear, 1 fan, 2 centroid), then records of six i32 (x, y of the three points) and three u32". Assumes nothing.
-use mathlib.Core.Bool.{Bool, true, false, not, cond}
+use mathlib.Core.Bool.{Bool, true, not, cond}
 use mathlib.Core.List.{List, [], _∷_}
 use Prim.Native.Nat.{ℕ, zero, suc, _+_, _*_}
 use lib.Dec.{eqb, ltb}
 use lib.ListN.{length, getD, drop}
-use Rattle.integers.specs.Faults.{Kind, firstFault}
+use Rattle.integers.specs.Faults.{firstFault}
 use Rattle.plane.specs.Plane.{Pt}
 use Rattle.mesh.specs.Mesh.{Triangle, Mesh, meshKinds}
 use Rattle.table.specs.Stored.{wordsOf, wordAt, signed}

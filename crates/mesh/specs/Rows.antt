@@ -8,7 +8,7 @@ use lib.ListN.{getD}
 use lib.IntN.{ℤ, pos}
 use mir.Syntax.{w32}
 use mir.Val.{ofZ}
-use Rattle.plane.specs.Plane.{Pt, onGrid}
+use Rattle.plane.specs.Plane.{onGrid}
 use Rattle.mesh.specs.Mesh.{Triangle, Mesh, vertex}
 
 abbrev pub number : List ℤ → ℕ → ℤ

@@ -1,13 +1,12 @@
 -- De Berg et al.'s sum (document 01): "the corner list that their merge of edges by angle from the lowest, then leftmost, corners gives. It is
 -- stated for contours without repeated or in-line corners, clockwise ones turned about first". Assumes nothing.
-use mathlib.Core.Bool.{Bool, true, false, cond}
+use mathlib.Core.Bool.{cond}
 use mathlib.Core.List.{List, [], _∷_, reverse}
 use lib.IntN.{pos}
 use lib.Signed.{ltZ}
 use Rattle.integers.specs.Lists.{rotate}
-use Rattle.plane.specs.declared.Ordering.{Ordering}
 use Rattle.plane.specs.declared.Ordering.the-variants.{Less, Equal, Greater}
-use Rattle.plane.specs.Plane.{Pt, O, _+ᵖ_, angleCmp}
+use Rattle.plane.specs.Plane.{Pt, _+ᵖ_, angleCmp}
 use Rattle.plane.specs.Contour.{edges, contourArea}
 use Rattle.pair.specs.Walk.{leastAt, cornerAt}
 

@@ -6,7 +6,7 @@ use mathlib.Core.List.{List, [], _∷_, reverse}
 use mathlib.Core.Logic.{_⊎_}
 use Prim.Native.Nat.{ℕ, zero, suc, _+_, _≤_}
 use lib.ListN.{length}
-use lib.IntN.{ℤ, pos, _+ℤ_}
+use lib.IntN.{pos, _+ℤ_}
 use lib.Signed.{ltZ}
 use Rattle.integers.specs.Lists.{All, Any}
 use Rattle.plane.specs.Plane.{Pt, O, _+ᵖ_, isZero, angleCmp, isGreater}

@@ -5,7 +5,6 @@ use mathlib.Core.List.{List, [], _∷_}
 use Prim.Native.Nat.{ℕ, zero, suc, _+_}
 use lib.Dec.{eqb}
 use lib.ListN.{length}
-use Rattle.plane.specs.declared.Ordering.{Ordering}
 use Rattle.plane.specs.declared.Ordering.the-variants.{Less, Equal, Greater}
 use Rattle.plane.specs.Plane.{Pt, _+ᵖ_, isZero, angleCmp, isEqual, isGreater}
 use Rattle.pair.specs.declared.ConvexSum.{ConvexSum}

@@ -8,7 +8,7 @@ use lib.IntN.{ℤ, pos}
 use lib.Signed.{ltZ}
 use Rattle.integers.specs.Lists.{neighbours}
 use Rattle.integers.specs.Greatest.{greatest}
-use Rattle.plane.specs.Plane.{Pt, _-ᵖ_, negᵖ, eqPt, cross, dot, angleCmp, isEqual, isLess}
+use Rattle.plane.specs.Plane.{Pt, negᵖ, eqPt, cross, dot, angleCmp, isEqual, isLess}
 use Rattle.plane.specs.Contour.{lastOf, edges}
 
 -- ---- "corners equal to the one before dropped (the last is before the first; no other repeats are dropped)"

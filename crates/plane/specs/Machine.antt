@@ -1,11 +1,10 @@
 -- The structs of src/ read as points of the plane, and how large their numbers are.
 -- Assumes nothing.
-use mathlib.Core.Path.{_≡_}
 use lib.IntN.{ℤ}
 use Rattle.integers.specs.Size.{Within}
 use Rattle.plane.specs.declared.IntPoint.{IntPoint}
 use Rattle.plane.specs.declared.IntVector.{IntVector}
-use Rattle.plane.specs.Plane.{Pt, _-ᵖ_, cross}
+use Rattle.plane.specs.Plane.{Pt}
 
 abbrev pub point : IntPoint → Pt
 point p = record { x = p .x; y = p .y }

@@ -1,6 +1,6 @@
 -- The part shown (document 01): "The desk asks for part k of the left or the right operand and gets those corners themselves, not a copy."
 -- Assumes nothing.
-use mathlib.Core.Bool.{Bool, true, false, cond}
+use mathlib.Core.Bool.{Bool, cond}
 use mathlib.Core.List.{List, [], _∷_}
 use Prim.Native.Nat.{ℕ, suc, _*_}
 use lib.Dec.{eqb, leb}

@@ -1,16 +1,16 @@
 -- The stored form (document 01): "Stored, a table is part count, corner count, starts, corners, each 32 bits, little-endian; another length gives 7."
 -- Assumes nothing.
-use mathlib.Core.Bool.{Bool, true, false, not, cond}
+use mathlib.Core.Bool.{Bool, true, not, cond}
 use mathlib.Core.List.{List, [], _∷_, _++_, map, flatten}
-use Prim.Native.Nat.{ℕ, zero, suc, _+_, _*_, _-_, _/_, _%_}
+use Prim.Native.Nat.{ℕ, _+_, _*_, _-_, _/_, _%_}
 use lib.Dec.{eqb, ltb}
 use lib.ListN.{length, getD, take, drop}
 use lib.IntN.{ℤ}
 use mir.Syntax.{w32}
 use mir.Val.{toZ, ofZ}
-use Rattle.integers.specs.Faults.{Kind, firstFault}
+use Rattle.integers.specs.Faults.{firstFault}
 use Rattle.plane.specs.Plane.{Pt}
-use Rattle.table.specs.Table.{tableBroken, offRange, tableParts, roomKinds, startsOf, cornersOf}
+use Rattle.table.specs.Table.{tableBroken, offRange, tableParts, roomKinds}
 
 -- ---- words
 

@@ -1,16 +1,16 @@
 -- The part table (document 01, "Tables the desks exchange"): "a list of starts and a list of corners (x, y in turn)", its rules, limits and
 -- bounds; parts to table and back. Assumes nothing.
 use mathlib.Core.Bool.{Bool, true, false, not, cond}
-use mathlib.Core.List.{List, [], _∷_, _++_, map, flatten}
-use Prim.Native.Nat.{ℕ, zero, suc, _+_, _*_, _-_, _/_, _%_}
-use lib.Dec.{eqb, leb, ltb}
+use mathlib.Core.List.{List, [], _∷_, flatten}
+use Prim.Native.Nat.{ℕ, _+_, _-_, _/_, _%_}
+use lib.Dec.{eqb, ltb}
 use lib.ListN.{length}
 use lib.Seq.{slice}
 use lib.IntN.{ℤ}
 use lib.Signed.{leZ, ltZ}
-use Rattle.integers.specs.Faults.{Kind, firstFault}
+use Rattle.integers.specs.Faults.{Kind}
 use Rattle.integers.specs.Lists.{overlay}
-use Rattle.plane.specs.Plane.{Pt, inRange, onGrid}
+use Rattle.plane.specs.Plane.{Pt, inRange}
 use Rattle.table.specs.declared.IntRect.{IntRect}
 use Rattle.table.specs.declared.Counts.{Counts}
 
