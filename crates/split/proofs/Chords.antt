@@ -22,10 +22,10 @@ use Rattle.split.specs.Splitting.{clipped, fanned, shares, triangleShare
 use Rattle.split.proofs.Shares.{sum-shares}
 
 -- the sum of crosses along a path from a
-abbrev along : Pt → List Pt → ℤ
+abbrev pub along : Pt → List Pt → ℤ
 along a l = sumℤ (map (λ e. cross (e .0) (e .1)) (links a l))
 
-area-along : (a : Pt) (l : List Pt) → contourArea (a ∷ l) ≡ along a (l ++ (a ∷ []))
+pub area-along : (a : Pt) (l : List Pt) → contourArea (a ∷ l) ≡ along a (l ++ (a ∷ []))
 unfolding contourArea
 area-along a l = ap (λ m. sumℤ (map (λ e. cross (e .0) (e .1)) m)) (neighbours-cons a l)
 

@@ -2,3 +2,5 @@
 pub mod Shares
 pub mod Sectors
 pub mod Chords
+pub mod Radial
+pub mod Areas

@@ -1,4 +1,5 @@
 -- Splitting (document 01, "Splitting past a limit m"): ear clipping, fan, centroid. Assumes nothing.
+use mathlib.Core.Path.{_≡_}
 use mathlib.Core.Bool.{Bool, true, false, cond}
 use mathlib.Core.List.{List, [], _∷_, _++_, map, flatten}
 use Prim.Native.Nat.{ℕ, zero, suc, _+_, _*_, _-_, _/_, _%_, max}
@@ -10,7 +11,7 @@ use Rattle.integers.specs.Lists.{sumℤ, neighbours}
 use Rattle.integers.specs.Faults.{firstFault}
 use Rattle.plane.specs.Plane.{Pt, O, _+ᵖ_, _-ᵖ_, cross, areaTwo}
 use Rattle.plane.specs.Contour.{contourArea}
-use Rattle.mesh.specs.Mesh.{Mesh, meshKinds}
+use Rattle.mesh.specs.Mesh.{Mesh, meshKinds, meshArea}
 use Rattle.table.specs.declared.Counts.{Counts}
 use Rattle.table.specs.Table.{roomKinds, countsOf, written, startsOf, cornersOf}
 use Rattle.convex.specs.Joining.{parts}
@@ -153,3 +154,8 @@ splitStarts how m mesh s c = written (splitFault how m mesh (length s) (length c
 
 abbrev pub splitCorners : ConvexSplitStrategy → ℕ → Mesh → List ℕ → List ℤ → List ℤ
 splitCorners how m mesh s c = written (splitFault how m mesh (length s) (length c)) (cornersOf (splitParts how m mesh)) c
+
+-- the doubled areas of an accepted mesh's parts add up to the mesh's, for any limit and split
+abbrev pub SplitKeepsArea : Type 0
+SplitKeepsArea =
+    (how : ConvexSplitStrategy) (m : ℕ) (mesh : Mesh) → firstFault (meshKinds mesh) ≡ 0 → sumℤ (map contourArea (splitParts how m mesh)) ≡ meshArea mesh
