@@ -19,3 +19,7 @@ pub first-none : (n : ℕ) (t : Bool) (l : List Kind) → 0 < n → firstFault (
 unfolding firstFault
 first-none n true l h e = absurd (omega (arith, e))
 first-none n false l h e = (refl, e)
+
+pub first-empty : firstFault [] ≡ 0
+unfolding firstFault
+first-empty = refl

@@ -44,9 +44,9 @@ sum-shares n k h = sum-from n k 0 k ∙ all
 pub length-clipped : (ss : List ℕ) (l : List Pt) → length (clipped ss l) ≡ length ss
 unfolding clipped
 length-clipped [] l = refl
-length-clipped (s ∷ ss) l = ap suc (length-clipped ss (drop (s + 1) l ++ take 1 l))
+length-clipped (s ∷ ss) l = ap suc (length-clipped ss _)
 
 pub length-fanned : (ss : List ℕ) (c : Pt) (l : List Pt) → length (fanned ss c l) ≡ length ss
 unfolding fanned
 length-fanned [] c l = refl
-length-fanned (s ∷ ss) c l = ap suc (length-fanned ss c (drop s l))
+length-fanned (s ∷ ss) c l = ap suc (length-fanned ss c _)

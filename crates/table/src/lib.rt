@@ -1,5 +1,12 @@
-// The part table that the desks exchange: starts and corners, their rules and limits, bounds, the stored form, the part shown.
-// The definitions are in specs/: Table (the lists), Stored (the bytes), Shown (part k of an operand). Leans on plane.
+// The part table that the desks exchange: starts and corners, their rules and limits, bounds. The definitions are in specs/: Table (the
+// lists), Stored (the bytes), Shown (part k of an operand); their laws in proofs/ (proofs/Lib.antt is the index). The functions here
+// answer whether a table breaks a rule, each as its definition says, of any lent slices; the faults' order is their callers'. The crates
+// table_stored and table_shown, and pairs, lean on it. It leans on plane and integers.
+ghost use mathlib.Core.Path.{_≡_};
+ghost use mathlib.Core.Bool.{true, cond};
+ghost use Prim.Native.Nat.{_+_};
+ghost use lib.Dec.{ltb};
+ghost use Rattle.table.specs.Table.{startsBroken, tableBroken, offRange, withinBounds, boundsBroken, pointsOf};
 
 // Document 01: "Limits: 2,048 parts, 8,192 corners, 1,026 corners a contour."
 pub const MAX_PARTS: usize = 2048;
@@ -7,6 +14,19 @@ pub const MAX_PARTS: usize = 2048;
 pub const MAX_CORNERS: usize = 8192;
 
 pub const MAX_CONTOUR: usize = 1026;
+
+// Document 01's fault numbers of a table, its bounds, a part asked for, and the room for an answer.
+pub const FAULT_RANGE: u32 = 2;
+
+pub const FAULT_RULES: u32 = 7;
+
+pub const FAULT_BOUNDS: u32 = 9;
+
+pub const FAULT_PART: u32 = 12;
+
+pub const FAULT_CORNER_ROOM: u32 = 21;
+
+pub const FAULT_START_ROOM: u32 = 22;
 
 // What a call that writes a table answers: the fault number, 0 for none, and how many parts and corners were written, 0 where it refused.
 pub struct Counts {
@@ -21,4 +41,108 @@ pub struct IntRect {
     pub max_x: i32,
     pub min_y: i32,
     pub max_y: i32,
+}
+
+// Whether one start may not follow another: it falls, or the contour between them is too long.
+pub fn step_broken(last: usize, next: usize) -> bool
+    ensures { λ r. ⌜ r ≡ cond (ltb next last) true (ltb (last + 1026) next) ⌝ }
+{
+    if next < last {
+        return true;
+    }
+    next - last > MAX_CONTOUR
+}
+
+// Whether the starts break a rule beside `count` corners: none, not from 0, one that falls, a contour too long, not up to the count.
+pub fn starts_broken(count: usize, starts: &[u32]) -> bool
+    ensures { λ r. ⌜ r ≡ startsBroken count (now (starts .entry)) ⌝ }
+{
+    if starts.len() == 0 {
+        return true;
+    }
+    if starts[0] != 0 {
+        return true;
+    }
+    let mut last: usize = 0;
+    let mut i = 1;
+    while i < starts.len() {
+        let next = starts[i] as usize;
+        if step_broken(last, next) {
+            return true;
+        }
+        last = next;
+        i += 1;
+    }
+    last != count
+}
+
+// Whether a table breaks its rules or limits (fault 7). A list of numbers of odd length does.
+pub fn rules_broken(starts: &[u32], corners: &[i32]) -> bool
+    ensures { λ r. ⌜ r ≡ tableBroken (now (starts .entry)) (now (corners .entry)) ⌝ }
+{
+    if corners.len() % 2 != 0 {
+        return true;
+    }
+    let count = corners.len() / 2;
+    if starts.len() > MAX_PARTS + 1 {
+        return true;
+    }
+    if count > MAX_CORNERS {
+        return true;
+    }
+    starts_broken(count, starts)
+}
+
+// Whether some number is not strictly between -2^30 and 2^30 (fault 2).
+pub fn off_range(numbers: &[i32]) -> bool
+    ensures { λ r. ⌜ r ≡ offRange (now (numbers .entry)) ⌝ }
+{
+    let mut i = 0;
+    while i < numbers.len() {
+        let z = numbers[i];
+        if !plane::in_range(z) {
+            return true;
+        }
+        i += 1;
+    }
+    false
+}
+
+// Whether a corner lies within the bounds, their ends included.
+pub fn within_bounds(bounds: IntRect, x: i32, y: i32) -> bool
+    ensures { λ r. ⌜ r ≡ withinBounds bounds (record { x = x; y = y }) ⌝ }
+{
+    if bounds.min_x > x {
+        return false;
+    }
+    if x > bounds.max_x {
+        return false;
+    }
+    if bounds.min_y > y {
+        return false;
+    }
+    y <= bounds.max_y
+}
+
+// Whether a least bound is above a greatest, or some corner lies outside (fault 9). A last x without its y is no corner.
+pub fn bounds_broken(bounds: IntRect, corners: &[i32]) -> bool
+    ensures { λ r. ⌜ r ≡ boundsBroken bounds (pointsOf (now (corners .entry))) ⌝ }
+{
+    if bounds.max_x < bounds.min_x {
+        return true;
+    }
+    if bounds.max_y < bounds.min_y {
+        return true;
+    }
+    let count = corners.len() / 2;
+    let mut k = 0;
+    while k < count {
+        let x = corners[2 * k];
+        let y = corners[2 * k + 1];
+        if !within_bounds(bounds, x, y) {
+            return true;
+        }
+        k += 1;
+    }
+    false
 }

@@ -1,0 +1,9 @@
+-- Laws that belong to no one function, in reading order: corners and points; parts and starts; the rules; answers by
+-- their fault; the part shown; words of bytes; the stored form.
+pub mod Corners
+pub mod Parts
+pub mod Rules
+pub mod Answers
+pub mod Shown
+pub mod Words
+pub mod StoredForm

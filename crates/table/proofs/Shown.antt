@@ -1,0 +1,105 @@
+-- The part shown: laws of `shownFault`, `partNumbers` and `shownPart` of `specs/Shown.antt`.
+-- In order: the fault by the tests that code makes; what no fault tells (`Shows`); where part k lies in the numbers (`Placed`); a part of
+-- a slice as the machine takes it; the part shown is part k of the operand (`part-is`). Assumes nothing.
+use mathlib.Core.Path.{_≡_, refl, sym, _∙_, ap}
+use mathlib.Core.Bool.{Bool, true, false, cond}
+use mathlib.Core.List.{List, [], _∷_}
+use Prim.Native.Nat.{ℕ, zero, suc, _+_, _*_, _-_, _<_, _≤_}
+use native.Mathlib.Numerals.{add-one}
+use native.Mathlib.Omega.{arith}
+use borrow.Author.Tests.{leb-false, le-leb, lt-leb, eq-eqb, ne-eqb}
+use lib.Dec.{leb}
+use lib.ListN.{length, take, drop, getD}
+use lib.Seq.{slice, take-nil}
+use lib.IntN.{ℤ}
+use Rattle.plane.specs.Plane.{Pt}
+use Rattle.table.specs.Table.{pointsOf, partsOf, tableParts, partCount, tableBroken}
+use Rattle.table.specs.Shown.{shownFault, partNumbers, shownPart}
+use Rattle.integers.proofs.Faults.{first-this, first-next, first-empty, first-none}
+use Rattle.table.proofs.Corners.{points-slice}
+use Rattle.table.proofs.Rules.{sound}
+
+-- ---- the fault
+
+module _ (ls : List ℕ) (lc : List ℤ) (rs : List ℕ) (rc : List ℤ) (right : Bool) (k : ℕ) where
+  pub left-broken : tableBroken ls lc ≡ true → shownFault ls lc rs rc right k ≡ 7
+  unfolding shownFault
+  left-broken e = first-this 7 _ _ e
+
+  pub right-broken : tableBroken ls lc ≡ false → tableBroken rs rc ≡ true → shownFault ls lc rs rc right k ≡ 7
+  unfolding shownFault
+  right-broken e f = first-next 7 _ _ e ∙ first-this 7 _ _ f
+
+  -- of the starts of the operand that is asked for
+  module _ (starts : List ℕ) (p : cond right rs ls ≡ starts) (e : tableBroken ls lc ≡ false) (f : tableBroken rs rc ≡ false) where
+    pub past : partCount starts ≤ k → shownFault ls lc rs rc right k ≡ 12
+    unfolding shownFault
+    past h = first-next 7 _ _ e ∙ first-next 7 _ _ f ∙ first-this 12 _ [] (ap (λ s. leb (partCount s) k) p ∙ le-leb _ k h)
+
+    pub shown : k < partCount starts → shownFault ls lc rs rc right k ≡ 0
+    unfolding shownFault
+    shown h = first-next 7 _ _ e ∙ first-next 7 _ _ f ∙ first-next 12 _ [] (ap (λ s. leb (partCount s) k) p ∙ lt-leb _ k h) ∙ first-empty
+
+  -- what no fault tells
+  pub record Shows : Type 0 where
+    pub left : tableBroken ls lc ≡ false
+    pub right-too : tableBroken rs rc ≡ false
+    pub part : k < partCount (cond right rs ls)
+
+  pub shows : shownFault ls lc rs rc right k ≡ 0 → Shows
+  unfolding shownFault
+  shows e =
+      let f = first-none 7 (tableBroken ls lc) _ (omega arith) e in
+      let g = first-none 7 (tableBroken rs rc) _ (omega arith) (f .1) in
+      let h = first-none 12 (leb (partCount (cond right rs ls)) k) _ (omega arith) (g .1) in
+      record { left = f .0; right-too = g .0; part = leb-false _ k (h .0) }
+
+  -- the part, by the fault
+  pub refused : (shownFault ls lc rs rc right k ≡ 0 → ⊥) → shownPart ls lc rs rc right k ≡ []
+  unfolding shownPart
+  refused h = rw (ne-eqb _ 0 h)
+
+  pub accepted : shownFault ls lc rs rc right k ≡ 0 → shownPart ls lc rs rc right k ≡ partNumbers (cond right rs ls) (cond right rc lc) k
+  unfolding shownPart
+  accepted h = rw (eq-eqb _ 0 h)
+
+-- ---- where part k lies
+
+-- part k is from number 2 a up to number 2 b
+pub record Placed (a b : ℕ) (corners : List ℤ) : Type 0 where
+  pub rises : a ≤ b
+  pub within : 2 * b ≤ length corners
+  pub few : b ≤ 8192
+
+pub placed : (starts : List ℕ) (corners : List ℤ) (k : ℕ) → tableBroken starts corners ≡ false → k < partCount starts → Placed (getD starts k 0) (getD starts (k + 1) 0) corners
+placed s c k e h =
+    let t = sound s c e in
+    rw add-one (record { rises = t .rises k (omega arith); within = omega (arith, t .bounded (suc k) (omega arith)); few = omega (arith, t .bounded (suc k) (omega arith), t .few-corners) })
+
+-- ---- a part of a slice, as the machine takes it
+
+pub take-drop : {A : Type 0} (a e : ℕ) (l : List A) → a ≤ e → take (e - a) (drop a l) ≡ slice a e l
+take-drop zero e l h = let z : e - 0 ≡ e = omega arith in ap (λ n. take n l) z
+take-drop (suc a) zero l h = absurd (omega arith)
+take-drop (suc a) (suc e) [] h = take-nil (suc e - suc a)
+take-drop (suc a) (suc e) (x ∷ l) h =
+    let z : suc e - suc a ≡ e - a = omega arith in
+    ap (λ n. take n (drop a l)) z ∙ take-drop a e l (omega arith)
+
+pub numbers-taken : (starts : List ℕ) (corners : List ℤ) (k : ℕ) → getD starts k 0 ≤ getD starts (k + 1) 0
+    → take (2 * getD starts (k + 1) 0 - 2 * getD starts k 0) (drop (2 * getD starts k 0) corners) ≡ partNumbers starts corners k
+unfolding partNumbers
+numbers-taken s c k h = rw (← add-one k) (take-drop (2 * getD s k 0) (2 * getD s (k + 1) 0) c (omega arith))
+
+-- ---- the part shown is part k
+
+parts-at : (s : List ℕ) (l : List Pt) (k : ℕ) → k < partCount s → getD (partsOf s l) k [] ≡ slice (getD s k 0) (getD s (suc k) 0) l
+unfolding partsOf
+parts-at [] l k h = absurd (omega arith)
+parts-at (a ∷ []) l k h = absurd (omega arith)
+parts-at (a ∷ b ∷ s) l zero h = refl
+parts-at (a ∷ b ∷ s) l (suc k) h = parts-at (b ∷ s) l k (omega arith)
+
+pub part-is : (starts : List ℕ) (corners : List ℤ) (k : ℕ) → k < partCount starts → pointsOf (partNumbers starts corners k) ≡ getD (tableParts starts corners) k []
+unfolding partNumbers tableParts
+part-is s c k h = points-slice (getD s k 0) (getD s (suc k) 0) c ∙ sym (parts-at s (pointsOf c) k h)

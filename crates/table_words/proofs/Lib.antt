@@ -1,0 +1,3 @@
+-- Laws that belong to no one function: signed numbers' words, as the code makes them; words written at a place.
+pub mod Signed
+pub mod Places

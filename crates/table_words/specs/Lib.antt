@@ -1,0 +1,2 @@
+-- What lent bytes hold after words were written.
+pub mod Place

@@ -1,0 +1,131 @@
+-- The calls on walks: each answer's number is its fault number (`begun-number`, `pointed-number`, `stepped-number`, `next-number`), a refusal
+-- hands the walk back as it came (`stepped-back`, `next-back`), and an accepted step leaves a walk whose place is again a corner of its
+-- contour (`step-placed`), as a walk begun does (`begin-placed`). Assumes nothing.
+use mathlib.Core.Path.{_≡_, refl, sym, _∙_, ap}
+use mathlib.Core.Bool.{Bool, true, false, cond, true≢false}
+use mathlib.Core.List.{List, [], _∷_}
+use Prim.Native.Nat.{ℕ, zero, suc, _<_}
+use native.Mathlib.Omega.{arith}
+use borrow.Author.Tests.{leb-false, lt-leb, ne-eqb}
+use lib.Dec.{eqb, leb}
+use lib.ListN.{length}
+use lib.IntN.{ℤ}
+use Rattle.integers.proofs.Faults.{first-none}
+use Rattle.integers.proofs.Order.{by-test}
+use Rattle.plane.specs.Plane.{Pt}
+use Rattle.plane.specs.declared.IntVector.{IntVector}
+use Rattle.plane.specs.declared.IntPoint.{IntPoint}
+use Rattle.table.specs.Table.{pointsOf}
+use Rattle.pair.specs.declared.Place.{Place}
+use Rattle.pair.specs.declared.ConvexSum.{ConvexSum}
+use Rattle.pair.specs.Walk.{begin, nextIndex, advance}
+use Rattle.pair.proofs.Places.{Valid, valid-next, valid-begin}
+use Rattle.pair.specs.Pair.{Emitted, corner, end, pairStep}
+use Rattle.walk.specs.declared.Begun.{Begun}
+use Rattle.walk.specs.declared.Begun.the-variants as begun
+use Rattle.walk.specs.declared.Pointed.{Pointed}
+use Rattle.walk.specs.declared.Pointed.the-variants as pointed
+use Rattle.walk.specs.declared.Stepped.{Stepped}
+use Rattle.walk.specs.declared.Stepped.the-variants as stepped
+use Rattle.walk.specs.declared.Next.{Next}
+use Rattle.walk.specs.declared.Next.the-variants as next
+use Rattle.walk.specs.Calls.{misplaced, finished, either, beginFault, begunOf, pointFault, pointedOf, stepFault, steppedOf, pairStepFault, nextOf, pairSteppedOf, begunNumber, pointedNumber, steppedNumber, steppedPlace, nextNumber, nextPlaces}
+
+-- ---- numbers
+
+-- an answer chosen by whether the fault is 0 has the fault's number, where each choice has its own
+choice-number : {A : Type 0} (number : A → ℕ) (f : ℕ) (good bad : A) → number good ≡ 0 → number bad ≡ f → number (cond (eqb f 0) good bad) ≡ f
+choice-number number zero good bad g b = g
+choice-number number (suc f) good bad g b = rw (ne-eqb (suc f) 0 (omega arith), b)
+
+pub begun-number : (l : List ℤ) (reflected : Bool) → begunNumber (begunOf l reflected) ≡ beginFault l reflected
+unfolding begunOf
+begun-number l reflected = choice-number begunNumber (beginFault l reflected) _ _ refl refl
+
+pub pointed-number : (l : List ℤ) (w : Place) → pointedNumber (pointedOf l w) ≡ pointFault l w
+unfolding pointedOf
+pointed-number l w = choice-number pointedNumber (pointFault l w) _ _ refl refl
+
+pub stepped-number : (l : List ℤ) (w : Place) → steppedNumber (steppedOf l w) ≡ stepFault l w
+unfolding steppedOf
+stepped-number l w = choice-number steppedNumber (stepFault l w) _ _ refl refl
+
+-- a corner or the end is no fault
+emitted-number : (e : Emitted) → nextNumber (nextOf e) ≡ 0
+emitted-number (corner p t) = refl
+emitted-number (end t) = refl
+
+pub next-number : (l r : List ℤ) (s : ConvexSum) → nextNumber (pairSteppedOf l r s) ≡ pairStepFault l r s
+unfolding pairSteppedOf
+next-number l r s = choice-number nextNumber (pairStepFault l r s) _ _ (emitted-number (pairStep (pointsOf l) (pointsOf r) s)) refl
+
+-- ---- a refusal hands back what came
+
+refused : {A B : Type 0} (place : A → B) (f : ℕ) (good bad : A) → 0 < f → place (cond (eqb f 0) good bad) ≡ place bad
+refused place zero good bad h = absurd (omega arith)
+refused place (suc f) good bad h = rw (ne-eqb (suc f) 0 (omega arith))
+
+pub stepped-back : (l : List ℤ) (w : Place) → 0 < stepFault l w → steppedPlace (steppedOf l w) ≡ w
+unfolding steppedOf
+stepped-back l w h = refused steppedPlace (stepFault l w) _ _ h
+
+pub next-back : (l r : List ℤ) (s : ConvexSum) → 0 < pairStepFault l r s → nextPlaces (pairSteppedOf l r s) ≡ s
+unfolding pairSteppedOf
+next-back l r s h = refused nextPlaces (pairStepFault l r s) _ _ h
+
+-- ---- an accepted step stays on the contour
+
+-- which of the tests of `misplaced` failed, over the bare bits
+all-false : (a s b c : Bool) → cond a true (cond s (cond b true c) false) ≡ false → (a ≡ false) × (s ≡ true → (b ≡ false) × (c ≡ false))
+all-false true s b c h = absurd (true≢false h)
+all-false false true true c h = absurd (true≢false h)
+all-false false true false c h = (refl, λ k. (refl, h))
+all-false false false b c h = (refl, λ k. absurd (true≢false (sym k)))
+
+-- off a segment its ends don't matter
+flat-next : (n : ℕ) (w : Place) → w .segment ≡ false → w .index < n → nextIndex n w < n
+unfolding nextIndex
+flat-next n w h k = rw h (valid-next n (record { index = w .index; remaining = 0; reverse = w .reverse; reflected = false; segment = false; start = w .index; end = w .index }) (record { index = k; start = k; end = k }))
+
+pub next-inside : (n : ℕ) (w : Place) → misplaced n w ≡ false → nextIndex n w < n
+unfolding misplaced
+next-inside n w h =
+    let t = all-false (leb n (w .index)) (w .segment) (leb n (w .start)) (leb n (w .end)) h in
+    by-test (w .segment)
+    (λ s. valid-next n w (record { index = leb-false n (w .index) (t .0); start = leb-false n (w .start) (t .1 s .0); end = leb-false n (w .end) (t .1 s .1) }))
+    (λ s. flat-next n w s (leb-false n (w .index) (t .0)))
+
+-- the place stepped to is a corner again, and so are the ends, which stay
+advance-placed : (n : ℕ) (w : Place) → misplaced n w ≡ false → misplaced n (advance n w) ≡ false
+unfolding misplaced advance
+advance-placed n w h =
+    let t = all-false (leb n (w .index)) (w .segment) (leb n (w .start)) (leb n (w .end)) h in
+    rw (lt-leb n (nextIndex n w) (next-inside n w h), ends (w .segment) _ _ (t .1))
+  where
+    ends : (s b c : Bool) → (s ≡ true → (b ≡ false) × (c ≡ false)) → cond s (cond b true c) false ≡ false
+    ends true b c f = rw (f refl .0, f refl .1)
+    ends false b c f = refl
+
+-- where a step is accepted, the walk was in place
+step-accepted : (l : List ℤ) (w : Place) → stepFault l w ≡ 0 → misplaced (length (pointsOf l)) w ≡ false
+unfolding stepFault
+step-accepted l w h = second-false (finished w) _ (first-none 23 _ _ (omega arith) (first-none 7 _ _ (omega arith) h .1) .0)
+  where
+    second-false : (a b : Bool) → either a b ≡ false → b ≡ false
+    second-false true b h = absurd (true≢false h)
+    second-false false b h = h
+
+pub step-placed : (l : List ℤ) (w : Place) → stepFault l w ≡ 0 → misplaced (length (pointsOf l)) (steppedPlace (steppedOf l w)) ≡ false
+unfolding steppedOf
+step-placed l w h = rw (h, advance-placed (length (pointsOf l)) w (step-accepted l w h))
+
+valid-placed : (n : ℕ) (w : Place) → Valid n w → misplaced n w ≡ false
+unfolding misplaced
+valid-placed n w v = rw (lt-leb n (w .index) (v .index), lt-leb n (w .start) (v .start), lt-leb n (w .end) (v .end), neither (w .segment))
+  where
+    neither : (s : Bool) → cond s false false ≡ false
+    neither true = refl
+    neither false = refl
+
+pub begin-placed : (reflected : Bool) (l : List Pt) → 0 < length l → misplaced (length l) (begin reflected l) ≡ false
+begin-placed reflected l h = valid-placed (length l) (begin reflected l) (valid-begin reflected l h)
