@@ -3,33 +3,57 @@
 //! reads what the checker computed of them. `oracle/definitions` runs it.
 //!
 //! - `topic`: what a topic is: a few definitions, and cases of them
-//! - `plane`: the topic of crate `plane`
-//! - `antt`: numbers, points and files of the prover's language
+//! - `plane`, `mesh`, `parts`, `splits`, `pair`, `walk`, `table`, `pairs`,
+//!   `listing`: the topics
+//! - `text`: inputs as people read them
+//! - `antt`: terms and files of the prover's language
 //! - `report`: the checker's log, read for the cases that differ
 //!
 //! A topic joins with a module that makes a `Topic` and one line in `TOPICS`.
 
 mod antt;
+mod listing;
+mod mesh;
+mod pair;
+mod pairs;
+mod parts;
 mod plane;
 mod report;
+mod splits;
+mod table;
+mod text;
 mod topic;
+mod walk;
 
+use antt::Declared;
 use inputs::rng::Rng;
+use std::collections::HashMap;
 use std::env;
 use std::fs;
 use std::io;
 use std::path::Path;
 use std::process::ExitCode;
-use topic::Topic;
+use topic::{Module, Topic};
 
 /// One maker for each topic: the generator, and how many random cases of each
 /// kind.
-const TOPICS: &[fn(&mut Rng, usize) -> Topic] = &[plane::topic];
+const TOPICS: &[fn(&mut Rng, usize) -> Topic] = &[
+    plane::topic,
+    mesh::topic,
+    parts::topic,
+    splits::topic,
+    pair::topic,
+    walk::topic,
+    table::topic,
+    pairs::topic,
+    listing::topic,
+];
 
 const USAGE: &str = "\
 usage: cases deps
-       cases write FOLDER LIST SEED COUNT
-       cases report LOG LIST
+       cases write FOLDER LIST SEED COUNT [TOPIC..]
+       cases narrow FOLDER LOG SEED COUNT [TOPIC..]
+       cases report LOG NARROWED LIST
 ";
 
 fn main() -> ExitCode {
@@ -37,11 +61,19 @@ fn main() -> ExitCode {
     let words: Vec<&str> = words.iter().map(String::as_str).collect();
     let done = match words[..] {
         ["deps"] => deps(),
-        ["write", folder, list, seed, count] => match (seed.parse(), count.parse()) {
-            (Ok(seed), Ok(count)) => write(folder, list, seed, count),
-            _ => return usage(),
-        },
-        ["report", log, list] => report(log, list),
+        ["write", folder, list, seed, count, ref only @ ..] => {
+            match (seed.parse(), count.parse()) {
+                (Ok(seed), Ok(count)) => write(folder, list, &topics(seed, count, only)),
+                _ => return usage(),
+            }
+        }
+        ["narrow", folder, log, seed, count, ref only @ ..] => {
+            match (seed.parse(), count.parse()) {
+                (Ok(seed), Ok(count)) => narrow(folder, log, &topics(seed, count, only)),
+                _ => return usage(),
+            }
+        }
+        ["report", log, narrowed, list] => report(log, narrowed, list),
         _ => return usage(),
     };
     match done {
@@ -59,14 +91,20 @@ fn usage() -> ExitCode {
     ExitCode::from(2)
 }
 
-fn topics(seed: u64, count: usize) -> Vec<Topic> {
+/// All topics, or those named.
+fn topics(seed: u64, count: usize, only: &[&str]) -> Vec<Topic> {
     let mut rng = Rng::new(seed);
-    TOPICS.iter().map(|make| make(&mut rng, count)).collect()
+    let all = TOPICS.iter().map(|make| make(&mut rng, count));
+    all.filter(|topic| only.is_empty() || only.contains(&topic.name))
+        .collect()
 }
 
 /// The crates that the scratch crate leans on.
 fn deps() -> io::Result<bool> {
-    let mut names: Vec<&str> = topics(0, 0).iter().flat_map(|t| t.deps.to_vec()).collect();
+    let mut names: Vec<&str> = topics(0, 0, &[])
+        .iter()
+        .flat_map(|t| t.modules.iter().map(|&(layer, _)| layer))
+        .collect();
     names.sort_unstable();
     names.dedup();
     println!("{}", names.join(" "));
@@ -74,8 +112,33 @@ fn deps() -> io::Result<bool> {
 }
 
 /// Writes the scratch crate, and a list of its cases for people.
-fn write(folder: &str, list: &str, seed: u64, count: usize) -> io::Result<bool> {
+fn write(folder: &str, list: &str, topics: &[Topic]) -> io::Result<bool> {
+    scratch(Path::new(folder), topics, &Declared::Chunks)?;
+    let mut lines = String::new();
+    for topic in topics {
+        for case in &topic.cases {
+            lines += &format!("{} {}\n", topic.name, case.text);
+        }
+    }
+    fs::write(list, lines)?;
+    Ok(true)
+}
+
+/// Writes the scratch crate anew with the first chunks that failed, each case by
+/// itself; false where none failed.
+fn narrow(folder: &str, log: &str, topics: &[Topic]) -> io::Result<bool> {
+    let failed = report::failed_chunks(&fs::read_to_string(log)?);
     let folder = Path::new(folder);
+    if !failed.is_empty() {
+        fs::remove_dir_all(folder)?;
+        scratch(folder, topics, &Declared::Cases(&failed))?;
+    }
+    Ok(!failed.is_empty())
+}
+
+/// The scratch crate, beside the crates whose definitions it computes.
+fn scratch(folder: &Path, topics: &[Topic], declared: &Declared) -> io::Result<()> {
+    let crates = folder.parent().unwrap_or(Path::new("."));
     let specs = folder.join("specs");
     fs::create_dir_all(folder.join("src"))?;
     fs::create_dir_all(&specs)?;
@@ -83,29 +146,37 @@ fn write(folder: &str, list: &str, seed: u64, count: usize) -> io::Result<bool> 
         folder.join("src/lib.rt"),
         "// Cases of definitions: no code.\n",
     )?;
-    fs::write(specs.join(format!("{}.antt", antt::SHARED)), antt::shared())?;
-
-    let mut root = format!("pub mod {}\n", antt::SHARED);
-    let mut lines = String::new();
+    let mut root = String::new();
+    for (name, text) in antt::SHARED {
+        root += &format!("pub mod {name}\n");
+        fs::write(specs.join(format!("{name}.antt")), text)?;
+    }
     let mut first = 0;
-    for topic in topics(seed, count) {
+    for topic in topics {
         root += &format!("pub mod {}\n", topic.name);
+        let mut definitions = HashMap::new();
+        for &module in &topic.modules {
+            let (layer, name) = module;
+            let file = crates.join(format!("{layer}/specs/{name}.antt"));
+            definitions.insert(module, fs::read_to_string(file)?);
+        }
         fs::write(
             specs.join(format!("{}.antt", topic.name)),
-            antt::file(&topic, first),
+            antt::file(topic, first, declared, |m: Module| definitions[&m].clone()),
         )?;
-        for case in &topic.cases {
-            lines += &format!("{} {}\n", topic.name, case.text);
-        }
         first += topic.cases.len();
     }
-    fs::write(specs.join("Lib.antt"), root)?;
-    fs::write(list, lines)?;
-    Ok(true)
+    fs::write(specs.join("Lib.antt"), root)
 }
 
-fn report(log: &str, list: &str) -> io::Result<bool> {
-    let report = report::read(&fs::read_to_string(log)?, &fs::read_to_string(list)?);
+/// `narrowed` is the log of the narrowed crate; it need not be there.
+fn report(log: &str, narrowed: &str, list: &str) -> io::Result<bool> {
+    let narrowed = fs::read_to_string(narrowed).unwrap_or_default();
+    let report = report::read(
+        &fs::read_to_string(log)?,
+        &narrowed,
+        &fs::read_to_string(list)?,
+    );
     print!("{}", report.text);
     Ok(report.passed)
 }

@@ -1,7 +1,7 @@
 //! The topic of crate `plane`: crosses, doubled areas, the order of directions
 //! (beside the Rust), and which points are in range (beside the judge).
 
-use crate::antt::{integer, point};
+use crate::antt::{self, integer, point, points};
 use crate::topic::{Case, Topic};
 use i_triangle::int::{expose, reach};
 use inputs::plane::{self, Four};
@@ -10,17 +10,12 @@ use judge::limits::point_in_range;
 use judge::Point;
 use std::cmp::Ordering;
 
-/// The definitions' names, all in this one place.
+/// The definitions' names, here and in `DECLARATIONS`.
 const USES: &str = "\
-use Rattle.plane.specs.Plane.{Pt, _-ᵖ_, cross, areaTwo, angleCmp, isLess, isEqual, isGreater, onGrid, inRange, lower, byCross}
+use Rattle.plane.specs.Plane.{_-ᵖ_, cross, areaTwo, angleCmp, isLess, isEqual, isGreater, onGrid}
 ";
 
-const UNFOLDING: &str = "angleCmp lower byCross onGrid inRange";
-
 const DECLARATIONS: &str = "
-abbrev p : ℤ → ℤ → Pt
-p a b = record { x = a; y = b }
-
 data Order : Type 0 where
   less : Order
   equal : Order
@@ -56,10 +51,9 @@ pub fn topic(rng: &mut Rng, count: usize) -> Topic {
     }
     Topic {
         name: "Plane",
-        deps: &["plane"],
-        uses: USES,
+        modules: vec![("plane", "Plane")],
+        uses: format!("{}{USES}", antt::FIGURES),
         declarations: DECLARATIONS.into(),
-        unfolding: UNFOLDING,
         cases,
     }
 }
@@ -123,9 +117,4 @@ fn range(a: Point) -> Case {
         term: format!("ranged {} {is}", point(a)),
         text: format!("onGrid {a:?} is {is}"),
     }
-}
-
-fn points(list: &[Point]) -> String {
-    let each: Vec<String> = list.iter().map(|&p| point(p)).collect();
-    each.join(" ")
 }

@@ -51,7 +51,7 @@ pub fn result_bounds(operation: Operation, left: [i32; 4], right: [i32; 4]) -> [
 }
 
 /// 9: a least bound above a greatest, or a corner outside its bounds.
-fn breaks_bounds(operand: &Operand) -> bool {
+pub fn breaks_bounds(operand: &Operand) -> bool {
     let [least_x, greatest_x, least_y, greatest_y] = operand.bounds;
     least_x > greatest_x
         || least_y > greatest_y

@@ -1,0 +1,215 @@
+//! The topic of crate `minkowski`: what all pairs of two operands refuse, beside
+//! the judge; their contours, beside the Rust's `sum_parts` and
+//! `difference_parts`; and the result's bounds.
+
+use crate::antt::{self, bounds, operand};
+use crate::parts::lent;
+use crate::text;
+use crate::topic::{layers, Case, Topic};
+use cli::answers::pair_contours;
+use inputs::contours;
+use inputs::coordinates::EDGE;
+use inputs::operands::{self, Pair};
+use inputs::pair_damage::{damaged, ORDER};
+use inputs::rng::Rng;
+use judge::pairs::{fault, result_bounds, Operand, Operation};
+use judge::room::{self, Room, Size};
+use judge::table::Table;
+use judge::walk::winding_leaves_64_bits;
+
+/// The definitions' names, here and in `DECLARATIONS`.
+const USES: &str = "\
+use Rattle.table.specs.declared.IntRect.{IntRect}
+use Rattle.minkowski.specs.Pairs.{Operand, pairsFault, pairContours, resultBounds}
+";
+
+const DECLARATIONS: &str = "
+abbrev box : ℤ → ℤ → ℤ → ℤ → IntRect
+box a b c d = record { «min_x» = a; «max_x» = b; «min_y» = c; «max_y» = d }
+
+abbrev operand : List ℕ → List ℤ → IntRect → Operand
+operand s c b = record { starts = s; corners = c; bounds = b }
+
+abbrev eqBox : IntRect → IntRect → Bool
+eqBox v w =
+    both (both (eqInt (v .«min_x») (w .«min_x»)) (eqInt (v .«max_x») (w .«max_x»)))
+    (both (eqInt (v .«min_y») (w .«min_y»)) (eqInt (v .«max_y») (w .«max_y»)))
+
+data Case : Type 0 where
+  pairs-give : Bool → Operand → Operand → List (List Pt) → Case
+  refused : Bool → Operand → Operand → ℕ → ℕ → ℕ → Case
+  bounded : Bool → IntRect → IntRect → IntRect → Case
+
+abbrev holds : Case → Bool
+holds (pairs-give r a b ps) = eqContours (pairContours r a b) ps
+holds (refused r a b starts corners f) = eqb (pairsFault r a b starts corners) f
+holds (bounded r a b c) = eqBox (resultBounds r a b) c
+";
+
+/// A pair is damaged in some twenty ways, so there are so many fewer of them.
+const WAYS: usize = 30;
+
+/// Result bounds at the limit and past it; windings that leave 64 bits one way
+/// only; then random pairs, and some of them with each fault and with every two.
+pub fn topic(rng: &mut Rng, count: usize) -> Topic {
+    let mut all = edges();
+    for _ in 0..count.div_ceil(100) {
+        all.extend(one_way(rng));
+    }
+    let mut cases: Vec<Case> = all.iter().map(|pair| refused(rng, pair)).collect();
+    for _ in 0..count / 3 {
+        let pair = small(rng);
+        cases.extend([give(&pair), bounded(&pair), refused(rng, &pair)]);
+    }
+    for _ in 0..count.div_ceil(WAYS) {
+        let good = small(rng);
+        for (i, &a) in ORDER.iter().enumerate() {
+            for &b in &ORDER[i..] {
+                let hurt = damaged(rng, &good, &[a, b]);
+                if is_small(&hurt.left) && is_small(&hurt.right) {
+                    cases.push(refused(rng, &hurt));
+                }
+            }
+        }
+    }
+    Topic {
+        name: "Pairs",
+        modules: layers::minkowski(),
+        uses: format!("{}{USES}", antt::FIGURES),
+        declarations: DECLARATIONS.into(),
+        cases,
+    }
+}
+
+fn reflected(pair: &Pair) -> bool {
+    pair.operation == Operation::Difference
+}
+
+fn asked(pair: &Pair) -> String {
+    format!(
+        "{} {} {}",
+        reflected(pair),
+        operand(&pair.left),
+        operand(&pair.right)
+    )
+}
+
+fn said(pair: &Pair) -> String {
+    format!(
+        "{:?} {}; {}",
+        pair.operation,
+        text::operand(&pair.left),
+        text::operand(&pair.right)
+    )
+}
+
+fn give(pair: &Pair) -> Case {
+    let answer = pair_contours(pair.operation, &pair.left, &pair.right).expect("an accepted pair");
+    Case::new(
+        format!("pairs-give {} {}", asked(pair), antt::contours(&answer)),
+        format!("pairContours {} is {}", said(pair), text::contours(&answer)),
+    )
+}
+
+fn refused(rng: &mut Rng, pair: &Pair) -> Case {
+    let answer = pair_contours(pair.operation, &pair.left, &pair.right).unwrap_or_default();
+    let lent = lent(rng, &answer);
+    let fault = match fault(pair.operation, &pair.left, &pair.right) {
+        0 => room::fault(Size::of(&answer), lent),
+        fault => fault,
+    };
+    let Room { starts, numbers } = lent;
+    Case::new(
+        format!("refused {} {starts} {numbers} {fault}", asked(pair)),
+        format!(
+            "pairsFault {} room {starts} {numbers} is {fault}",
+            said(pair)
+        ),
+    )
+}
+
+fn bounded(pair: &Pair) -> Case {
+    let (left, right) = (pair.left.bounds, pair.right.bounds);
+    let result = result_bounds(pair.operation, left, right);
+    Case::new(
+        format!(
+            "bounded {} {} {} {}",
+            reflected(pair),
+            bounds(left.map(i128::from)),
+            bounds(right.map(i128::from)),
+            bounds(result.map(i128::from))
+        ),
+        format!(
+            "resultBounds {:?} {left:?} {right:?} is {result:?}",
+            pair.operation
+        ),
+    )
+}
+
+/// An accepted pair of few parts with few corners.
+fn small(rng: &mut Rng) -> Pair {
+    operands::good(rng, 3, 5)
+}
+
+/// Whether a damaged operand is short enough to write down.
+fn is_small(operand: &Operand) -> bool {
+    operand.table.starts.len() + operand.table.corners.len() < 300
+}
+
+/// A contour whose winding leaves 64 bits from one of the two starts and not from
+/// the other, beside a point: on each side, of a sum and of a difference.
+fn one_way(rng: &mut Rng) -> Vec<Pair> {
+    let contour = loop {
+        let contour = contours::at_64_bits(rng);
+        if winding_leaves_64_bits(&contour, false) != winding_leaves_64_bits(&contour, true) {
+            break contour;
+        }
+    };
+    let far = Operand {
+        bounds: contours::bounds(&contour),
+        table: Table::of(&[contour]),
+    };
+    let near = Operand {
+        bounds: [0; 4],
+        table: Table::of(&[vec![(0, 0)]]),
+    };
+    let mut out = Vec::new();
+    for operation in [Operation::Sum, Operation::Difference] {
+        for (left, right) in [(&far, &near), (&near, &far)] {
+            out.push(Pair {
+                operation,
+                left: left.clone(),
+                right: right.clone(),
+            });
+        }
+    }
+    out
+}
+
+/// A result bound of ±(2^30 − 1), and one more, on each side and axis.
+fn edges() -> Vec<Pair> {
+    let mut out = Vec::new();
+    for operation in [Operation::Sum, Operation::Difference] {
+        for (at, by) in [(0, -1), (1, 1), (2, -1), (3, 1)] {
+            for past in [0, 1] {
+                let one = |bounds: [i32; 4]| Operand {
+                    table: Table::of(&[vec![(0, 0)]]),
+                    bounds,
+                };
+                let mut pair = Pair {
+                    operation,
+                    left: one([0; 4]),
+                    right: one([0; 4]),
+                };
+                pair.left.bounds[at] = by * EDGE;
+                let (other, sign) = match operation {
+                    Operation::Sum => (at, by),
+                    Operation::Difference => (at ^ 1, -by),
+                };
+                pair.right.bounds[other] = sign * past;
+                out.push(pair);
+            }
+        }
+    }
+    out
+}
