@@ -14,7 +14,7 @@ use Rattle.plane.specs.Plane.{Pt, O, _-ᵖ_, cross, turn}
 use Rattle.plane.specs.Contour.{lastOf, contourArea}
 use Rattle.mesh.specs.Mesh.{Triangle, Mesh, none, vertex, neighbour, after, before, triangleAt, triangleArea, opposite, meshKinds}
 use Rattle.table.specs.declared.Counts.{Counts}
-use Rattle.table.specs.Table.{roomKinds, countsOf, written, startsOf, cornersOf}
+use Rattle.table.specs.Table.{roomKinds, countsOf, written, startsOf, cornersOf, tableBroken}
 
 -- ---- a region: its contour, its stack of edges, the triangles taken
 
@@ -186,3 +186,7 @@ pub record TakenOnce (m : Mesh) : Type 0 where
 
 abbrev pub EachTakenOnce : Type 0
 EachTakenOnce = (m : Mesh) → firstFault (meshKinds m) ≡ 0 → TakenOnce m
+
+-- the answer is a part table within the limits: 7 never refuses what joining gives
+abbrev pub PartsTable : Type 0
+PartsTable = (m : Mesh) → firstFault (meshKinds m) ≡ 0 → tableBroken (startsOf (parts m)) (cornersOf (parts m)) ≡ false
