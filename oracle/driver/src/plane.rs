@@ -10,13 +10,42 @@ use inputs::rng::Rng;
 use judge::limits::point_in_range;
 use judge::Point;
 
-pub type OfEight = extern "C" fn(i32, i32, i32, i32, i32, i32, i32, i32) -> Told;
-pub type OfSix = extern "C" fn(i32, i32, i32, i32, i32, i32) -> Told;
+/// A function of N points, beside what document 01 and the Rust say of it.
+pub struct OfPoints<const N: usize> {
+    name: &'static str,
+    /// Its input, of four points.
+    input: fn(Four) -> [Point; N],
+    rattle: fn([Point; N]) -> Told,
+    rust: fn([Point; N]) -> Told,
+}
 
-/// Each holds the Rattle function that it asks.
-pub struct CrossProduct(pub OfEight);
-pub struct AreaTwo(pub OfSix);
-pub struct AngleCmp(pub OfEight);
+/// Each is given the Rattle function that it asks.
+pub fn cross_product_beside(rattle: fn(Four) -> Told) -> OfPoints<4> {
+    OfPoints {
+        name: "cross_product",
+        input: |four| four,
+        rattle,
+        rust: cross_product,
+    }
+}
+
+pub fn area_two_beside(rattle: fn([Point; 3]) -> Told) -> OfPoints<3> {
+    OfPoints {
+        name: "area_two",
+        input: plane::three,
+        rattle,
+        rust: area_two,
+    }
+}
+
+pub fn angle_cmp_beside(rattle: fn(Four) -> Told) -> OfPoints<4> {
+    OfPoints {
+        name: "angle_cmp",
+        input: |four| four,
+        rattle,
+        rust: angle_cmp,
+    }
+}
 
 /// What document 01 and the Rust say of the cross.
 pub fn cross_product([a, b, c, d]: Four) -> Told {
@@ -51,10 +80,6 @@ fn judged(points: &[Point], value: impl Fn() -> i64) -> Told {
 
 /// The components that the exhaustive inputs take.
 const SMALL: i32 = 3;
-
-fn fours(rng: &mut Rng, count: u64) -> impl Iterator<Item = Four> + '_ {
-    plane::small(SMALL).chain((0..count).map(move |_| plane::any(rng)))
-}
 
 /// The input with one coordinate nearer to zero, or with a vector begun at the
 /// origin.
@@ -100,49 +125,12 @@ fn show(points: &[Point]) -> String {
     each.join(" ")
 }
 
-impl EntryPoint for CrossProduct {
-    type Input = Four;
+impl<const N: usize> EntryPoint for OfPoints<N> {
+    type Input = [Point; N];
     type Answer = Told;
 
     fn name(&self) -> &'static str {
-        "cross_product"
-    }
-
-    fn faults(&self) -> &'static [u32] {
-        &[2]
-    }
-
-    fn inputs<'a>(&self, rng: &'a mut Rng, count: u64) -> Box<dyn Iterator<Item = Four> + 'a> {
-        Box::new(fours(rng, count))
-    }
-
-    fn rattle(&self, &[a, b, c, d]: &Four) -> Told {
-        (self.0)(a.0, a.1, b.0, b.1, c.0, c.1, d.0, d.1)
-    }
-
-    fn rust(&self, input: &Four) -> Told {
-        cross_product(*input)
-    }
-
-    fn fault(&self, answer: &Told) -> u32 {
-        answer.fault
-    }
-
-    fn simpler(&self, input: &Four) -> Vec<Four> {
-        simpler(input)
-    }
-
-    fn show(&self, input: &Four) -> String {
-        show(input)
-    }
-}
-
-impl EntryPoint for AreaTwo {
-    type Input = [Point; 3];
-    type Answer = Told;
-
-    fn name(&self) -> &'static str {
-        "area_two"
+        self.name
     }
 
     fn faults(&self) -> &'static [u32] {
@@ -153,64 +141,28 @@ impl EntryPoint for AreaTwo {
         &self,
         rng: &'a mut Rng,
         count: u64,
-    ) -> Box<dyn Iterator<Item = [Point; 3]> + 'a> {
-        Box::new(fours(rng, count).map(plane::three))
+    ) -> Box<dyn Iterator<Item = [Point; N]> + 'a> {
+        let random = (0..count).map(move |_| plane::any(rng));
+        Box::new(plane::small(SMALL).chain(random).map(self.input))
     }
 
-    fn rattle(&self, &[a, b, c]: &[Point; 3]) -> Told {
-        (self.0)(a.0, a.1, b.0, b.1, c.0, c.1)
+    fn rattle(&self, input: &[Point; N]) -> Told {
+        (self.rattle)(*input)
     }
 
-    fn rust(&self, input: &[Point; 3]) -> Told {
-        area_two(*input)
-    }
-
-    fn fault(&self, answer: &Told) -> u32 {
-        answer.fault
-    }
-
-    fn simpler(&self, input: &[Point; 3]) -> Vec<[Point; 3]> {
-        simpler(input)
-    }
-
-    fn show(&self, input: &[Point; 3]) -> String {
-        show(input)
-    }
-}
-
-impl EntryPoint for AngleCmp {
-    type Input = Four;
-    type Answer = Told;
-
-    fn name(&self) -> &'static str {
-        "angle_cmp"
-    }
-
-    fn faults(&self) -> &'static [u32] {
-        &[2]
-    }
-
-    fn inputs<'a>(&self, rng: &'a mut Rng, count: u64) -> Box<dyn Iterator<Item = Four> + 'a> {
-        Box::new(fours(rng, count))
-    }
-
-    fn rattle(&self, &[a, b, c, d]: &Four) -> Told {
-        (self.0)(a.0, a.1, b.0, b.1, c.0, c.1, d.0, d.1)
-    }
-
-    fn rust(&self, input: &Four) -> Told {
-        angle_cmp(*input)
+    fn rust(&self, input: &[Point; N]) -> Told {
+        (self.rust)(*input)
     }
 
     fn fault(&self, answer: &Told) -> u32 {
         answer.fault
     }
 
-    fn simpler(&self, input: &Four) -> Vec<Four> {
+    fn simpler(&self, input: &[Point; N]) -> Vec<[Point; N]> {
         simpler(input)
     }
 
-    fn show(&self, input: &Four) -> String {
+    fn show(&self, input: &[Point; N]) -> String {
         show(input)
     }
 }
@@ -224,42 +176,12 @@ mod tests {
 
     const COUNT: u64 = 20_000;
 
-    extern "C" fn right_cross(
-        ax: i32,
-        ay: i32,
-        bx: i32,
-        by: i32,
-        cx: i32,
-        cy: i32,
-        dx: i32,
-        dy: i32,
-    ) -> Told {
-        cross_product([(ax, ay), (bx, by), (cx, cy), (dx, dy)])
-    }
-
-    extern "C" fn right_area(ax: i32, ay: i32, bx: i32, by: i32, cx: i32, cy: i32) -> Told {
-        area_two([(ax, ay), (bx, by), (cx, cy)])
-    }
-
-    extern "C" fn right_angle(
-        ax: i32,
-        ay: i32,
-        bx: i32,
-        by: i32,
-        cx: i32,
-        cy: i32,
-        dx: i32,
-        dy: i32,
-    ) -> Told {
-        angle_cmp([(ax, ay), (bx, by), (cx, cy), (dx, dy)])
-    }
-
     #[test]
     fn right_functions_pass() {
         for report in [
-            run(&CrossProduct(right_cross), 1, COUNT),
-            run(&AreaTwo(right_area), 1, COUNT),
-            run(&AngleCmp(right_angle), 1, COUNT),
+            run(&cross_product_beside(cross_product), 1, COUNT),
+            run(&area_two_beside(area_two), 1, COUNT),
+            run(&angle_cmp_beside(angle_cmp), 1, COUNT),
         ] {
             assert!(report.passed(), "{report}");
             assert_eq!(report.compared, COUNT + 49 * 49);
@@ -273,17 +195,8 @@ mod tests {
     }
 
     /// Document 01's first near miss: opposite edges look equal.
-    extern "C" fn by_cross_alone(
-        ax: i32,
-        ay: i32,
-        bx: i32,
-        by: i32,
-        cx: i32,
-        cy: i32,
-        dx: i32,
-        dy: i32,
-    ) -> Told {
-        let told = right_cross(ax, ay, bx, by, cx, cy, dx, dy);
+    fn by_cross_alone(four: Four) -> Told {
+        let told = cross_product(four);
         Told {
             value: -told.value.signum(),
             ..told
@@ -292,36 +205,27 @@ mod tests {
 
     #[test]
     fn directions_by_the_cross_alone_are_caught() {
-        let report = run(&AngleCmp(by_cross_alone), 1, COUNT);
+        let report = run(&angle_cmp_beside(by_cross_alone), 1, COUNT);
         assert!(caught(&report).starts_with("a (0,0) b (0,-1) c (0,0) d (0,0):"));
     }
 
     /// One coordinate too few accepted.
-    extern "C" fn refuses_the_edge(ax: i32, ay: i32, bx: i32, by: i32, cx: i32, cy: i32) -> Told {
-        if ax == (1 << 30) - 1 {
+    fn refuses_the_edge(three: [Point; 3]) -> Told {
+        if three[0].0 == (1 << 30) - 1 {
             return Told::refused(2);
         }
-        right_area(ax, ay, bx, by, cx, cy)
+        area_two(three)
     }
 
     #[test]
     fn a_refusal_at_the_limit_is_caught() {
-        let report = run(&AreaTwo(refuses_the_edge), 1, COUNT);
+        let report = run(&area_two_beside(refuses_the_edge), 1, COUNT);
         assert!(caught(&report).starts_with("a (1073741823,0) b (0,0) c (0,0):"));
     }
 
     /// A sum of 32 bits in place of 64.
-    extern "C" fn wraps(
-        ax: i32,
-        ay: i32,
-        bx: i32,
-        by: i32,
-        cx: i32,
-        cy: i32,
-        dx: i32,
-        dy: i32,
-    ) -> Told {
-        let told = right_cross(ax, ay, bx, by, cx, cy, dx, dy);
+    fn wraps(four: Four) -> Told {
+        let told = cross_product(four);
         Told {
             value: i64::from(told.value as i32),
             ..told
@@ -330,20 +234,13 @@ mod tests {
 
     #[test]
     fn a_narrow_product_is_caught() {
-        let report = run(&CrossProduct(wraps), 1, COUNT);
+        let report = run(&cross_product_beside(wraps), 1, COUNT);
         assert!(caught(&report).contains("Rust Told { fault: 0, value: "));
     }
 
     /// A refusal that leaves a value behind.
-    extern "C" fn refuses_with_a_value(
-        ax: i32,
-        ay: i32,
-        bx: i32,
-        by: i32,
-        cx: i32,
-        cy: i32,
-    ) -> Told {
-        let told = right_area(ax, ay, bx, by, cx, cy);
+    fn refuses_with_a_value(three: [Point; 3]) -> Told {
+        let told = area_two(three);
         Told {
             value: if told.fault == 2 { 1 } else { told.value },
             ..told
@@ -352,13 +249,13 @@ mod tests {
 
     #[test]
     fn a_value_beside_a_refusal_is_caught() {
-        let report = run(&AreaTwo(refuses_with_a_value), 1, COUNT);
+        let report = run(&area_two_beside(refuses_with_a_value), 1, COUNT);
         assert!(caught(&report).contains("1073741824"));
     }
 
     #[test]
     fn a_run_without_a_fault_or_without_inputs_fails() {
-        let report = run(&CrossProduct(right_cross), 1, 0);
+        let report = run(&cross_product_beside(cross_product), 1, 0);
         assert_eq!(report.missing, [2]);
         assert!(!report.passed());
     }

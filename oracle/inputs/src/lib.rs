@@ -22,3 +22,10 @@ pub mod places;
 pub mod plane;
 pub mod rng;
 pub mod stored;
+
+/// The number that these faults together give, kinds tried in this order.
+#[cfg(test)]
+fn first_of(order: &[judge::Fault], faults: &[judge::Fault]) -> judge::Fault {
+    let first = order.iter().find(|f| faults.contains(f));
+    *first.expect("one of them")
+}

@@ -29,15 +29,6 @@ pub fn damaged(rng: &mut Rng, mesh: &Mesh, faults: &[Fault]) -> Mesh {
     out
 }
 
-/// The number that these faults together give.
-pub fn first_of(faults: &[Fault]) -> Fault {
-    ORDER
-        .iter()
-        .copied()
-        .find(|f| faults.contains(f))
-        .unwrap_or(0)
-}
-
 fn alone(points: [(i32, i32); 3]) -> Triangle {
     Triangle {
         points,
@@ -150,6 +141,7 @@ fn too_large(rng: &mut Rng, mesh: &mut Mesh) {
 #[cfg(test)]
 mod tests {
     use super::*;
+    use crate::first_of;
     use crate::meshes;
     use judge::mesh::fault;
 
@@ -163,7 +155,11 @@ mod tests {
                 assert_eq!(fault(&one), a, "{one:?}");
                 for b in ORDER {
                     let both = damaged(&mut rng, &mesh, &[a, b]);
-                    assert_eq!(fault(&both), first_of(&[a, b]), "{a} and {b}: {both:?}");
+                    assert_eq!(
+                        fault(&both),
+                        first_of(&ORDER, &[a, b]),
+                        "{a} and {b}: {both:?}"
+                    );
                 }
             }
         }

@@ -35,15 +35,6 @@ pub fn damaged(rng: &mut Rng, pair: &Pair, faults: &[Fault]) -> Pair {
     out
 }
 
-/// The number that these faults together give.
-pub fn first_of(faults: &[Fault]) -> Fault {
-    ORDER
-        .iter()
-        .copied()
-        .find(|f| faults.contains(f))
-        .unwrap_or(0)
-}
-
 /// A table against one of its rules or limits.
 pub fn break_rules(rng: &mut Rng, table: &mut Table) {
     let last = table.starts.len() - 1;
@@ -132,6 +123,7 @@ fn reach_too_far(rng: &mut Rng, pair: &mut Pair) {
 #[cfg(test)]
 mod tests {
     use super::*;
+    use crate::first_of;
     use judge::pairs::fault;
 
     #[test]
@@ -143,7 +135,7 @@ mod tests {
                 for b in ORDER {
                     let hurt = damaged(&mut rng, &pair, &[a, b]);
                     let found = fault(hurt.operation, &hurt.left, &hurt.right);
-                    assert_eq!(found, first_of(&[a, b]), "{a} and {b}: {hurt:?}");
+                    assert_eq!(found, first_of(&ORDER, &[a, b]), "{a} and {b}: {hurt:?}");
                 }
             }
         }
