@@ -5,18 +5,18 @@ use mathlib.Core.Bool.{Bool, true, false, not, cond}
 use mathlib.Core.List.{List, [], _∷_}
 use Prim.Native.Nat.{ℕ, zero, suc, _≤_, _<_}
 use native.Mathlib.Omega.{arith}
-use borrow.Author.Tests.{eqb-true, eqb-false, ltb-false, leb-false}
+use borrow.Author.Tests.{eqb-true, eqb-false, ltb-false, leb-false, not-false}
 use lib.Dec.{eqb, leb, ltb, lit<}
 use lib.ListN.{length}
 use lib.IntN.{ℤ, pos}
 use lib.Signed.{_≤ℤ_, _<ℤ_, leZ, ltZ}
 use Rattle.integers.specs.Faults.{Kind, firstFault}
 use Rattle.integers.proofs.Faults.{first-none}
-use Rattle.integers.proofs.Tests.{differ, ltZ-≤, leZ-<}
+use Rattle.integers.proofs.Tests.{differ, either-false, ltZ-≤, leZ-<}
 use Rattle.plane.specs.Plane.{Pt, eqPt, onGrid}
 use Rattle.plane.proofs.Edges.{eqPt-true}
 use Rattle.mesh.specs.Mesh.{Triangle, Mesh, none, vertex, neighbour, after, before, triangleAt, triangleArea, tooMany, offGrid, strayNeighbour, named, misnamed, opposite, runsOppositely, mismatched, flat, meshArea, tooLarge, meshKinds}
-use Rattle.mesh.proofs.Sides.{some-false, mesh-side-false, not-false}
+use Rattle.mesh.proofs.Sides.{some-false, mesh-side-false}
 
 pub record Accepted (m : Mesh) : Type 0 where
   pub few : length m ≤ 1024
@@ -34,10 +34,6 @@ pub record Accepted (m : Mesh) : Type 0 where
 both-true : (s t : Bool) → cond s t false ≡ true → (s ≡ true) × (t ≡ true)
 both-true true t h = (refl, h)
 both-true false t h = differ h
-
-either-false : (s t : Bool) → cond s true t ≡ false → (s ≡ false) × (t ≡ false)
-either-false true t h = differ (sym h)
-either-false false t h = (refl, h)
 
 module _ (m : Mesh) where
   pub grid-rule : offGrid m ≡ false → (k i : ℕ) → k < length m → onGrid (vertex (triangleAt m k) i) ≡ true

@@ -11,29 +11,25 @@ use lib.Dec.{eqb}
 use lib.ListN.{length, getD, drop, drop-of-length-le}
 use lib.Seq.{drop-cons}
 use Rattle.integers.proofs.Order.{by-test}
-use Rattle.integers.proofs.Tests.{differ}
+use Rattle.integers.proofs.Tests.{either-false}
 use Rattle.mesh.specs.Mesh.{Triangle, Mesh, none, neighbour, triangleAt, noTriangle, someFrom, some, someSide, shared, named, opposite}
 
 -- ---- no triangle, no side
 
-cond-false : (s t : Bool) → cond s true t ≡ false → (s ≡ false) × (t ≡ false)
-cond-false true t h = differ (sym h)
-cond-false false t h = (refl, h)
-
 from-false : (test : ℕ → Triangle → Bool) (j : ℕ) (m : Mesh) (k : ℕ) → someFrom test j m ≡ false → k < length m → test (j + k) (triangleAt m k) ≡ false
 unfolding someFrom
 from-false test j [] k h l = absurd (omega arith)
-from-false test j (t ∷ m) zero h l = ap (λ i. test i t) (omega arith) ∙ cond-false (test j t) (someFrom test (suc j) m) h .0
+from-false test j (t ∷ m) zero h l = ap (λ i. test i t) (omega arith) ∙ either-false (test j t) (someFrom test (suc j) m) h .0
 from-false test j (t ∷ m) (suc k) h l =
-    ap (λ i. test i (triangleAt m k)) (omega arith) ∙ from-false test (suc j) m k (cond-false (test j t) (someFrom test (suc j) m) h .1) (omega arith)
+    ap (λ i. test i (triangleAt m k)) (omega arith) ∙ from-false test (suc j) m k (either-false (test j t) (someFrom test (suc j) m) h .1) (omega arith)
 
 pub some-false : (test : ℕ → Triangle → Bool) (m : Mesh) (k : ℕ) → some test m ≡ false → k < length m → test k (triangleAt m k) ≡ false
 some-false test m k h l = ap (λ i. test i (triangleAt m k)) (omega arith) ∙ from-false test 0 m k h l
 
 side-false : (test : ℕ → Bool) (i : ℕ) → i < 3 → someSide test ≡ false → test i ≡ false
-side-false test zero l h = cond-false (test 0) _ h .0
-side-false test (suc zero) l h = cond-false (test 1) (test 2) (cond-false (test 0) _ h .1) .0
-side-false test (suc (suc zero)) l h = cond-false (test 1) (test 2) (cond-false (test 0) _ h .1) .1
+side-false test zero l h = either-false (test 0) _ h .0
+side-false test (suc zero) l h = either-false (test 1) (test 2) (either-false (test 0) _ h .1) .0
+side-false test (suc (suc zero)) l h = either-false (test 1) (test 2) (either-false (test 0) _ h .1) .1
 side-false test (suc (suc (suc i))) l h = absurd (omega arith)
 
 shared-false : (t : Triangle) (test : ℕ → ℕ → Bool) (i : ℕ) → (neighbour t i ≡ none → ⊥) → shared t test i ≡ false → test i (neighbour t i) ≡ false
@@ -45,10 +41,6 @@ pub mesh-side-false : (test : ℕ → Triangle → ℕ → ℕ → Bool) (m : Me
 mesh-side-false test m k i l s d h =
     shared-false (triangleAt m k) (test k (triangleAt m k)) i d
     (side-false (shared (triangleAt m k) (test k (triangleAt m k))) i s (some-false (λ k t. someSide (shared t (test k t))) m k h l))
-
-pub not-false : (t : Bool) → not t ≡ false → t ≡ true
-not-false true h = refl
-not-false false h = sym h
 
 -- ---- a loop over the triangles: from triangle k on
 

@@ -5,6 +5,7 @@ use mathlib.Core.Bool.{Bool, true, false, not, cond}
 use mathlib.Core.List.{List, [], _∷_, _++_, map, map-map, List·Permᴰ, List·Permᴰ·append-comm}
 use Prim.Native.Nat.{ℕ, _+_}
 use native.Mathlib.Omega.{arith}
+use borrow.Author.Tests.{not-false}
 use Rattle.integers.specs.Lists.{All, sumℕ, links, neighbours}
 use Rattle.integers.proofs.Elements.{all-map}
 use Rattle.plane.specs.Plane.{Pt, angleCmp, isGreater}
@@ -47,11 +48,7 @@ module _ (t : Pt × Pt → Bool) where
 
 -- all pass
 pub all-pass : (t : Pt × Pt → Bool) (l : List (Pt × Pt)) → howMany (λ c. not (t c)) l ≡ 0 → All (λ c. t c ≡ true) l
-all-pass t l h = all-map l (λ c k. passes (t c) k) (all-count (λ c. not (t c)) l h)
-  where
-    passes : (b : Bool) → not b ≡ false → b ≡ true
-    passes true k = refl
-    passes false k = sym k
+all-pass t l h = all-map l (λ c k. not-false (t c) k) (all-count (λ c. not (t c)) l h)
 
 pub pass-all : (t : Pt × Pt → Bool) (l : List (Pt × Pt)) → All (λ c. t c ≡ true) l → howMany (λ c. not (t c)) l ≡ 0
 pass-all t l h = count-all (λ c. not (t c)) l (all-map l (λ c k. ap not k) h)

@@ -14,18 +14,13 @@ use lib.ListN.{length, take, drop, getD, length-append, take-append-drop, drop-o
 use lib.Seq.{slice, length-slice, drop-append-le, length-take-le, drop-length, drop-cons}
 use lib.IntN.{ℤ}
 use Rattle.integers.specs.Lists.{All}
-use Rattle.integers.proofs.Tests.{differ}
+use Rattle.integers.proofs.Tests.{differ, either-false}
 use Rattle.plane.specs.Plane.{Pt}
 use Rattle.table.specs.Table.{pointsOf, numbersOf, startsFrom, startsOf, cornersOf, partsOf, tableParts, partCount, stepsBroken, startsBroken, tableBroken}
 use Rattle.table.proofs.Corners.{length-points, length-numbers, numbers-points, points-numbers}
 use Rattle.table.proofs.Parts.{length-starts, parts-starts}
 
--- a test that was not taken
-pub not-taken : (t b : Bool) → cond t true b ≡ false → (t ≡ false) × (b ≡ false)
-not-taken true b e = differ (sym e)
-not-taken false b e = (refl, e)
-
--- a test that was
+-- a test that holds, where the next does not
 pub was-taken : (t b : Bool) → cond t b true ≡ false → (t ≡ true) × (b ≡ false)
 was-taken true b e = (refl, e)
 was-taken false b e = differ (sym e)
@@ -47,8 +42,8 @@ pub record Step (n a b : ℕ) (s : List ℕ) : Type 0 where
 pub step : (n a b : ℕ) (s : List ℕ) → stepsBroken n a (b ∷ s) ≡ false → Step n a b s
 unfolding stepsBroken
 step n a b s e =
-    let f = not-taken (ltb b a) _ e in
-    let g = not-taken (ltb (a + 1026) b) _ (f .1) in
+    let f = either-false (ltb b a) _ e in
+    let g = either-false (ltb (a + 1026) b) _ (f .1) in
     record { rises = ltb-false b a (f .0); short = ltb-false (a + 1026) b (g .0); rest = g .1 }
 
 pub last-step : (n a : ℕ) → stepsBroken n a [] ≡ false → a ≡ n
@@ -101,7 +96,7 @@ module _ (n a b : ℕ) (s : List ℕ) (i : ℕ) (h : i < length s) (p : b ≡ ge
   pub step-passed : r ≡ false → stepsBroken n a (drop i s) ≡ stepsBroken n b (drop (i + 1) s)
   unfolding stepsBroken
   step-passed k =
-      let f = not-taken (ltb b a) (ltb (a + 1026) b) (sym e ∙ k) in
+      let f = either-false (ltb b a) (ltb (a + 1026) b) (sym e ∙ k) in
       rw (add-one, drop-cons s i 0, ← p, f .0, f .1)
 
 pub steps-end : (n a : ℕ) (s : List ℕ) (i : ℕ) → length s ≤ i → stepsBroken n a (drop i s) ≡ not (eqb a n)
@@ -146,8 +141,8 @@ pub tests : (starts : List ℕ) (corners : List ℤ) → tableBroken starts corn
 unfolding tableBroken
 tests s c e =
     let f = was-taken (eqb (length c % 2) 0) _ e in
-    let g = not-taken (ltb 2048 (partCount s)) _ (f .1) in
-    let h = not-taken (ltb 8192 (length c / 2)) _ (g .1) in
+    let g = either-false (ltb 2048 (partCount s)) _ (f .1) in
+    let h = either-false (ltb 8192 (length c / 2)) _ (g .1) in
     record { even = eqb-true _ 0 (f .0); few-parts = ltb-false 2048 _ (g .0); few-corners = ltb-false 8192 _ (h .0); from = from-0 _ s (h .1) }
 
 one-less : (n : ℕ) → suc n - 1 ≡ n

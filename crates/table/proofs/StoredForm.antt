@@ -17,13 +17,14 @@ use mir.Val.{SFits}
 use mir.ValLaws.{ofZ-fits}
 use Rattle.integers.specs.Lists.{All}
 use Rattle.integers.specs.Faults.{firstFault}
+use Rattle.integers.proofs.Tests.{either-false}
+use Rattle.integers.proofs.Faults.{first-next, first-none}
 use Rattle.integers.proofs.Elements.{all-map, all-append, all-image, getD-all}
 use Rattle.plane.specs.Plane.{inRange}
 use Rattle.plane.proofs.Size.{in-range-coordinate, coordinate-fits}
 use Rattle.table.specs.Table.{tableBroken, offRange, tableParts, roomKinds, startsOf}
 use Rattle.table.specs.Stored.{wordsOf, wordBytes, signed, unsigned, wordAt, storedStarts, storedCorners, lengthBroken, storedBroken, storedParts, readFault, storedOf}
-use Rattle.integers.proofs.Faults.{first-next, first-none}
-use Rattle.table.proofs.Rules.{not-taken, was-taken, sound, starts-parts, count-parts, count-corners}
+use Rattle.table.proofs.Rules.{was-taken, sound, starts-parts, count-parts, count-corners}
 use Rattle.table.proofs.Words.{Byte, Word, length-words, length-wordBytes, words-wordBytes, wordBytes-words, words-small, signed-unsigned, unsigned-signed}
 
 -- ---- words taken apart: two counts, p + 1 starts, the numbers
@@ -45,13 +46,13 @@ sizeOf parts corners = 8 + 4 * (parts + 1) + 8 * corners
 pub sized : (bytes : List ℕ) → lengthBroken bytes ≡ false → length bytes ≡ sizeOf (wordAt bytes 0) (wordAt bytes 1)
 unfolding lengthBroken
 sized bytes e =
-    let f = not-taken (ltb (length bytes) 8) _ e in
+    let f = either-false (ltb (length bytes) 8) _ e in
     eqb-true _ _ (not-false _ (f .1))
 
 -- length and rules
 pub whole-bytes : (bytes : List ℕ) → storedBroken bytes ≡ false → (lengthBroken bytes ≡ false) × (tableBroken (storedStarts bytes) (storedCorners bytes) ≡ false)
 unfolding storedBroken
-whole-bytes bytes e = not-taken (lengthBroken bytes) _ e
+whole-bytes bytes e = either-false (lengthBroken bytes) _ e
 
 module _ (bytes : List ℕ) (e : length bytes ≡ sizeOf (wordAt bytes 0) (wordAt bytes 1)) where
   pub count-words : length (wordsOf bytes) ≡ wordAt bytes 0 + 3 + 2 * wordAt bytes 1
@@ -157,7 +158,7 @@ accepted bytes rs rc e =
     let g = first-none 2 (offRange (storedCorners bytes)) _ (omega arith) (f .1) in
     let h = first-none 22 (ltb rs (length (startsOf (storedParts bytes)))) _ (omega arith) (g .1) in
     let i = first-none 21 (ltb (rc / 2) (length (flatten (storedParts bytes)))) _ (omega arith) (h .1) in
-    let l = not-taken (lengthBroken bytes) _ (f .0) in
+    let l = either-false (lengthBroken bytes) _ (f .0) in
     record {
       sized-right = l .0;
       whole = l .1;

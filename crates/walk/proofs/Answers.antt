@@ -12,6 +12,7 @@ use lib.ListN.{length}
 use lib.IntN.{ℤ}
 use Rattle.integers.proofs.Faults.{first-none}
 use Rattle.integers.proofs.Order.{by-test}
+use Rattle.integers.proofs.Tests.{either-false}
 use Rattle.plane.specs.Plane.{Pt}
 use Rattle.plane.specs.declared.IntVector.{IntVector}
 use Rattle.plane.specs.declared.IntPoint.{IntPoint}
@@ -29,7 +30,7 @@ use Rattle.walk.specs.declared.Stepped.{Stepped}
 use Rattle.walk.specs.declared.Stepped.the-variants as stepped
 use Rattle.walk.specs.declared.Next.{Next}
 use Rattle.walk.specs.declared.Next.the-variants as next
-use Rattle.walk.specs.Calls.{misplaced, finished, either, beginFault, begunOf, pointFault, pointedOf, stepFault, steppedOf, pairStepFault, nextOf, pairSteppedOf, begunNumber, pointedNumber, steppedNumber, steppedPlace, nextNumber, nextPlaces}
+use Rattle.walk.specs.Calls.{misplaced, finished, beginFault, begunOf, pointFault, pointedOf, stepFault, steppedOf, pairStepFault, nextOf, pairSteppedOf, begunNumber, pointedNumber, steppedNumber, steppedPlace, nextNumber, nextPlaces}
 
 -- ---- numbers
 
@@ -109,11 +110,7 @@ advance-placed n w h =
 -- where a step is accepted, the walk was in place
 step-accepted : (l : List ℤ) (w : Place) → stepFault l w ≡ 0 → misplaced (length (pointsOf l)) w ≡ false
 unfolding stepFault
-step-accepted l w h = second-false (finished w) _ (first-none 23 _ _ (omega arith) (first-none 7 _ _ (omega arith) h .1) .0)
-  where
-    second-false : (a b : Bool) → either a b ≡ false → b ≡ false
-    second-false true b h = absurd (true≢false h)
-    second-false false b h = h
+step-accepted l w h = either-false (finished w) _ (first-none 23 _ _ (omega arith) (first-none 7 _ _ (omega arith) h .1) .0) .1
 
 pub step-placed : (l : List ℤ) (w : Place) → stepFault l w ≡ 0 → misplaced (length (pointsOf l)) (steppedPlace (steppedOf l w)) ≡ false
 unfolding steppedOf
