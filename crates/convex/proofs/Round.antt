@@ -19,7 +19,7 @@ use Rattle.integers.proofs.Sums.{sumℕ-cons, sumℕ-append, sumℕ-perm}
 use Rattle.integers.proofs.Rotation.{map-rotate, perm-rotate}
 use Rattle.integers.proofs.Neighbours.{links-append, neighbours-rotate}
 use Rattle.plane.specs.Plane.{Pt, _-ᵖ_, cross, areaTwo}
-use Rattle.plane.proofs.Edges.{edges-rotate}
+use Rattle.plane.proofs.Edges.{links-last, edges-rotate}
 use Rattle.plane.specs.Contour.{lastOf, edges}
 use Rattle.plane.proofs.Terms.{_-E_, crossE, areaTwoE}
 use Rattle.mesh.specs.Mesh.{Mesh}
@@ -109,12 +109,6 @@ round-split e d f n G p de ef df pd fn r =
         )
 
 -- ---- contours
-
--- the way from q through l, and from its last corner to x
-pub links-last : (q : Pt) (l : List Pt) (x : Pt) → links q (l ++ (x ∷ [])) ≡ links q l ++ ((lastOf q l, x) ∷ [])
-unfolding links lastOf
-links-last q [] x = refl
-links-last q (p ∷ l) x = ap (λ r. (q, p) ∷ r) (links-last p l x)
 
 -- the edges along the way from q through l
 abbrev pub way : Pt → List Pt → List Pt

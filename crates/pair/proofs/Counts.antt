@@ -9,6 +9,7 @@ use borrow.Author.Tests.{not-false}
 use Rattle.integers.specs.Lists.{All, sumℕ, links, neighbours}
 use Rattle.integers.proofs.Elements.{all-map}
 use Rattle.plane.specs.Plane.{Pt, angleCmp, isGreater}
+use Rattle.plane.proofs.Edges.{links-last}
 use Rattle.plane.proofs.Directions.{Le, before, beside, after, angle-cases, clash}
 use Rattle.pair.specs.Premise.{howMany}
 use Rattle.plane.specs.Contour.{lastOf}
@@ -64,12 +65,6 @@ pub count-map : (t : Pt × Pt → Bool) (f : Pt × Pt → Pt × Pt) (l : List (P
 count-map t f l = count-sum t (map f l) ∙ ap sumℕ (map-map (λ c. bit (t c)) f l) ∙ sym (count-sum (λ c. t (f c)) l)
 
 -- ---- the last and the first
-
--- the links to y are those of x ∷ l and one from its last
-links-last : (x : Pt) (l : List Pt) (y : Pt) → links x (l ++ (y ∷ [])) ≡ links x l ++ ((lastOf x l, y) ∷ [])
-unfolding links lastOf
-links-last x [] y = refl
-links-last x (z ∷ l) y = ap (λ r. (x, z) ∷ r) (links-last z l y)
 
 -- round e ∷ l: from the last to e, then along the list
 pub perm-last : (e : Pt) (l : List Pt) → List·Permᴰ (neighbours (e ∷ l)) ((lastOf e l, e) ∷ links e l)

@@ -22,7 +22,7 @@ use Rattle.plane.specs.Contour.{edges}
 use Rattle.pair.specs.Premise.{fresh, withoutRepeats, turns, howMany, forward, descent, roundBy, onceRound}
 use Rattle.plane.specs.Contour.{lastOf}
 use Rattle.pair.specs.Demand.{live}
-use Rattle.plane.proofs.Edges.{edges-rotate, edges-reverse, edges-backwards, eqPt-true, isZero-sub}
+use Rattle.plane.proofs.Edges.{links-last, edges-rotate, edges-reverse, edges-backwards, eqPt-true, isZero-sub}
 use Rattle.pair.proofs.Places.{backwards}
 use Rattle.pair.proofs.Live.{live-zero, live-keep, live-rotate, live-reverse, live-negᵖ}
 
@@ -79,18 +79,12 @@ last-fresh q [] = refl
 last-fresh q (p ∷ l) = by-test (eqPt q p)
     (λ t. rw t (ap (λ c. lastOf c (fresh p l)) (eqPt-true q p t) ∙ last-fresh p l)) (λ t. rw t (last-fresh p l))
 
--- the link into y is from the last
-links-snoc : (x : Pt) (l : List Pt) (y : Pt) → links x (l ++ (y ∷ [])) ≡ links x l ++ ((lastOf x l, y) ∷ [])
-unfolding links lastOf
-links-snoc x [] y = refl
-links-snoc x (z ∷ l) y = ap (λ r. (x, z) ∷ r) (links-snoc z l y)
-
 -- round from the last corner: the contour's edges, the last of them first
 into-edges : (p : Pt) (l : List Pt) → into (lastOf p l) (p ∷ l) ≡ rotate (length (into p l)) (edges (p ∷ l))
 unfolding edges links
 into-edges p l =
     sym (rotate-append (into p l) ((p -ᵖ lastOf p l) ∷ []))
-    ∙ ap (rotate (length (into p l))) (sym (ap (map (λ e. e .1 -ᵖ e .0)) (neighbours-cons p l ∙ links-snoc p l p) ∙ map-append (λ e. e .1 -ᵖ e .0) (links p l) ((lastOf p l, p) ∷ [])))
+    ∙ ap (rotate (length (into p l))) (sym (ap (map (λ e. e .1 -ᵖ e .0)) (neighbours-cons p l ∙ links-last p l p) ∙ map-append (λ e. e .1 -ᵖ e .0) (links p l) ((lastOf p l, p) ∷ [])))
 
 -- where the last of l is q, the turns of what is kept are those of the nonzero edges into l
 fresh-turns : (q : Pt) (l : List Pt) → lastOf q l ≡ q → List·Permᴰ (turns (fresh q l)) (neighbours (live (into q l)))

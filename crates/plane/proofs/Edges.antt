@@ -17,7 +17,7 @@ use Rattle.integers.proofs.Tests.{differ, eqZ-true, eqZ-refl}
 use Rattle.integers.proofs.Rotation.{rotate-eq, rotate-zero, rotate-append, map-rotate, map-reverse}
 use Rattle.integers.proofs.Neighbours.{length-neighbours, neighbours-rotate, neighbours-reverse, neighbours-cons, links-reverse, map-neighbours, getD-neighbours, getD-neighbours-last}
 use Rattle.plane.specs.Plane.{Pt, O, _-ᵖ_, negᵖ, eqPt, isZero}
-use Rattle.plane.specs.Contour.{edges}
+use Rattle.plane.specs.Contour.{edges, lastOf}
 use Rattle.plane.proofs.Terms.{OE, _-E_, negE}
 use Rattle.plane.proofs.Vectors.{pt-eq, negᵖ-edge, isZero-true}
 
@@ -32,6 +32,12 @@ negᵖ-sub = ringᵖ (pt ∷ pt ∷ []) (λ a b. b -E a :≡ᵖ negE (a -E b)) t
 
 sub-self : (a : Pt) → a -ᵖ a ≡ O
 sub-self = ringᵖ (pt ∷ []) (λ a. a -E a :≡ᵖ OE) tt
+
+-- the links on to y are those before and one from the last
+pub links-last : (x : Pt) (l : List Pt) (y : Pt) → links x (l ++ (y ∷ [])) ≡ links x l ++ ((lastOf x l, y) ∷ [])
+unfolding links lastOf
+links-last x [] y = refl
+links-last x (z ∷ l) y = ap (λ r. (x, z) ∷ r) (links-last z l y)
 
 -- as many as corners
 pub length-edges : (l : List Pt) → length (edges l) ≡ length l

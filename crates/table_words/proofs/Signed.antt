@@ -2,7 +2,7 @@
 -- last word. Assumes nothing.
 use mathlib.Core.Path.{_≡_, refl, sym, _∙_, ap}
 use mathlib.Core.Bool.{true, false}
-use Prim.Native.Nat.{ℕ, zero, suc, _-_, _<_, _≤_}
+use Prim.Native.Nat.{ℕ, suc, _-_, _<_, _≤_}
 use native.Mathlib.Omega.{arith}
 use borrow.Author.Tests.{le-ltb}
 use lib.Dec.{T}
@@ -10,25 +10,9 @@ use lib.IntN.{ℤ, pos, negsuc, natAbs, _-ℤ_}
 use lib.Signed.{leZ, nonNeg}
 use mir.Syntax.{w32}
 use mir.Val.{Fits, SFits, toZ, ofZ}
-use mir.ValLaws.{toZ-pos}
 use Rattle.integers.proofs.Bits.{back, kept}
 use Rattle.integers.proofs.Order.{zarith, sub-parts}
 use Rattle.integers.proofs.Tests.{differ, leZ-false, zneeds}
-
--- -1 - m
-minus-one-less : (m : ℕ) → negsuc 0 -ℤ pos m ≡ negsuc m
-minus-one-less zero = refl
-minus-one-less (suc m) = ap negsuc (omega arith)
-
-module _ (m : ℕ) (h : m < 2147483648) where
-  down : negsuc 0 -ℤ toZ w32 m ≡ negsuc m
-  down = ap (λ z. negsuc 0 -ℤ z) (toZ-pos w32 m h) ∙ minus-one-less m
-
-  pub down-fits : SFits w32 (negsuc 0 -ℤ toZ w32 m)
-  down-fits = rw down (record { sfits = h })
-
-  pub down-is : toZ w32 (ofZ w32 (negsuc 0 -ℤ toZ w32 m)) ≡ negsuc m
-  down-is = back down-fits down
 
 -- a word from half on
 pub signed-high : (n : ℕ) → 2147483648 ≤ n → negsuc (4294967295 - n) ≡ toZ w32 n

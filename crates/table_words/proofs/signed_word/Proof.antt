@@ -4,7 +4,9 @@ use mathlib.Core.Path.{_∙_}
 use Prim.Native.Nat.{_-_}
 use native.Mathlib.Omega.{arith}
 use borrow.Author.Needs.{needs}
-use Rattle.table_words.proofs.Signed.{down-fits, down-is, signed-high}
+use mir.Syntax.{w32}
+use Rattle.integers.proofs.Bits.{down-fits, down-is}
+use Rattle.table_words.proofs.Signed.{signed-high}
 use Rattle.table_words.proofs.signed_word.Statement.{statement}
 use Rattle.table_words.proofs.signed_word.Tie as tie
 
@@ -21,10 +23,10 @@ cast-result-2 : tie.Need-cast-result-2
 cast-result-2 c = search needs
 
 sub-result-2 : tie.Need-sub-result-2
-sub-result-2 c = down-fits (4294967295 - c .before .args .n) (omega arith)
+sub-result-2 c = down-fits w32 (4294967295 - c .before .args .n) (omega arith)
 
 returns-2 : tie.Need-returns-2
-returns-2 c = down-is (4294967295 - c .before .args .n) (omega arith) ∙ signed-high _ (c .if1 .left)
+returns-2 c = down-is w32 (4294967295 - c .before .args .n) (omega arith) ∙ signed-high _ (c .if1 .left)
 
 pub signed-word-spec : {M : Type 1} → statement M
 signed-word-spec =

@@ -5,7 +5,8 @@ use native.Mathlib.Omega.{arith}
 use borrow.Author.Needs.{needs}
 use mir.Syntax.{w32}
 use mir.ValLaws.{toZ-pos}
-use Rattle.vectors.proofs.Signed.{signed-low, signed-high, down-fits, down-is}
+use Rattle.integers.proofs.Bits.{down-fits, down-is}
+use Rattle.vectors.proofs.Signed.{signed-low, signed-high}
 use Rattle.vectors.proofs.signed_word.Statement.{statement}
 use Rattle.vectors.proofs.signed_word.Tie as tie
 
