@@ -1,14 +1,16 @@
-//! Links the archive that BESIDE_LIB names into the binary `beside`, where the
-//! feature `linked` asks for it. Nothing else here needs the archive.
+//! Links the archives that BESIDE_LIBS lists, with a colon between, into the
+//! programs, where the feature `linked` asks for it. Nothing else here needs them.
 
 use std::env;
 
 fn main() {
-    println!("cargo:rerun-if-env-changed=BESIDE_LIB");
+    println!("cargo:rerun-if-env-changed=BESIDE_LIBS");
     if env::var_os("CARGO_FEATURE_LINKED").is_none() {
         return;
     }
-    let archive = env::var("BESIDE_LIB").expect("BESIDE_LIB names the archive to link");
-    println!("cargo:rerun-if-changed={archive}");
-    println!("cargo:rustc-link-arg-bin=beside={archive}");
+    let archives = env::var("BESIDE_LIBS").expect("BESIDE_LIBS lists the archives to link");
+    for archive in archives.split(':') {
+        println!("cargo:rerun-if-changed={archive}");
+        println!("cargo:rustc-link-arg-bins={archive}");
+    }
 }

@@ -8,8 +8,8 @@ use lib.IntN.{ℤ, pos, negsuc}
 use lib.ListN.{length, getD}
 use Rattle.integers.specs.Test.{eqZ}
 use Rattle.plane.specs.Plane.{Pt}
-use Rattle.boundary.specs.declared.Told.{Told}
-use Rattle.boundary.specs.Beside.{toldCross, toldArea, toldAngle}
+use Rattle.boundary_plane.specs.declared.Told.{Told}
+use Rattle.boundary_plane.specs.Beside.{toldCross, toldArea, toldAngle}
 use Rattle.vectors.specs.declared.Case.{Case}
 
 -- the number of four bytes, the lowest first

@@ -1,11 +1,11 @@
 // Stored samples of the boundary's functions: whether a record of 52 bytes holds what the boundary answers. A record is a u32 kind
 // (0 cross product, 1 doubled area, 2 order of directions), eight i32 coordinates, a u32 fault, an i64 value and a u32 of padding, 0,
-// all little-endian. Leans on boundary.
+// all little-endian. Leans on boundary_plane.
 ghost use mathlib.Core.Path.{_≡_};
 ghost use Prim.Native.Nat.{_+_, _≤_};
 ghost use lib.ListN.{length};
 ghost use Rattle.vectors.specs.Sample.{littleEndian, word, signed, int, long, caseOf, tells, answered, rightOf};
-use boundary::Told;
+use boundary_plane::Told;
 
 // The bytes of a record.
 pub const RECORD: usize = 52;
@@ -115,15 +115,24 @@ fn is_answered(q: Case) -> bool
     ensures { λ r. ⌜ r ≡ answered q ⌝ }
 {
     if q.kind == 0 {
-        let t = boundary::beside_cross_product(q.ax, q.ay, q.bx, q.by, q.cx, q.cy, q.dx, q.dy);
+        let t = boundary_plane::beside_cross_product(
+            q.ax,
+            q.ay,
+            q.bx,
+            q.by,
+            q.cx,
+            q.cy,
+            q.dx,
+            q.dy,
+        );
         return is_told(t, q.fault, q.value);
     }
     if q.kind == 1 {
-        let t = boundary::beside_area_two(q.ax, q.ay, q.bx, q.by, q.cx, q.cy);
+        let t = boundary_plane::beside_area_two(q.ax, q.ay, q.bx, q.by, q.cx, q.cy);
         return is_told(t, q.fault, q.value);
     }
     if q.kind == 2 {
-        let t = boundary::beside_angle_cmp(q.ax, q.ay, q.bx, q.by, q.cx, q.cy, q.dx, q.dy);
+        let t = boundary_plane::beside_angle_cmp(q.ax, q.ay, q.bx, q.by, q.cx, q.cy, q.dx, q.dy);
         return is_told(t, q.fault, q.value);
     }
     false

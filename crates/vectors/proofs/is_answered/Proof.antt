@@ -12,9 +12,9 @@ use mir.Syntax.{w32, w64}
 use mir.Val.{SFits, toZ, ofZ}
 use Rattle.integers.proofs.Bits.{kept}
 use Rattle.plane.specs.Plane.{Pt}
-use Rattle.boundary.specs.declared.Told.{Told}
-use Rattle.boundary.specs.Beside.{toldCross, toldArea, toldAngle}
-use Rattle.boundary.proofs.Answers.{made}
+use Rattle.boundary_plane.specs.declared.Told.{Told}
+use Rattle.boundary_plane.specs.Beside.{toldCross, toldArea, toldAngle}
+use Rattle.boundary_plane.proofs.Answers.{made}
 use Rattle.vectors.specs.declared.Case.{Case}
 use Rattle.vectors.specs.Sample.{tells, answered}
 use Rattle.vectors.proofs.Case.{the-type}

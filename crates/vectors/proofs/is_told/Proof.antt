@@ -9,7 +9,7 @@ use lib.IntN.{ℤ}
 use mir.Syntax.{w64}
 use mir.Val.{SFits, ofZ}
 use Rattle.integers.proofs.Bits.{eqb-bits}
-use Rattle.boundary.specs.declared.Told.{Told}
+use Rattle.boundary_plane.specs.declared.Told.{Told}
 use Rattle.vectors.specs.Sample.{tells}
 use Rattle.vectors.proofs.is_told.Statement.{statement}
 use Rattle.vectors.proofs.is_told.Tie as tie

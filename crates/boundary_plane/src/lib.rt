@@ -1,10 +1,10 @@
-// What the runs beside the Rust call (oracle/beside links this crate as a static library): one thin function over each function that
-// is compared, on plain numbers, with no `requires`. A coordinate not strictly between -2^30 and 2^30 is refused with 2, as document 01
+// plane as the runs beside the Rust call it (oracle/beside links this crate as a static library): one thin function over each function
+// that is compared, on plain numbers, with no `requires`. A coordinate not strictly between -2^30 and 2^30 is refused with 2, as document 01
 // numbers it, and the value 0. Leans on plane.
 ghost use mathlib.Core.Path.{_≡_};
 ghost use mathlib.Core.List.{[], _∷_};
 ghost use Rattle.plane.specs.Machine.{point};
-ghost use Rattle.boundary.specs.Beside.{allOn, orderNumber, toldCross, toldArea, toldAngle};
+ghost use Rattle.boundary_plane.specs.Beside.{allOn, orderNumber, toldCross, toldArea, toldAngle};
 use plane::IntPoint;
 use plane::Ordering;
 

@@ -5,7 +5,7 @@ use lib.IntN.{ℤ, pos, negsuc}
 use Rattle.plane.specs.declared.Ordering.{Ordering}
 use Rattle.plane.specs.declared.Ordering.the-variants.{Less, Equal, Greater}
 use Rattle.plane.specs.Plane.{Pt, _-ᵖ_, onGrid, cross, areaTwo, angleCmp}
-use Rattle.boundary.specs.declared.Told.{Told}
+use Rattle.boundary_plane.specs.declared.Told.{Told}
 
 -- each point is on the grid
 unfoldable pub allOn : List Pt → Bool

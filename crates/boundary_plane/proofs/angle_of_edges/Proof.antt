@@ -1,13 +1,13 @@
--- `boundary::angle_of_edges` meets its contract: the order of two differences as a number, or the refusal. Assumes nothing.
+-- `boundary_plane::angle_of_edges` meets its contract: the order of two differences as a number, or the refusal. Assumes nothing.
 use mathlib.Core.Path.{_∙_, ap}
 use borrow.Author.Needs.{needs}
 use mir.Syntax.{w64}
 use Rattle.integers.proofs.Bits.{got}
 use Rattle.plane.specs.Plane.{angleCmp}
-use Rattle.boundary.specs.Beside.{orderNumber, toldAngle}
-use Rattle.boundary.proofs.Answers.{four-on, answered, refused}
-use Rattle.boundary.proofs.angle_of_edges.Statement.{statement}
-use Rattle.boundary.proofs.angle_of_edges.Tie as tie
+use Rattle.boundary_plane.specs.Beside.{orderNumber, toldAngle}
+use Rattle.boundary_plane.proofs.Answers.{four-on, answered, refused}
+use Rattle.boundary_plane.proofs.angle_of_edges.Statement.{statement}
+use Rattle.boundary_plane.proofs.angle_of_edges.Tie as tie
 
 four-on-grid-requires : tie.Need-four-on-grid-requires
 four-on-grid-requires c κs = search needs

@@ -1,12 +1,12 @@
--- `boundary::area_of_triangle` meets its contract: the doubled area, or the refusal. Assumes nothing.
+-- `boundary_plane::area_of_triangle` meets its contract: the doubled area, or the refusal. Assumes nothing.
 use mathlib.Core.Path.{_∙_}
 use borrow.Author.Needs.{needs}
 use mir.Syntax.{w64}
 use Rattle.integers.proofs.Bits.{got}
-use Rattle.boundary.specs.Beside.{toldArea}
-use Rattle.boundary.proofs.Answers.{three-on, answered, refused}
-use Rattle.boundary.proofs.area_of_triangle.Statement.{statement}
-use Rattle.boundary.proofs.area_of_triangle.Tie as tie
+use Rattle.boundary_plane.specs.Beside.{toldArea}
+use Rattle.boundary_plane.proofs.Answers.{three-on, answered, refused}
+use Rattle.boundary_plane.proofs.area_of_triangle.Statement.{statement}
+use Rattle.boundary_plane.proofs.area_of_triangle.Tie as tie
 
 three-on-grid-requires : tie.Need-three-on-grid-requires
 three-on-grid-requires c κs = search needs

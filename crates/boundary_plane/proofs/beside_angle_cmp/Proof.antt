@@ -1,10 +1,10 @@
--- `boundary::beside_angle_cmp` meets its contract: `angle_of_edges` of points that hold the numbers. Assumes nothing.
+-- `boundary_plane::beside_angle_cmp` meets its contract: `angle_of_edges` of points that hold the numbers. Assumes nothing.
 use mathlib.Core.Path.{_∙_}
 use borrow.Author.Needs.{needs}
-use Rattle.boundary.specs.Beside.{toldAngle}
-use Rattle.boundary.proofs.Answers.{made}
-use Rattle.boundary.proofs.beside_angle_cmp.Statement.{statement}
-use Rattle.boundary.proofs.beside_angle_cmp.Tie as tie
+use Rattle.boundary_plane.specs.Beside.{toldAngle}
+use Rattle.boundary_plane.proofs.Answers.{made}
+use Rattle.boundary_plane.proofs.beside_angle_cmp.Statement.{statement}
+use Rattle.boundary_plane.proofs.beside_angle_cmp.Tie as tie
 
 angle-of-edges-requires : tie.Need-angle-of-edges-requires
 angle-of-edges-requires c κs = search needs

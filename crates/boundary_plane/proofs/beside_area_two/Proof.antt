@@ -1,10 +1,10 @@
--- `boundary::beside_area_two` meets its contract: `area_of_triangle` of points that hold the numbers. Assumes nothing.
+-- `boundary_plane::beside_area_two` meets its contract: `area_of_triangle` of points that hold the numbers. Assumes nothing.
 use mathlib.Core.Path.{_∙_}
 use borrow.Author.Needs.{needs}
-use Rattle.boundary.specs.Beside.{toldArea}
-use Rattle.boundary.proofs.Answers.{made}
-use Rattle.boundary.proofs.beside_area_two.Statement.{statement}
-use Rattle.boundary.proofs.beside_area_two.Tie as tie
+use Rattle.boundary_plane.specs.Beside.{toldArea}
+use Rattle.boundary_plane.proofs.Answers.{made}
+use Rattle.boundary_plane.proofs.beside_area_two.Statement.{statement}
+use Rattle.boundary_plane.proofs.beside_area_two.Tie as tie
 
 area-of-triangle-requires : tie.Need-area-of-triangle-requires
 area-of-triangle-requires c κs = search needs

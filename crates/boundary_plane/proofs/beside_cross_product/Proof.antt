@@ -1,10 +1,10 @@
--- `boundary::beside_cross_product` meets its contract: `cross_of_edges` of points that hold the numbers. Assumes nothing.
+-- `boundary_plane::beside_cross_product` meets its contract: `cross_of_edges` of points that hold the numbers. Assumes nothing.
 use mathlib.Core.Path.{_∙_}
 use borrow.Author.Needs.{needs}
-use Rattle.boundary.specs.Beside.{toldCross}
-use Rattle.boundary.proofs.Answers.{made}
-use Rattle.boundary.proofs.beside_cross_product.Statement.{statement}
-use Rattle.boundary.proofs.beside_cross_product.Tie as tie
+use Rattle.boundary_plane.specs.Beside.{toldCross}
+use Rattle.boundary_plane.proofs.Answers.{made}
+use Rattle.boundary_plane.proofs.beside_cross_product.Statement.{statement}
+use Rattle.boundary_plane.proofs.beside_cross_product.Tie as tie
 
 cross-of-edges-requires : tie.Need-cross-of-edges-requires
 cross-of-edges-requires c κs = search needs

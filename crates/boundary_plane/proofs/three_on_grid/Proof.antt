@@ -1,8 +1,8 @@
--- `boundary::three_on_grid` meets its contract: `on_grid` of each point. Assumes nothing.
+-- `boundary_plane::three_on_grid` meets its contract: `on_grid` of each point. Assumes nothing.
 use borrow.Author.Needs.{needs}
-use Rattle.boundary.proofs.Answers.{on-last, on-next, off-grid}
-use Rattle.boundary.proofs.three_on_grid.Statement.{statement}
-use Rattle.boundary.proofs.three_on_grid.Tie as tie
+use Rattle.boundary_plane.proofs.Answers.{on-last, on-next, off-grid}
+use Rattle.boundary_plane.proofs.three_on_grid.Statement.{statement}
+use Rattle.boundary_plane.proofs.three_on_grid.Tie as tie
 
 on-grid-requires : tie.Need-on-grid-requires
 on-grid-requires c κs = search needs
