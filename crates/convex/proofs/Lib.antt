@@ -1,8 +1,7 @@
 -- What holds of joining, in reading order.
--- That it ends; its zipper form, and that the two agree.
+-- That it ends; that the zipper form agrees.
 pub mod Taken
 pub mod Ends
-pub mod Zipper
 pub mod Lookups
 pub mod Slots
 pub mod Zipped

@@ -19,7 +19,7 @@ use Rattle.plane.proofs.Vectors.{area-is-turn, area-cycle}
 use Rattle.mesh.specs.Mesh.{Mesh, none, vertex, triangleAt}
 use Rattle.mesh.proofs.Accepted.{Accepted}
 use Rattle.convex.specs.Joining.{region, fromLast}
-use Rattle.convex.proofs.Zipper.{Slot, Zipper, startZ, ring, moved, pushed, joinsZ, stepZ, zipped, fromLastZ}
+use Rattle.convex.specs.Zipper.{Slot, Zipper, startZ, ring, moved, pushed, joinsZ, stepZ, zipped, fromLastZ}
 use Rattle.convex.proofs.Slots.{whole, length-ring, far, farSide, farVertex, joinedZ, stepZ-by, Fit, ring-long, zipped-ends, zipped-keeps}
 use Rattle.convex.proofs.Zipped.{zipped-from-last}
 use Rattle.convex.proofs.Whole.{whole-top, whole-pushed, joint, by-ring}

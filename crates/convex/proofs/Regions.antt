@@ -17,7 +17,7 @@ use Rattle.mesh.specs.Mesh.{Mesh}
 use Rattle.mesh.proofs.Accepted.{Accepted}
 use Rattle.convex.specs.Joining.{Region, isIn, region, regionsFrom, regions}
 use Rattle.convex.proofs.Taken.{isIn-false, isIn-true}
-use Rattle.convex.proofs.Zipper.{startZ, moved, pushed}
+use Rattle.convex.specs.Zipper.{startZ, moved, pushed}
 use Rattle.convex.proofs.Slots.{stepZ-by, across-in, top-sided, zipped-keeps}
 use Rattle.convex.proofs.Zipped.{zipped-taken}
 

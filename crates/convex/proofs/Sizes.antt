@@ -21,7 +21,7 @@ use Rattle.mesh.specs.Mesh.{Mesh, triangleAt}
 use Rattle.mesh.proofs.Accepted.{Accepted}
 use Rattle.convex.specs.Joining.{Region, isIn, region, regions, placeOf, fromLast, turning, withoutStraight, contourOf, parts}
 use Rattle.convex.proofs.Taken.{untaken, untaken-le, untaken-take}
-use Rattle.convex.proofs.Zipper.{Slot, Zipper, startZ, moved, pushed, stepZ}
+use Rattle.convex.specs.Zipper.{Slot, Zipper, startZ, moved, pushed, stepZ}
 use Rattle.convex.proofs.Slots.{stepZ-by, Fit, across-in, top-sided}
 use Rattle.convex.proofs.Regions.{regions-once}
 use Rattle.convex.proofs.Whole.{contour-keeps, all-regions}

@@ -13,11 +13,11 @@ use lib.ListN.{length, getD, length-append, length-reverse, length-map, List·ge
 use Rattle.integers.proofs.Order.{by-test}
 use Rattle.plane.specs.Plane.{Pt, O}
 use Rattle.mesh.specs.Mesh.{Triangle, Mesh, none, vertex, neighbour, after, before, triangleAt, opposite}
-use Rattle.mesh.proofs.Sides.{opposite-side}
+use Rattle.mesh.proofs.Sides.{after-side, opposite-side}
 use Rattle.mesh.proofs.Accepted.{Accepted}
 use Rattle.convex.specs.Joining.{isIn}
 use Rattle.convex.proofs.Taken.{untaken, untaken-le, untaken-take}
-use Rattle.convex.proofs.Zipper.{Slot, Zipper, startZ, ring, moved, pushed, joinsZ, stepZ, growZ, zipped}
+use Rattle.convex.specs.Zipper.{Slot, Zipper, startZ, ring, moved, pushed, joinsZ, stepZ, growZ, zipped}
 
 -- ---- the whole contour, from the first corner done
 
@@ -131,12 +131,6 @@ after-thrice zero h = refl
 after-thrice (suc zero) h = refl
 after-thrice (suc (suc zero)) h = refl
 after-thrice (suc (suc (suc i))) h = absurd (omega arith)
-
-after-side : (i : ℕ) → after i < 3
-unfolding after
-after-side zero = omega arith
-after-side (suc zero) = omega arith
-after-side (suc (suc i)) = omega arith
 
 module _ (m : Mesh) (ok : Accepted m) where
   module _ (x : Slot) (b : Pt) (s : Sided m x b) (d : x .across ≡ none → ⊥) where

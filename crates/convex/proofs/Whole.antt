@@ -19,7 +19,7 @@ use Rattle.mesh.specs.Mesh.{Triangle, Mesh, none, vertex, neighbour, after, bef
 use Rattle.mesh.proofs.Sides.{opposite-side}
 use Rattle.mesh.proofs.Accepted.{Accepted}
 use Rattle.convex.specs.Joining.{Region, joins, isIn, region, regionsFrom, regions}
-use Rattle.convex.proofs.Zipper.{Slot, Zipper, startZ, ring, moved, pushed, joinsZ, stepZ, zipped}
+use Rattle.convex.specs.Zipper.{Slot, Zipper, startZ, ring, moved, pushed, joinsZ, stepZ, zipped}
 use Rattle.convex.proofs.Slots.{whole, ring-cons, far, farSide, farVertex, stepZ-by, Fit, across-in, far-from, far-to, ring-long, top-sided, zipped-ends, zipped-keeps}
 use Rattle.convex.proofs.Zipped.{zipped-contour, zipped-taken}
 

@@ -1,8 +1,8 @@
 -- The zipper is the paper's region: on an accepted mesh both have the same contour, the same triangles taken, and the same list from the last
--- corner added, and nothing is pending (`zipped-agrees`).
+-- corner added, and nothing is pending (`zipped-agrees`); so the parts of a mesh are the zippers' (`parts-zipped`).
 -- In order: the statement (`Agree`); what holds between a region and a zipper (`Match`): numbers for the corners, each below their count once, such that the contour is pending
 -- backwards and done, and the stack the edges out of pending corners that have a neighbour; a step of the zipper over an edge without neighbour
--- leaves the region as it is (`match-idle`), any other is a step of both (`match-step`); the end.
+-- leaves the region as it is (`match-idle`), any other is a step of both (`match-step`); the end; all regions.
 -- Assumes an accepted mesh where it says so.
 use mathlib.Core.Path.{_≡_, refl, sym, _∙_, ap, ap₂, subst}
 use mathlib.Core.Bool.{Bool, true, false, cond}
@@ -12,16 +12,16 @@ use native.Mathlib.Omega.{arith}
 use borrow.Author.Tests.{eqb-true, eqb-false, eq-eqb, ne-eqb, ltb-true, ltb-false}
 use lib.Dec.{eqb, ltb}
 use lib.ListN.{length, getD, length-append, length-reverse, length-map, length-reverseAux}
-use Rattle.integers.specs.Lists.{count, upTo, ExactlyOnce, rotate}
+use Rattle.integers.specs.Lists.{All, count, upTo, ExactlyOnce, rotate}
 use Rattle.integers.proofs.Order.{by-test}
-use Rattle.integers.proofs.Counting.{count-cons, count-here, count-append, once-upTo}
+use Rattle.integers.proofs.Counting.{count-cons, count-here, count-append, all-upTo, once-upTo}
 use Rattle.integers.proofs.Rotation.{rotate-append, map-rotate, map-reverse}
 use Rattle.plane.specs.Plane.{O}
 use Rattle.mesh.specs.Mesh.{Triangle, Mesh, none, vertex, neighbour, after, before, triangleAt}
 use Rattle.mesh.proofs.Accepted.{Accepted}
-use Rattle.convex.specs.Joining.{Corner, Edge, Region, stacked, start, pointOf, pointAfter, pointBefore, putAfter, joins, joinsAt, joined, isIn, dropped, step, grow, enough, region, placeOf, fromLast}
+use Rattle.convex.specs.Joining.{Corner, Edge, Region, stacked, start, pointOf, pointAfter, pointBefore, putAfter, joins, joinsAt, joined, isIn, dropped, step, grow, enough, region, regionsFrom, regions, placeOf, fromLast, withoutStraight, contourOf, parts}
 use Rattle.convex.proofs.Ends.{left, step-less, grow-done, grow-step, start-left}
-use Rattle.convex.proofs.Zipper.{Slot, Zipper, startZ, ring, moved, pushed, joinsZ, stepZ, growZ, zipped, fromLastZ}
+use Rattle.convex.specs.Zipper.{Slot, Zipper, startZ, ring, moved, pushed, joinsZ, stepZ, growZ, zipped, fromLastZ, regionsZ, contourZ, partsZ}
 use Rattle.convex.proofs.Lookups.{numbers, points, headNumber, point-rotate, after-rotate, before-rotate, ring-point, ring-before, ring-first, ring-second, put-after, place-of}
 use Rattle.convex.proofs.Slots.{length-ring, far, farSide, growZ-done, growZ-step, Fit, fit-step, fit-start, leftZ, stepZ-less, startZ-left, zipped-ends}
 
@@ -416,3 +416,20 @@ module _ (m : Mesh) (ok : Accepted m) (seen : List ℕ) where
     -- the zipper is the paper's region
     pub zipped-agrees : Agree r z
     zipped-agrees = record { contour = zipped-contour; taken = zipped-taken; pending = zipped-ends m ok seen k l; from-last = zipped-from-last }
+
+-- ---- all regions
+
+module _ (m : Mesh) (ok : Accepted m) where
+  contours-zipped : (seen l : List ℕ) → All (λ i. i < length m) l → map contourZ (regionsZ m seen l) ≡ map contourOf (regionsFrom m seen l)
+  unfolding regionsZ regionsFrom contourOf
+  contours-zipped seen [] b = refl
+  contours-zipped seen (k ∷ l) b = by-test (isIn k seen)
+      (λ t. rw t (contours-zipped seen l (b .1)))
+      (λ t. rw t
+      (let a = zipped-agrees m ok seen k (b .0) in
+      ap₂ _∷_ (ap withoutStraight (sym (a .from-last))) (contours-zipped (seen ++ zipped m seen k .taken) l (b .1) ∙ ap (λ s. map contourOf (regionsFrom m (seen ++ s) l)) (sym (a .taken)))))
+
+  -- the parts of an accepted mesh are the zippers'
+  pub parts-zipped : partsZ m ≡ parts m
+  unfolding partsZ parts regions
+  parts-zipped = contours-zipped [] (upTo (length m)) (all-upTo (length m))

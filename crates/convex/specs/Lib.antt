@@ -1,2 +1,3 @@
 -- Joining (document 01, "Joining").
 pub mod Joining
+pub mod Zipper

@@ -12,7 +12,7 @@ use lib.ListN.{length, getD, drop, drop-of-length-le}
 use lib.Seq.{drop-cons}
 use Rattle.integers.proofs.Order.{by-test}
 use Rattle.integers.proofs.Tests.{either-false}
-use Rattle.mesh.specs.Mesh.{Triangle, Mesh, none, neighbour, triangleAt, noTriangle, someFrom, some, someSide, shared, named, opposite}
+use Rattle.mesh.specs.Mesh.{Triangle, Mesh, none, neighbour, after, triangleAt, noTriangle, someFrom, some, someSide, shared, named, opposite}
 
 -- ---- no triangle, no side
 
@@ -78,6 +78,13 @@ module _ (t : Triangle) (n : ℕ) (h : named t n ≡ 1) where
 
           zero-one : _≡_ {A = ℕ} 0 1 → ⊥
           zero-one e = omega (arith, e)
+
+-- the vertex after any is one of the three
+pub after-side : (i : ℕ) → after i < 3
+unfolding after
+after-side zero = omega arith
+after-side (suc zero) = omega arith
+after-side (suc (suc i)) = omega arith
 
 pub opposite-side : (t : Triangle) (n : ℕ) → opposite t n < 3
 unfolding opposite

@@ -4,9 +4,10 @@ ghost use mathlib.Core.Path.{_≡_};
 ghost use mathlib.Core.Bool.{cond};
 ghost use Prim.Native.Nat.{_<_, _≤_};
 ghost use lib.Dec.{eqb};
+ghost use lib.ListN.{length};
 ghost use Rattle.plane.specs.Machine.{point, CrossSize};
-ghost use Rattle.mesh.specs.Mesh.{vertex, neighbour, named, opposite, triangleArea};
-ghost use Rattle.mesh.specs.Rows.{word, rowTriangle, RowOnGrid};
+ghost use Rattle.mesh.specs.Mesh.{vertex, neighbour, named, after, opposite, triangleAt, triangleArea};
+ghost use Rattle.mesh.specs.Rows.{word, rowTriangle, rowsMesh, RowOnGrid};
 use plane::IntPoint;
 
 // No neighbour (the Rust's NIL_INDEX; document 01: "None is 4,294,967,295").
@@ -50,6 +51,24 @@ pub fn neighbor_of(row: [i32; 9], i: usize) -> usize
     unsigned(row[6 + i]) as usize
 }
 
+// Vertex i of triangle k, read in place: a row that is copied and then asked for a vertex known only at run time waits for its own store.
+pub fn vertex_at(mesh: &[[i32; 9]], k: usize, i: usize) -> IntPoint
+    requires { ⌜ (k < length (now mesh)) × (i < 3) ⌝ }
+    ensures { λ r. ⌜ point r ≡ vertex (triangleAt (rowsMesh (now (mesh .entry))) k) i ⌝ }
+{
+    let x = mesh[k][2 * i];
+    let y = mesh[k][2 * i + 1];
+    IntPoint { x: x, y: y }
+}
+
+// The neighbour across from vertex i of triangle k, read in place.
+pub fn neighbor_at(mesh: &[[i32; 9]], k: usize, i: usize) -> usize
+    requires { ⌜ (k < length (now mesh)) × (i < 3) ⌝ }
+    ensures { λ r. ⌜ r ≡ neighbour (triangleAt (rowsMesh (now (mesh .entry))) k) i ⌝ }
+{
+    unsigned(mesh[k][6 + i]) as usize
+}
+
 // The side that names n, or 2.
 pub fn opposite_of(row: [i32; 9], n: usize) -> usize
     ensures { λ r. ⌜ r ≡ opposite (rowTriangle row) n ⌝ }
@@ -61,6 +80,20 @@ pub fn opposite_of(row: [i32; 9], n: usize) -> usize
         return 1;
     }
     2
+}
+
+// The vertex after vertex i, counter-clockwise.
+pub fn after_of(i: usize) -> usize
+    requires { ⌜ i < 3 ⌝ }
+    ensures { λ r. ⌜ (r ≡ after i) × (r < 3) ⌝ }
+{
+    if i == 0 {
+        return 1;
+    }
+    if i == 1 {
+        return 2;
+    }
+    0
 }
 
 // 1 where the two are equal, else 0.

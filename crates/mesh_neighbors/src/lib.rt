@@ -4,7 +4,7 @@ ghost use mathlib.Core.Path.{_≡_};
 ghost use mathlib.Core.Bool.{false};
 ghost use Prim.Native.Nat.{_<_};
 ghost use lib.ListN.{length};
-ghost use Rattle.mesh.specs.Mesh.{triangleAt, someSide, shared, strays, misnames, mismatches, strayNeighbour, misnamed, mismatched, runsOppositely, after};
+ghost use Rattle.mesh.specs.Mesh.{triangleAt, someSide, shared, strays, misnames, mismatches, strayNeighbour, misnamed, mismatched, runsOppositely};
 ghost use Rattle.mesh.specs.Rows.{rowTriangle, rowsMesh};
 use mesh::NIL_INDEX;
 
@@ -95,29 +95,21 @@ pub fn misnamed(mesh: &[[i32; 9]]) -> bool
     false
 }
 
-// The vertex after vertex i, counter-clockwise.
-fn after_of(i: usize) -> usize
-    requires { ⌜ i < 3 ⌝ }
-    ensures { λ r. ⌜ (r ≡ after i) × (r < 3) ⌝ }
+// Whether side i of a row and side j of triangle n have the same ends and run oppositely.
+fn runs_oppositely(t: [i32; 9], i: usize, mesh: &[[i32; 9]], n: usize, j: usize) -> bool
+    requires { ⌜ (i < 3) × (n < length (now mesh)) × (j < 3) ⌝ }
+    ensures { λ r. ⌜ r ≡ runsOppositely (rowTriangle t) i (triangleAt (rowsMesh (now (mesh .entry))) n) j ⌝ }
 {
-    if i == 0 {
-        return 1;
-    }
-    if i == 1 {
-        return 2;
-    }
-    0
-}
-
-// Whether side i of a row and side j of another have the same ends and run oppositely.
-fn runs_oppositely(t: [i32; 9], i: usize, u: [i32; 9], j: usize) -> bool
-    requires { ⌜ (i < 3) × (j < 3) ⌝ }
-    ensures { λ r. ⌜ r ≡ runsOppositely (rowTriangle t) i (rowTriangle u) j ⌝ }
-{
-    let i1 = after_of(i);
-    let j1 = after_of(j);
-    if plane::same_point(mesh::vertex_of(t, i1), mesh::vertex_of(u, after_of(j1))) {
-        return plane::same_point(mesh::vertex_of(t, after_of(i1)), mesh::vertex_of(u, j1));
+    let i1 = mesh::after_of(i);
+    let j1 = mesh::after_of(j);
+    if plane::same_point(
+        mesh::vertex_of(t, i1),
+        mesh::vertex_at(mesh, n, mesh::after_of(j1)),
+    ) {
+        return plane::same_point(
+            mesh::vertex_of(t, mesh::after_of(i1)),
+            mesh::vertex_at(mesh, n, j1),
+        );
     }
     false
 }
@@ -133,7 +125,7 @@ fn side_mismatches(mesh: &[[i32; 9]], i: usize, k: usize) -> bool
         return false;
     }
     let far = mesh[n];
-    !runs_oppositely(row, i, far, mesh::opposite_of(far, k))
+    !runs_oppositely(row, i, mesh, n, mesh::opposite_of(far, k))
 }
 
 // Whether any side of triangle k does.

@@ -29,6 +29,7 @@ pub const FAULT_CORNER_ROOM: u32 = 21;
 pub const FAULT_START_ROOM: u32 = 22;
 
 // What a call that writes a table answers: the fault number, 0 for none, and how many parts and corners were written, 0 where it refused.
+#[repr(C)]
 pub struct Counts {
     pub fault: u32,
     pub parts: u32,

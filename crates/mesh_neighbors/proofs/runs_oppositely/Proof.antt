@@ -33,8 +33,8 @@ vertex-of-requires c κs = search needs
 after-of-requires-3 : tie.Need-after-of-requires-3
 after-of-requires-3 c κs = search needs
 
-vertex-of-requires-2 : tie.Need-vertex-of-requires-2
-vertex-of-requires-2 c κs = search needs
+vertex-at-requires : tie.Need-vertex-at-requires
+vertex-at-requires c κs = search needs
 
 same-point-requires : tie.Need-same-point-requires
 same-point-requires c κs = search needs
@@ -42,11 +42,11 @@ same-point-requires c κs = search needs
 after-of-requires-4 : tie.Need-after-of-requires-4
 after-of-requires-4 c κs = search needs
 
-vertex-of-requires-3 : tie.Need-vertex-of-requires-3
-vertex-of-requires-3 c κs = search needs
+vertex-of-requires-2 : tie.Need-vertex-of-requires-2
+vertex-of-requires-2 c κs = search needs
 
-vertex-of-requires-4 : tie.Need-vertex-of-requires-4
-vertex-of-requires-4 c κs = search needs
+vertex-at-requires-2 : tie.Need-vertex-at-requires-2
+vertex-at-requires-2 c κs = search needs
 
 same-point-requires-2 : tie.Need-same-point-requires-2
 same-point-requires-2 c κs = search needs
@@ -57,15 +57,15 @@ returns c =
     let e = g .before .before in
     let f = e .before .before .before .before .before in
     let s = f .before in
-    same-start _ (s .args .i) _ (s .args .j) (f .after-of .ensures .0) (e .before .before .before .before .after-of2 .ensures .0) (e .before .before .after-of3 .ensures .0) (e .before .before .before .vertex-of .ensures) (e .before .vertex-of2 .ensures) (e .same-point .ensures)
-    (g .after-of4 .ensures .0) (c .before .before .vertex-of3 .ensures) (c .before .vertex-of4 .ensures) (c .same-point2 .ensures) (g .before .if1 .taken)
+    same-start _ (s .args .i) _ (s .args .j) (f .after-of .ensures .0) (e .before .before .before .before .after-of2 .ensures .0) (e .before .before .after-of3 .ensures .0) (e .before .before .before .vertex-of .ensures) (e .before .vertex-at .ensures) (e .same-point .ensures)
+    (g .after-of4 .ensures .0) (c .before .before .vertex-of2 .ensures) (c .before .vertex-at2 .ensures) (c .same-point2 .ensures) (g .before .if1 .taken)
 
 returns-2 : tie.Need-returns-2
 returns-2 c =
     let e = c .before in
     let f = e .before .before .before .before .before in
     let s = f .before in
-    other-start _ (s .args .i) _ (s .args .j) (f .after-of .ensures .0) (e .before .before .before .before .after-of2 .ensures .0) (e .before .before .after-of3 .ensures .0) (e .before .before .before .vertex-of .ensures) (e .before .vertex-of2 .ensures) (e .same-point .ensures)
+    other-start _ (s .args .i) _ (s .args .j) (f .after-of .ensures .0) (e .before .before .before .before .after-of2 .ensures .0) (e .before .before .after-of3 .ensures .0) (e .before .before .before .vertex-of .ensures) (e .before .vertex-at .ensures) (e .same-point .ensures)
     (c .if1 .left)
 
 pub runs-oppositely-spec : {M : Type 1} → statement M
@@ -76,11 +76,11 @@ runs-oppositely-spec =
     after-of-requires-2
     vertex-of-requires
     after-of-requires-3
-    vertex-of-requires-2
+    vertex-at-requires
     same-point-requires
     after-of-requires-4
-    vertex-of-requires-3
-    vertex-of-requires-4
+    vertex-of-requires-2
+    vertex-at-requires-2
     same-point-requires-2
     returns
     returns-2)

@@ -23,12 +23,12 @@ module _ (rows : List (List ℤ)) (i k : ℕ) (h : (i < 3) × (k < length rows) 
   nothing : n ≡ none → false ≡ shared (triangleAt (rowsMesh rows) k) test i
   nothing q = shared-none (triangleAt (rowsMesh rows) k) test i (row-side rows i k h e) q
 
-  -- rows k and n are triangles k and n
-  met : {j : ℕ} {b : Bool} → (n ≡ none → ⊥) → j ≡ opposite (rowTriangle (getD rows n [])) k → b ≡ runsOppositely (rowTriangle (getD rows k [])) i (rowTriangle (getD rows n [])) j → not b ≡ shared (triangleAt (rowsMesh rows) k) test i
+  -- row k is triangle k, and row n triangle n
+  met : {j : ℕ} {b : Bool} → (n ≡ none → ⊥) → j ≡ opposite (rowTriangle (getD rows n [])) k → b ≡ runsOppositely (rowTriangle (getD rows k [])) i (triangleAt (rowsMesh rows) n) j → not b ≡ shared (triangleAt (rowsMesh rows) k) test i
   met d f g =
       shared-by (triangleAt (rowsMesh rows) k) test i (row-side rows i k h e) d
-      (ap not (g ∙ ap (runsOppositely (rowTriangle (getD rows k [])) i (rowTriangle (getD rows n []))) f)
-      ∙ (λ x. not (runsOppositely (sym (triangle-row rows k (h .1)) x) i (sym (triangle-row rows n (inside rows i k h e d)) x) (opposite (sym (triangle-row rows n (inside rows i k h e d)) x) k))))
+      (ap not (g ∙ ap (runsOppositely (rowTriangle (getD rows k [])) i (triangleAt (rowsMesh rows) n)) (f ∙ ap (λ t. opposite t k) (sym (triangle-row rows n (inside rows i k h e d)))))
+      ∙ (λ x. not (runsOppositely (sym (triangle-row rows k (h .1)) x) i (triangleAt (rowsMesh rows) n) (opposite (triangleAt (rowsMesh rows) n) k))))
 
 mul-row : tie.Need-mul-row
 mul-row c = search needs
@@ -58,7 +58,9 @@ side-below : {j : ℕ} (t : List ℤ) (k : ℕ) → j ≡ opposite (rowTriangle 
 side-below t k e = omega (arith, e, opposite-side (rowTriangle t) k)
 
 runs-oppositely-requires : tie.Need-runs-oppositely-requires
-runs-oppositely-requires c κs = let s = c .before .before .before .before .before in (s .pre .0, side-below _ (s .args .k) (c .opposite-of .ensures))
+runs-oppositely-requires c κs =
+    let s = c .before .before .before .before .before in
+    (s .pre .0, shared-slice-copy-out-far (c .before .before), side-below _ (s .args .k) (c .opposite-of .ensures))
 
 returns-2 : tie.Need-returns-2
 returns-2 c =

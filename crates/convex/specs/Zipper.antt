@@ -1,15 +1,16 @@
 -- Joining without numbers for corners: the contour is a zipper. The stacked edges lie in contour order with the top last, and what comes after the
 -- edge taken is final; so the region is its pending corners, each with its outgoing edge, the top first, and its done corners, the first first.
--- Slots names the sides that pending corners stand for, Zipped shows that this is the paper's region. Assumes nothing.
+-- The code works so, and its inner contracts say so; what a reader must believe is Joining alone, for proofs/Zipped shows that this is the paper's
+-- region, and `partsZ` the paper's parts. Assumes nothing.
 use mathlib.Core.Bool.{Bool, true, false, cond}
 use mathlib.Core.List.{List, [], _∷_, _++_, map, reverse}
-use Prim.Native.Nat.{ℕ, zero, suc, _+_, _*_, _-_}
+use Prim.Native.Nat.{ℕ, zero, suc, _-_}
 use lib.Dec.{eqb}
 use lib.ListN.{length, getD}
-use Rattle.integers.specs.Lists.{rotate}
+use Rattle.integers.specs.Lists.{rotate, upTo}
 use Rattle.plane.specs.Plane.{Pt, O}
 use Rattle.mesh.specs.Mesh.{Triangle, Mesh, none, vertex, neighbour, after, before, triangleAt, opposite}
-use Rattle.convex.specs.Joining.{joins, isIn}
+use Rattle.convex.specs.Joining.{joins, isIn, enough, withoutStraight}
 
 -- a pending corner with the edge out of it: the triangle inside and the neighbour across, or none
 pub record Slot : Type 0 where
@@ -76,8 +77,20 @@ growZ zero m seen z = z
 growZ (suc n) m seen z = elim (z .pending) [ [] ↦ z | x ∷ rest ↦ growZ n m seen (stepZ m seen x rest z) ]
 
 abbrev pub zipped : Mesh → List ℕ → ℕ → Zipper
-zipped m seen k = growZ (2 * length m + 3) m seen (startZ k (triangleAt m k))
+zipped m seen k = growZ (enough m) m seen (startZ k (triangleAt m k))
 
 -- the contour from the last corner added
 abbrev pub fromLastZ : Zipper → List Pt
 fromLastZ z = rotate (length (z .done) - z .last) (z .done)
+
+-- ---- all regions, as Joining's `regionsFrom` and `parts`
+
+unfoldable pub regionsZ : Mesh → List ℕ → List ℕ → List Zipper
+regionsZ m seen [] = []
+regionsZ m seen (k ∷ l) = cond (isIn k seen) (regionsZ m seen l) (zipped m seen k ∷ regionsZ m (seen ++ zipped m seen k .taken) l)
+
+abbrev pub contourZ : Zipper → List Pt
+contourZ z = withoutStraight (fromLastZ z)
+
+unfoldable pub partsZ : Mesh → List (List Pt)
+partsZ m = map contourZ (regionsZ m [] (upTo (length m)))

@@ -1,10 +1,10 @@
--- `mesh_neighbors::after_of` meets its contract. Assumes nothing.
+-- `mesh::after_of` meets its contract. Assumes nothing.
 use mathlib.Core.Path.{_≡_, refl, sym, ap}
 use Prim.Native.Nat.{ℕ, zero, suc, _<_}
 use native.Mathlib.Omega.{arith}
 use Rattle.mesh.specs.Mesh.{after}
-use Rattle.mesh_neighbors.proofs.after_of.Statement.{statement}
-use Rattle.mesh_neighbors.proofs.after_of.Tie as tie
+use Rattle.mesh.proofs.after_of.Statement.{statement}
+use Rattle.mesh.proofs.after_of.Tie as tie
 
 last : (i : ℕ) → (i ≡ 0 → ⊥) → (i ≡ 1 → ⊥) → _≡_ {A = ℕ} 0 (after i)
 unfolding after

@@ -1,0 +1,2 @@
+-- A whole region's contour, read and appended.
+pub mod Contours

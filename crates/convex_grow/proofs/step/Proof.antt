@@ -1,0 +1,153 @@
+-- `convex_grow::step` meets its contract: what is across by Choice, `moved-step` and `pushed-step` of Steps. Assumes nothing.
+use borrow.Author.Needs.{needs}
+use mathlib.Core.Path.{refl, _∙_}
+use Rattle.mesh.specs.Rows.{rowsMesh}
+use Rattle.convex_ring.proofs.Reading.{side-below, around-of}
+use Rattle.convex_grow.proofs.Choice.{nothing, in-rows, in-flags, skipped, far-side, far-grid, joined, apart}
+use Rattle.convex_grow.proofs.Steps.{stepped-by, moved-step, push-room, pushed-step}
+use Rattle.convex_grow.proofs.step.Statement.{statement}
+use Rattle.convex_grow.proofs.step.Tie as tie
+
+sub-edge : tie.Need-sub-edge
+sub-edge c = search needs
+
+mul-edge : tie.Need-mul-edge
+mul-edge c = search needs
+
+slice-copy-out-edge : tie.Need-slice-copy-out-edge
+slice-copy-out-edge c = search needs
+
+array-read-inside : tie.Need-array-read-inside
+array-read-inside c = search needs
+
+array-read-across : tie.Need-array-read-across
+array-read-across c = search needs
+
+move-top-requires : tie.Need-move-top-requires
+move-top-requires c κs = search needs
+
+same-length : tie.Need-same-length
+same-length c = search needs
+
+returns : tie.Need-returns
+returns c =
+    let s = c .before .before .before .before .before .before in
+    let g = s .args in
+    stepped-by (c .before .move-top .ensures .0) refl refl (c .before .move-top .ensures .1) (moved-step (rowsMesh (g .mesh .now)) (g .corners .now) (g .edges .now) (g .taken .now) (g .p) (s .pre .0) (s .pre .1) (nothing (g .mesh .now) (g .corners .now) (g .edges .now) (g .taken .now) (g .p) (s .pre .0) (c .before .before .before .if1 .taken)))
+
+slice-read-if2 : tie.Need-slice-read-if2
+slice-read-if2 c =
+    let s = c .before .before .before .before in
+    let g = s .args in
+    in-flags (g .mesh .now) (g .corners .now) (g .edges .now) (g .taken .now) (g .p) (s .pre .0) (c .before .if1 .left)
+
+move-top-requires-2 : tie.Need-move-top-requires-2
+move-top-requires-2 c κs = search needs
+
+same-length-2 : tie.Need-same-length-2
+same-length-2 c = search needs
+
+returns-2 : tie.Need-returns-2
+returns-2 c =
+    let s = c .before .before .before .before .before .before .before .before in
+    let g = s .args in
+    stepped-by (c .before .move-top2 .ensures .0) refl refl (c .before .move-top2 .ensures .1) (moved-step (rowsMesh (g .mesh .now)) (g .corners .now) (g .edges .now) (g .taken .now) (g .p) (s .pre .0) (s .pre .1) (skipped (g .mesh .now) (g .corners .now) (g .edges .now) (g .taken .now) (g .p) (s .pre .0) (c .before .before .before .before .before .if1 .left) (c .before .before .before .if2 .taken)))
+
+mul-opposite-of : tie.Need-mul-opposite-of
+mul-opposite-of c =
+    let s = c .before .before .before .before .before in
+    let g = s .args in
+    let h = in-rows (g .mesh .now) (g .corners .now) (g .edges .now) (g .taken .now) (g .p) (s .pre .0) (c .before .before .if1 .left) in
+    search needs
+
+shared-slice-copy-out-opposite-of : tie.Need-shared-slice-copy-out-opposite-of
+shared-slice-copy-out-opposite-of c =
+    let s = c .before .before .before .before .before in
+    let g = s .args in
+    in-rows (g .mesh .now) (g .corners .now) (g .edges .now) (g .taken .now) (g .p) (s .pre .0) (c .before .before .if1 .left)
+
+opposite-of-requires : tie.Need-opposite-of-requires
+opposite-of-requires c κs = search needs
+
+vertex-at-requires : tie.Need-vertex-at-requires
+vertex-at-requires c κs =
+    let s = c .before .before .before .before .before .before .before in
+    let g = s .args in
+    (in-rows (g .mesh .now) (g .corners .now) (g .edges .now) (g .taken .now) (g .p) (s .pre .0) (c .before .before .before .before .if1 .left), side-below _ _ (c .opposite-of .ensures))
+
+joins-over-requires : tie.Need-joins-over-requires
+joins-over-requires c κs =
+    let s = c .before .before .before .before .before .before .before .before .before in
+    let g = s .args in
+    (around-of (rowsMesh (g .mesh .now)) (g .corners .now) (g .edges .now) (g .taken .now) (g .p) (s .pre .0) (s .pre .1), far-grid (g .mesh .now) (g .corners .now) (g .edges .now) (g .taken .now) (g .p) (s .pre .0) (c .before .before .before .before .before .before .if1 .left) (c .before .before .opposite-of .ensures) (c .before .vertex-at .ensures))
+
+slice-write-taken : tie.Need-slice-write-taken
+slice-write-taken c =
+    let s = c .before .before .before .before .before .before .before .before .before .before .before in
+    let g = s .args in
+    in-flags (g .mesh .now) (g .corners .now) (g .edges .now) (g .taken .now) (g .p) (s .pre .0) (c .before .before .before .before .before .before .before .before .if1 .left)
+
+push-requires : tie.Need-push-requires
+push-requires c κs =
+    let s = c .before .before .before .before .before .before .before .before .before .before .before .before .before in
+    let g = s .args in
+    let n = c .before .before .before .before .before .before .before .before .before .before .if1 .left in
+    (s .pre .0 .ready .corners, s .pre .0 .ready .edges, s .pre .1, push-room (rowsMesh (g .mesh .now)) (g .corners .now) (g .edges .now) (g .taken .now) (g .p) (s .pre .0) (s .pre .1) (λ e. n (joined (g .mesh .now) (g .corners .now) (g .edges .now) (g .taken .now) (g .p) (s .pre .0) (c .before .before .before .before .before .before .before .before .before .before .if1 .left) (c .before .before .before .before .before .before .opposite-of .ensures) (c .before .before .before .before .before .vertex-at .ensures) (c .before .before .before .before .before .before .before .before .if2 .left) (c .before .before .before .joins-over .ensures) (c .before .before .if3 .taken) ∙ e)), in-rows (g .mesh .now) (g .corners .now) (g .edges .now) (g .taken .now) (g .p) (s .pre .0) n, side-below _ _ (c .before .before .before .before .before .before .opposite-of .ensures))
+
+same-length-3 : tie.Need-same-length-3
+same-length-3 c = search needs
+
+same-length-4 : tie.Need-same-length-4
+same-length-4 c = search needs
+
+same-length-5 : tie.Need-same-length-5
+same-length-5 c = search needs
+
+returns-3 : tie.Need-returns-3
+returns-3 c =
+    let s = c .before .before .before .before .before .before .before .before .before .before .before .before .before .before .before .before in
+    let g = s .args in
+    pushed-step (rowsMesh (g .mesh .now)) (g .corners .now) (g .edges .now) (g .taken .now) (g .p) (s .pre .0) (s .pre .1) (joined (g .mesh .now) (g .corners .now) (g .edges .now) (g .taken .now) (g .p) (s .pre .0) (c .before .before .before .before .before .before .before .before .before .before .before .before .before .if1 .left) (c .before .before .before .before .before .before .before .before .before .opposite-of .ensures) (c .before .before .before .before .before .before .before .before .vertex-at .ensures) (c .before .before .before .before .before .before .before .before .before .before .before .if2 .left) (c .before .before .before .before .before .before .joins-over .ensures) (c .before .before .before .before .before .if3 .taken)) (c .before .before .before .before .before .before .before .before .before .before .before .before .before .if1 .left) (far-side (g .mesh .now) (g .corners .now) (g .edges .now) (g .taken .now) (g .p) (s .pre .0) (c .before .before .before .before .before .before .before .before .before .before .before .before .before .if1 .left) (c .before .before .before .before .before .before .before .before .before .opposite-of .ensures) (c .before .before .before .before .before .before .before .before .vertex-at .ensures)) (c .before .before .before .before .before .before .before .before .vertex-at .ensures) (c .before .before .push .ensures .0) (c .before .before .push .ensures .1 .0) (c .before .before .push .ensures .1 .1)
+
+move-top-requires-3 : tie.Need-move-top-requires-3
+move-top-requires-3 c κs = search needs
+
+same-length-6 : tie.Need-same-length-6
+same-length-6 c = search needs
+
+returns-4 : tie.Need-returns-4
+returns-4 c =
+    let s = c .before .before .before .before .before .before .before .before .before .before .before .before .before .before in
+    let g = s .args in
+    stepped-by (c .before .move-top3 .ensures .0) refl refl (c .before .move-top3 .ensures .1) (moved-step (rowsMesh (g .mesh .now)) (g .corners .now) (g .edges .now) (g .taken .now) (g .p) (s .pre .0) (s .pre .1) (apart (g .mesh .now) (g .corners .now) (g .edges .now) (g .taken .now) (g .p) (s .pre .0) (c .before .before .before .before .before .before .before .before .before .before .before .if1 .left) (c .before .before .before .before .before .before .before .opposite-of .ensures) (c .before .before .before .before .before .before .vertex-at .ensures) (c .before .before .before .before .before .before .before .before .before .if2 .left) (c .before .before .before .before .joins-over .ensures) (c .before .before .before .if3 .left)))
+
+pub step-spec : {M : Type 1} → statement M
+step-spec =
+    tie.close
+    (tie.spec
+    sub-edge
+    mul-edge
+    slice-copy-out-edge
+    array-read-inside
+    array-read-across
+    move-top-requires
+    same-length
+    returns
+    slice-read-if2
+    move-top-requires-2
+    same-length-2
+    returns-2
+    mul-opposite-of
+    shared-slice-copy-out-opposite-of
+    opposite-of-requires
+    vertex-at-requires
+    joins-over-requires
+    slice-write-taken
+    push-requires
+    same-length-3
+    same-length-4
+    same-length-5
+    returns-3
+    move-top-requires-3
+    same-length-6
+    returns-4)

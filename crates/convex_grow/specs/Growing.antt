@@ -1,0 +1,48 @@
+-- What growing a region leaves in its buffers: after one step (`Stepped`), and after all (`Grown`), the buffers hold the zipper of Zipper.antt. Assumes nothing.
+use mathlib.Core.Path.{_≡_}
+use mathlib.Core.Bool.{Bool, true, false, cond}
+use mathlib.Core.List.{List}
+use Prim.Native.Nat.{ℕ, _+_, _*_, _-_, _≤_, _<_}
+use lib.ListN.{length}
+use lib.IntN.{ℤ}
+use Rattle.mesh.specs.Mesh.{Mesh, triangleAt}
+use Rattle.convex.specs.Zipper.{Zipper, startZ, stepZ, growZ, zipped}
+use Rattle.convex_ring.specs.declared.Progress.{Progress}
+use Rattle.convex_ring.specs.Buffers.{slotAt, pendingOf, free, Marked, Holds, Sound}
+
+-- ---- one step
+
+-- the counts after the top corner was done
+abbrev pub movedBy : Progress → Progress
+movedBy p = record { pending = p .pending - 1; done = p .done - 1; last = cond (p .fresh) (p .done - 1) (p .last); fresh = false }
+
+-- the counts after a corner was put on top
+abbrev pub pushedBy : Progress → Progress
+pushedBy p = record { pending = p .pending + 1; done = p .done; last = p .last; fresh = true }
+
+pub record Stepped (m : Mesh) (cs : List (List ℤ)) (es : List (List ℕ)) (flags : List Bool) (p : Progress) (cs′ : List (List ℤ)) (es′ : List (List ℕ)) (flags′ : List Bool) (p′ : Progress) : Type 0 where
+  pub sound : Sound m cs′ es′ flags′ p′
+  pub less : p′ .pending + 2 * free flags′ < p .pending + 2 * free flags
+  pub kept : p′ .pending + free flags′ + p .done ≡ p .pending + free flags + p′ .done
+  pub holds : (seen : List ℕ) (z : Zipper) → Holds cs es flags p seen z → Holds cs′ es′ flags′ p′ seen (stepZ m seen (slotAt cs es (p .pending - 1)) (pendingOf cs es (p .pending - 1)) z)
+
+-- ---- a region, from its first triangle until nothing is pending
+
+pub record Started (m : Mesh) (k : ℕ) (flags : List Bool) (cs′ : List (List ℤ)) (es′ : List (List ℕ)) (flags′ : List Bool) (p′ : Progress) : Type 0 where
+  pub sound : Sound m cs′ es′ flags′ p′
+  pub enough : p′ .pending + 2 * free flags′ ≤ 2 * length m + 3
+  pub kept : p′ .pending + free flags′ + 1026 ≡ 2 + free flags + p′ .done
+  pub holds : (seen : List ℕ) → Marked flags seen → Holds cs′ es′ flags′ p′ seen (startZ k (triangleAt m k))
+
+-- n steps are enough
+pub record Ran (m : Mesh) (cs : List (List ℤ)) (es : List (List ℕ)) (flags : List Bool) (p : Progress) (cs′ : List (List ℤ)) (es′ : List (List ℕ)) (flags′ : List Bool) (p′ : Progress) : Type 0 where
+  pub sound : Sound m cs′ es′ flags′ p′
+  pub empty : p′ .pending ≡ 0
+  pub kept : p′ .pending + free flags′ + p .done ≡ p .pending + free flags + p′ .done
+  pub holds : (seen : List ℕ) (z : Zipper) (n : ℕ) → Holds cs es flags p seen z → p .pending + 2 * free flags ≤ n → Holds cs′ es′ flags′ p′ seen (growZ n m seen z)
+
+pub record Grown (m : Mesh) (k : ℕ) (flags : List Bool) (cs′ : List (List ℤ)) (es′ : List (List ℕ)) (flags′ : List Bool) (p′ : Progress) : Type 0 where
+  pub sound : Sound m cs′ es′ flags′ p′
+  pub empty : p′ .pending ≡ 0
+  pub kept : free flags′ + 1026 ≡ 2 + free flags + p′ .done
+  pub holds : (seen : List ℕ) → Marked flags seen → Holds cs′ es′ flags′ p′ seen (zipped m seen k)

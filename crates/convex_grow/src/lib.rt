@@ -1,0 +1,181 @@
+// A region grown from its first triangle until nothing is pending (`grow`, the Rust's inner loop in advanced/convex.rs): its buffers then hold the
+// whole contour, done (specs/Growing.antt). Leans on convex_ring and mesh.
+ghost use mathlib.Core.Path.{_≡_};
+ghost use mathlib.Core.Bool.{true, false};
+ghost use mathlib.Core.List.{_∷_, []};
+ghost use Prim.Native.Nat.{_+_, _-_, _<_, _≤_};
+ghost use lib.ListN.{length, getD, set};
+ghost use Rattle.plane.specs.Machine.{point};
+ghost use Rattle.mesh.specs.Mesh.{vertex, neighbour, after, before, triangleAt};
+ghost use Rattle.mesh.specs.Rows.{rowTriangle, rowsMesh};
+ghost use Rattle.convex_ring.specs.Buffers.{pairOf, Ready, Sound};
+ghost use Rattle.convex_grow.specs.Growing.{movedBy, pushedBy, Stepped, Started, Ran, Grown};
+use convex_ring::Progress;
+use mesh::NIL_INDEX;
+use plane::IntPoint;
+use table::MAX_CONTOUR;
+
+// The top corner is done.
+fn move_top(corners: &mut [[i32; 2]], p: Progress) -> Progress
+    requires { ⌜ (length (now corners) ≡ 1026) × (0 < p .pending) × (p .pending ≤ p .done) × (p .done ≤ 1026) ⌝ }
+    ensures buffer { λ r. ⌜ now (corners .exit) ≡ set (now (corners .entry)) (p .done - 1) (getD (now (corners .entry)) (p .pending - 1) []) ⌝ }
+    ensures counts { λ r. ⌜ r ≡ movedBy p ⌝ }
+{
+    let top = p.pending - 1;
+    let first = p.done - 1;
+    let c = corners[top];
+    corners[first] = c;
+    if p.fresh {
+        return Progress {
+            pending: top,
+            done: first,
+            last: first,
+            fresh: false,
+        };
+    }
+    Progress {
+        pending: top,
+        done: first,
+        last: p.last,
+        fresh: false,
+    }
+}
+
+// The edge out of the corner at i.
+fn put_edge(edges: &mut [[usize; 2]], i: usize, inside: usize, across: usize)
+    requires { ⌜ i < length (now edges) ⌝ }
+    ensures { λ r. ⌜ now (edges .exit) ≡ set (now (edges .entry)) i (inside ∷ across ∷ []) ⌝ }
+{
+    edges[i] = [inside, across];
+}
+
+// The point far, vertex v of triangle k, is put after the top corner, with the two new edges.
+fn push(
+    mesh: &[[i32; 9]],
+    corners: &mut [[i32; 2]],
+    edges: &mut [[usize; 2]],
+    k: usize,
+    v: usize,
+    far: IntPoint,
+    p: Progress,
+) -> Progress
+    requires { ⌜ (length (now corners) ≡ 1026) × (length (now edges) ≡ 1026) × (0 < p .pending) × (p .pending < 1026) × (k < length (now mesh)) × (v < 3) ⌝ }
+    ensures buffer { λ r. ⌜ now (corners .exit) ≡ set (now (corners .entry)) (p .pending) (pairOf (point far)) ⌝ }
+    ensures both { λ r. ⌜ now (edges .exit) ≡ set (set (now (edges .entry)) (p .pending - 1) (k ∷ neighbour (triangleAt (rowsMesh (now (mesh .entry))) k) (after v) ∷ [])) (p .pending) (k ∷ neighbour (triangleAt (rowsMesh (now (mesh .entry))) k) (before v) ∷ []) ⌝ }
+    ensures counts { λ r. ⌜ r ≡ pushedBy p ⌝ }
+{
+    let top = p.pending;
+    let side = mesh::after_of(v);
+    let end = mesh::after_of(side);
+    put_edge(edges, top - 1, k, mesh::neighbor_at(mesh, k, side));
+    put_edge(edges, top, k, mesh::neighbor_at(mesh, k, end));
+    convex_ring::put_corner(corners, top, far);
+    Progress {
+        pending: top + 1,
+        done: p.done,
+        last: p.last,
+        fresh: true,
+    }
+}
+
+// One edge is taken from the top: the triangle across joins, or the top corner is done.
+fn step(
+    mesh: &[[i32; 9]],
+    corners: &mut [[i32; 2]],
+    edges: &mut [[usize; 2]],
+    taken: &mut [bool],
+    p: Progress,
+) -> Progress
+    requires { ⌜ Sound (rowsMesh (now mesh)) (now corners) (now edges) (now taken) p × (0 < p .pending) ⌝ }
+    ensures { λ r. ⌜ Stepped (rowsMesh (now (mesh .entry))) (now (corners .entry)) (now (edges .entry)) (now (taken .entry)) p (now (corners .exit)) (now (edges .exit)) (now (taken .exit)) r ⌝ }
+{
+    let pending = p.pending;
+    let edge = edges[pending - 1];
+    let inside = edge[0];
+    let across = edge[1];
+    if across == NIL_INDEX {
+        return move_top(corners, p);
+    }
+    if taken[across] {
+        return move_top(corners, p);
+    }
+    let v = mesh::opposite_of(mesh[across], inside);
+    let far = mesh::vertex_at(mesh, across, v);
+    if convex_ring::joins_over(corners, far, pending, p.done) {
+        taken[across] = true;
+        return push(mesh, corners, edges, across, v, far, p);
+    }
+    move_top(corners, p)
+}
+
+// Vertex i of triangle k as pending corner i, with the edge to the next vertex.
+fn put_vertex(corners: &mut [[i32; 2]], edges: &mut [[usize; 2]], row: [i32; 9], k: usize, i: usize)
+    requires { ⌜ (length (now corners) ≡ 1026) × (length (now edges) ≡ 1026) × (i < 3) ⌝ }
+    ensures buffer { λ r. ⌜ now (corners .exit) ≡ set (now (corners .entry)) i (pairOf (vertex (rowTriangle row) i)) ⌝ }
+    ensures edge { λ r. ⌜ now (edges .exit) ≡ set (now (edges .entry)) i (k ∷ neighbour (rowTriangle row) (before i) ∷ []) ⌝ }
+{
+    convex_ring::put_corner(corners, i, mesh::vertex_of(row, i));
+    put_edge(
+        edges,
+        i,
+        k,
+        mesh::neighbor_of(row, mesh::after_of(mesh::after_of(i))),
+    );
+}
+
+// Triangle k, which is not taken, starts a region.
+fn start_region(
+    mesh: &[[i32; 9]],
+    corners: &mut [[i32; 2]],
+    edges: &mut [[usize; 2]],
+    taken: &mut [bool],
+    k: usize,
+) -> Progress
+    requires { ⌜ Ready (rowsMesh (now mesh)) (now corners) (now edges) (now taken) × (k < length (now mesh)) × (getD (now taken) k false ≡ false) ⌝ }
+    ensures { λ r. ⌜ Started (rowsMesh (now (mesh .entry))) k (now (taken .entry)) (now (corners .exit)) (now (edges .exit)) (now (taken .exit)) r ⌝ }
+{
+    let row = mesh[k];
+    put_vertex(corners, edges, row, k, 0);
+    put_vertex(corners, edges, row, k, 1);
+    put_vertex(corners, edges, row, k, 2);
+    taken[k] = true;
+    Progress {
+        pending: 3,
+        done: MAX_CONTOUR,
+        last: MAX_CONTOUR,
+        fresh: true,
+    }
+}
+
+// Edges are taken from the top until none is pending.
+fn run(
+    mesh: &[[i32; 9]],
+    corners: &mut [[i32; 2]],
+    edges: &mut [[usize; 2]],
+    taken: &mut [bool],
+    from: Progress,
+) -> Progress
+    requires { ⌜ Sound (rowsMesh (now mesh)) (now corners) (now edges) (now taken) from ⌝ }
+    ensures { λ r. ⌜ Ran (rowsMesh (now (mesh .entry))) (now (corners .entry)) (now (edges .entry)) (now (taken .entry)) from (now (corners .exit)) (now (edges .exit)) (now (taken .exit)) r ⌝ }
+{
+    let mut p = from;
+    while p.pending > 0 {
+        p = step(mesh, corners, edges, taken, p);
+    }
+    p
+}
+
+// The region that starts with triangle k, which is not taken: its corners are done, from `done` to the end of the buffer.
+pub fn grow(
+    mesh: &[[i32; 9]],
+    corners: &mut [[i32; 2]],
+    edges: &mut [[usize; 2]],
+    taken: &mut [bool],
+    k: usize,
+) -> Progress
+    requires { ⌜ Ready (rowsMesh (now mesh)) (now corners) (now edges) (now taken) × (k < length (now mesh)) × (getD (now taken) k false ≡ false) ⌝ }
+    ensures { λ r. ⌜ Grown (rowsMesh (now (mesh .entry))) k (now (taken .entry)) (now (corners .exit)) (now (edges .exit)) (now (taken .exit)) r ⌝ }
+{
+    let p = start_region(mesh, corners, edges, taken, k);
+    run(mesh, corners, edges, taken, p)
+}

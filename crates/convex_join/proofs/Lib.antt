@@ -1,0 +1,3 @@
+-- All regions gathered, and the answer.
+pub mod Regions
+pub mod Answer

@@ -1,0 +1,247 @@
+-- All regions: starts and corners of one part more (`starts-more`, `flatten-more`); a region gathered (`contour-whole`, `contour-room`, `joined`);
+-- a triangle visited (`visited-skip`, `visited-join`); all of them (`Visiting`: `visiting-start`, `visiting-turn`, `visiting-end`). Assumes nothing.
+use mathlib.Core.Path.{_≡_, refl, sym, _∙_, ap, ap₂, subst}
+use mathlib.Core.Bool.{Bool, true, false, cond}
+use mathlib.Core.List.{List, [], _∷_, _++_, map, flatten, append-assoc, append-nil}
+use Prim.Native.Nat.{ℕ, zero, suc, _+_, _*_, _-_, _≤_, _<_}
+use native.Mathlib.Numerals.{add-one}
+use native.Mathlib.Omega.{arith}
+use lib.ListN.{length, getD, set, take, drop, length-append, length-set, drop-of-length-le, replicate, length-replicate, getD-replicate}
+use lib.Seq.{drop-cons, take-suc-set, length-take-le}
+use lib.IntN.{ℤ, pos}
+use Rattle.integers.specs.Lists.{upTo}
+use Rattle.integers.specs.Test.{eqZ}
+use Rattle.integers.proofs.Counting.{length-upTo, getD-upTo}
+use Rattle.integers.specs.Faults.{firstFault}
+use Rattle.plane.specs.Plane.{Pt, turn, inRange, onGrid}
+use Rattle.plane.specs.Contour.{lastOf}
+use Rattle.mesh.specs.Mesh.{Mesh, none, meshKinds}
+use Rattle.mesh.specs.Rows.{rowsMesh}
+use Rattle.mesh.proofs.Rows.{length-rows}
+use Rattle.mesh.proofs.Accepted.{accepted}
+use Rattle.table.specs.Table.{startsFrom, startsOf}
+use Rattle.convex.specs.Joining.{isIn, turning, withoutStraight, parts}
+use Rattle.convex.specs.Zipper.{Zipper, zipped, regionsZ, contourZ, partsZ}
+use Rattle.convex.proofs.Zipped.{parts-zipped}
+use Rattle.convex_ring.specs.declared.Progress.{Progress}
+use Rattle.convex_join.specs.declared.Tally.{Tally}
+use Rattle.convex_ring.specs.Buffers.{cornerOf, free, Marked, Ready}
+use Rattle.convex_grow.specs.Growing.{Grown}
+use Rattle.convex_contour.specs.Contour.{contourAt, Whole, Appended}
+use Rattle.convex_join.specs.Parts.{Gathered, Room, seenNext, partsNext, Joined, Visited}
+use Rattle.convex_grow.proofs.Growth.{free-le}
+use Rattle.convex_contour.proofs.Contours.{contour-zipper, length-contour}
+
+-- ---- one part more
+
+flatten-more : {A : Type 0} (ps : List (List A)) (p : List A) → flatten (ps ++ (p ∷ [])) ≡ flatten ps ++ p
+unfolding flatten
+flatten-more [] p = append-nil p
+flatten-more (q ∷ ps) p = ap (λ l. q ++ l) (flatten-more ps p) ∙ sym (append-assoc q (flatten ps) p)
+
+starts-from-more : (k : ℕ) (ps : List (List Pt)) (p : List Pt) → startsFrom k (ps ++ (p ∷ [])) ≡ startsFrom k ps ++ ((k + length (flatten ps ++ p)) ∷ [])
+unfolding startsFrom flatten
+starts-from-more k [] p = refl
+starts-from-more k (q ∷ ps) p =
+    ap (λ l. k ∷ l)
+    (starts-from-more (k + length q) ps p
+    ∙ ap (λ n. startsFrom (k + length q) ps ++ (n ∷ [])) (longer k q (flatten ps) p))
+  where
+    longer : (k : ℕ) (q l p : List Pt) → k + length q + length (l ++ p) ≡ k + length ((q ++ l) ++ p)
+    longer k q l p = omega (arith, length-append q (l ++ p), ap length (append-assoc q l p))
+
+starts-more : (ps : List (List Pt)) (p : List Pt) → startsOf (ps ++ (p ∷ [])) ≡ startsOf ps ++ (length (flatten ps ++ p) ∷ [])
+unfolding startsOf
+starts-more ps p = starts-from-more 0 ps p ∙ ap (λ n. startsFrom 0 ps ++ (n ∷ [])) (omega arith)
+
+-- ---- no more corners than the contour has
+
+kept-le : (t : Bool) (b : Pt) (r l : List Pt) → length r ≤ length l → length (cond t r (b ∷ r)) ≤ suc (length l)
+kept-le true b r l h = omega arith
+kept-le false b r l h = omega arith
+
+turning-le : (a f : Pt) (l : List Pt) → length (turning a f l) ≤ length l
+unfolding turning
+turning-le a f [] = omega arith
+turning-le a f (b ∷ []) = kept-le (eqZ (turn a b f) (pos 0)) b [] [] (omega arith)
+turning-le a f (b ∷ c ∷ l) = kept-le (eqZ (turn a b c) (pos 0)) b (turning b f (c ∷ l)) (c ∷ l) (turning-le b f (c ∷ l))
+
+straight-le : (l : List Pt) → length (withoutStraight l) ≤ length l
+unfolding withoutStraight
+straight-le [] = omega arith
+straight-le (p ∷ l) = turning-le (lastOf p l) p (p ∷ l)
+
+-- ---- a region gathered
+
+module _ (m : Mesh) (k : ℕ) (flags : List Bool) (starts : List ℕ) (points : List (List ℤ)) (t : Tally) (r : Room m flags starts points t) {cs′ : List (List ℤ)} {es′ : List (List ℕ)} {flags′ : List Bool} {p : Progress} (g : Grown m k flags cs′ es′ flags′ p) where
+  fewer : suc (free flags′) ≤ free flags
+  fewer = omega (arith, g .kept, g .empty, g .sound .three)
+
+  few : length m ≤ 1024
+  few = accepted m (g .sound .ready .accepted) .few
+
+  pub contour-whole : Whole cs′ p
+  contour-whole = record {
+    size = g .sound .ready .corners;
+    placed = g .sound .placed;
+    ended = g .sound .ended;
+    some = omega (arith, g .empty, g .sound .three);
+    grid = g .sound .ready .grid;
+  }
+
+  pub contour-room : t .corners + 1026 ≤ length points + p .done
+  contour-room = omega (arith, r .points-size, r .corners, g .kept, fewer, few)
+
+  pub start-room : t .parts + 1 < length starts
+  start-room = omega (arith, r .starts-size, r .parts, fewer, few)
+
+  module _ {points′ : List (List ℤ)} {n : ℕ} (a : Appended (withoutStraight (contourAt cs′ p)) points (t .corners) points′ n) where
+    corners-room : n + 3 * free flags′ ≤ 3 * length m
+    corners-room = omega (arith, a .count, straight-le (contourAt cs′ p), length-contour cs′ p contour-whole, r .corners, g .kept, fewer)
+
+    pub corners-few : n ≤ 3072
+    corners-few = omega (arith, corners-room, few)
+
+    pub joined : {starts′ : List ℕ} → starts′ ≡ set starts (t .parts + 1) n → Joined m k flags starts points t cs′ es′ flags′ starts′ points′ (record { parts = t .parts + 1; corners = n })
+    joined {starts′} e = record {
+      ready = g .sound .ready;
+      room = record {
+        starts-size = ap length e ∙ length-set starts (t .parts + 1) n ∙ r .starts-size;
+        points-size = a .size ∙ r .points-size;
+        parts = omega (arith, r .parts, fewer);
+        corners = corners-room;
+      };
+      marked = λ seen h. g .holds seen h .taken;
+      gathered = gathered;
+    }
+      where
+        gathered : (seen : List ℕ) (ps : List (List Pt)) → Marked flags seen → Gathered starts points t ps → Gathered starts′ points′ (record { parts = t .parts + 1; corners = n }) (ps ++ (contourZ (zipped m seen k) ∷ []))
+        gathered seen ps h q =
+            let new : withoutStraight (contourAt cs′ p) ≡ contourZ (zipped m seen k) = ap withoutStraight (sym (contour-zipper cs′ es′ flags′ p seen (zipped m seen k) (g .sound .ready .corners) (g .sound .placed) (g .holds seen h))) in
+            let whole : flatten (ps ++ (contourZ (zipped m seen k) ∷ [])) ≡ flatten ps ++ withoutStraight (contourAt cs′ p) = flatten-more ps (contourZ (zipped m seen k)) ∙ ap (λ l. flatten ps ++ l) (sym new) in
+            let count : n ≡ length (flatten ps ++ withoutStraight (contourAt cs′ p)) = omega (arith, a .count, q .corners, length-append (flatten ps) (withoutStraight (contourAt cs′ p))) in
+            record {
+              parts = omega (arith, q .parts, length-append ps (contourZ (zipped m seen k) ∷ []));
+              corners = count ∙ sym (ap length whole);
+              begins =
+                  ap (take (t .parts + 1 + 1)) e ∙ ap (λ i. take i (set starts (t .parts + 1) n)) (add-one (t .parts + 1)) ∙ take-suc-set starts (t .parts + 1) n start-room
+                  ∙ (λ i. q .begins i ++ (count i ∷ [])) ∙ ap (λ l. startsOf ps ++ (length (flatten ps ++ l) ∷ [])) new ∙ sym (starts-more ps (contourZ (zipped m seen k)));
+              gathered = a .written ∙ ap (λ l. l ++ withoutStraight (contourAt cs′ p)) (q .gathered) ∙ sym whole;
+            }
+
+-- ---- a triangle visited
+
+module _ (m : Mesh) (k : ℕ) (flags : List Bool) (starts : List ℕ) (points : List (List ℤ)) (t : Tally) (l : k < length flags) where
+  pub visited-skip : {cs : List (List ℤ)} {es : List (List ℕ)} → Ready m cs es flags → Room m flags starts points t → getD flags k false ≡ true → Visited m k flags starts points t cs es flags starts points t
+  visited-skip s r f = record {
+    ready = s;
+    room = r;
+    marked = λ seen h. subst (λ b. Marked flags (cond b seen (seen ++ zipped m seen k .taken))) (sym f ∙ h .at k l) h;
+    gathered = λ seen ps h q. subst (λ b. Gathered starts points t (cond b ps (ps ++ (contourZ (zipped m seen k) ∷ [])))) (sym f ∙ h .at k l) q;
+  }
+
+  pub visited-join : {cs′ : List (List ℤ)} {es′ : List (List ℕ)} {flags′ : List Bool} {starts′ : List ℕ} {points′ : List (List ℤ)} {t′ : Tally} → getD flags k false ≡ false → Joined m k flags starts points t cs′ es′ flags′ starts′ points′ t′ → Visited m k flags starts points t cs′ es′ flags′ starts′ points′ t′
+  visited-join {flags′ = flags′} {starts′ = starts′} {points′ = points′} {t′ = t′} f j = record {
+    ready = j .ready;
+    room = j .room;
+    marked = λ seen h. subst (λ b. Marked flags′ (cond b seen (seen ++ zipped m seen k .taken))) (sym f ∙ h .at k l) (j .marked seen h);
+    gathered = λ seen ps h q. subst (λ b. Gathered starts′ points′ t′ (cond b ps (ps ++ (contourZ (zipped m seen k) ∷ [])))) (sym f ∙ h .at k l) (j .gathered seen ps h q);
+  }
+
+-- ---- all triangles
+
+-- the parts of the triangles before k are gathered
+pub record Visiting (m : Mesh) (cs : List (List ℤ)) (es : List (List ℕ)) (flags : List Bool) (starts : List ℕ) (points : List (List ℤ)) (t : Tally) (k : ℕ) : Type 0 where
+  pub ready : Ready m cs es flags
+  pub room : Room m flags starts points t
+  pub seen : List ℕ
+  pub ps : List (List Pt)
+  pub marked : Marked flags seen
+  pub gathered : Gathered starts points t ps
+  pub rest : ps ++ map contourZ (regionsZ m seen (drop k (upTo (length m)))) ≡ partsZ m
+
+first-start : (starts : List ℕ) → 0 < length starts → getD starts 0 0 ≡ 0 → take (0 + 1) starts ≡ startsOf []
+unfolding startsOf startsFrom
+first-start [] h e = absurd (omega arith)
+first-start (s ∷ l) h e = ap (λ n. n ∷ []) e
+
+regions-turn : (m : Mesh) (seen : List ℕ) (k : ℕ) → k < length m → regionsZ m seen (drop k (upTo (length m))) ≡ cond (isIn k seen) (regionsZ m seen (drop (k + 1) (upTo (length m)))) (zipped m seen k ∷ regionsZ m (seen ++ zipped m seen k .taken) (drop (k + 1) (upTo (length m))))
+unfolding regionsZ
+regions-turn m seen k h =
+    let d : drop k (upTo (length m)) ≡ k ∷ drop (k + 1) (upTo (length m)) =
+    drop-cons (upTo (length m)) k 0 (omega (arith, length-upTo (length m))) ∙ ap₂ _∷_ (getD-upTo (length m) k 0 h) (ap (λ n. drop n (upTo (length m))) (sym (add-one k))) in
+    ap (regionsZ m seen) d
+
+next-same : (b : Bool) (ps : List (List Pt)) (z : Zipper) (F : List ℕ → List Zipper) (s s′ : List ℕ) → cond b ps (ps ++ (contourZ z ∷ [])) ++ map contourZ (F (cond b s s′)) ≡ ps ++ map contourZ (cond b (F s) (z ∷ F s′))
+next-same true ps z F s s′ = refl
+next-same false ps z F s s′ = append-assoc ps (contourZ z ∷ []) (map contourZ (F s′))
+
+module _ (m : Mesh) where
+  pub visiting-start : {cs : List (List ℤ)} {es : List (List ℕ)} {flags : List Bool} {starts : List ℕ} {points : List (List ℤ)} → Ready m cs es flags → Marked flags [] → length starts ≡ 1025 → length points ≡ 3072 → getD starts 0 0 ≡ 0 → Visiting m cs es flags starts points (record { parts = 0; corners = 0 }) 0
+  unfolding partsZ flatten
+  visiting-start {flags = flags} {starts = starts} s h a b e = record {
+    ready = s;
+    room = record { starts-size = a; points-size = b; parts = omega (arith, free-le flags, s .marks); corners = omega (arith, free-le flags, s .marks) };
+    seen = [];
+    ps = [];
+    marked = h;
+    gathered = record { parts = refl; corners = refl; begins = first-start starts (omega (arith, a)) e; gathered = refl };
+    rest = refl;
+  }
+
+  pub visiting-turn : {cs : List (List ℤ)} {es : List (List ℕ)} {flags : List Bool} {starts : List ℕ} {points : List (List ℤ)} {t : Tally} {cs′ : List (List ℤ)} {es′ : List (List ℕ)} {flags′ : List Bool} {starts′ : List ℕ} {points′ : List (List ℤ)} {t′ : Tally} (k : ℕ) → k < length m → Visiting m cs es flags starts points t k → Visited m k flags starts points t cs′ es′ flags′ starts′ points′ t′ → Visiting m cs′ es′ flags′ starts′ points′ t′ (k + 1)
+  visiting-turn k l v w =
+      let z = zipped m (v .seen) k in
+      let d = drop (k + 1) (upTo (length m)) in
+      record {
+        ready = w .ready;
+        room = w .room;
+        seen = seenNext m (v .seen) k;
+        ps = partsNext m (v .seen) k (v .ps);
+        marked = w .marked (v .seen) (v .marked);
+        gathered = w .gathered (v .seen) (v .ps) (v .marked) (v .gathered);
+        rest = next-same (isIn k (v .seen)) (v .ps) z (λ s. regionsZ m s d) (v .seen) (v .seen ++ z .taken) ∙ ap (λ r. v .ps ++ map contourZ r) (sym (regions-turn m (v .seen) k l)) ∙ v .rest;
+      }
+
+  pub visiting-end : {cs : List (List ℤ)} {es : List (List ℕ)} {flags : List Bool} {starts : List ℕ} {points : List (List ℤ)} {t : Tally} (k : ℕ) → length m ≤ k → Visiting m cs es flags starts points t k → Gathered starts points t (parts m) × (t .parts ≤ 1024) × (t .corners ≤ 3072)
+  unfolding regionsZ
+  visiting-end {starts = starts} {points = points} {t = t} k h v =
+      let few = accepted m (v .ready .accepted) .few in (
+        subst (Gathered starts points t) (sym (append-nil (v .ps)) ∙ ap (λ d. v .ps ++ map contourZ (regionsZ m (v .seen) d)) (sym (drop-of-length-le (upTo (length m)) {i = k} (omega (arith, length-upTo (length m))))) ∙ v .rest ∙ parts-zipped m (accepted m (v .ready .accepted))) (v .gathered),
+        omega (arith, v .room .parts, few),
+        omega (arith, v .room .corners, few),
+      )
+
+-- ---- the buffers at first: no corner, no edge, no flag
+
+replicate-all : {A : Type 0} (P : A → Type 0) (n : ℕ) (a d : A) → P a → P d → (i : ℕ) → P (getD (replicate n a) i d)
+replicate-all P zero a d h k i = k
+replicate-all P (suc n) a d h k zero = h
+replicate-all P (suc n) a d h k (suc i) = replicate-all P n a d h k i
+
+origin-on-grid : onGrid (cornerOf (pos 0 ∷ pos 0 ∷ [])) ≡ true
+unfolding onGrid inRange
+origin-on-grid = refl
+
+pub first-ready : (m : Mesh) (flags : List Bool) (n : ℕ) → n ≡ 1026 → firstFault (meshKinds m) ≡ 0 → length flags ≡ length m → Ready m (replicate n (pos 0 ∷ pos 0 ∷ [])) (replicate n (none ∷ none ∷ [])) flags
+first-ready m flags n e a l = record {
+  accepted = a;
+  corners = length-replicate n (pos 0 ∷ pos 0 ∷ []) ∙ e;
+  edges = length-replicate n (none ∷ none ∷ []) ∙ e;
+  marks = l;
+  grid = record { at = replicate-all (λ c. onGrid (cornerOf c) ≡ true) n (pos 0 ∷ pos 0 ∷ []) [] origin-on-grid origin-on-grid };
+  across = λ i h d. absurd (d (ap (λ r. getD r 1 0) (getD-replicate n i (none ∷ none ∷ []) [] (omega (arith, e)))));
+}
+
+no-flag : (n j k : ℕ) → getD (take n (replicate j false)) k false ≡ false
+no-flag zero j k = refl
+no-flag (suc n) zero k = refl
+no-flag (suc n) (suc j) zero = refl
+no-flag (suc n) (suc j) (suc k) = no-flag n j k
+
+pub first-marked : (n j : ℕ) → Marked (take n (replicate j false)) []
+unfolding isIn
+first-marked n j = record { at = λ k h. no-flag n j k }
+
+pub first-flags : (rows : List (List ℤ)) (j : ℕ) → length rows ≤ j → length (take (length rows) (replicate j false)) ≡ length (rowsMesh rows)
+first-flags rows j h = length-take-le (length rows) (replicate j false) (omega (arith, length-replicate j false)) ∙ sym (length-rows rows)

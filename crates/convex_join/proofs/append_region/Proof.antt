@@ -1,0 +1,63 @@
+-- `convex_join::append_region` meets its contract: `joined` of Regions. Assumes nothing.
+use borrow.Author.Needs.{needs}
+use native.Mathlib.Omega.{arith}
+use Rattle.mesh.specs.Rows.{rowsMesh}
+use Rattle.convex_join.proofs.Regions.{contour-whole, contour-room, start-room, corners-few, joined}
+use Rattle.convex_join.proofs.append_region.Statement.{statement}
+use Rattle.convex_join.proofs.append_region.Tie as tie
+
+grow-requires : tie.Need-grow-requires
+grow-requires c κs = search needs
+
+append-contour-requires : tie.Need-append-contour-requires
+append-contour-requires c κs =
+    let s = c .before .before .before .before .before .before .before .before .before .before .before .before in
+    let g = s .args in
+    let e = c .before .before .before .before .before .before .grow .ensures in
+    (contour-whole (rowsMesh (g .mesh .now)) (g .k) (g .taken .now) (g .starts .now) (g .points .now) (g .t) (s .pre .3) e, contour-room (rowsMesh (g .mesh .now)) (g .k) (g .taken .now) (g .starts .now) (g .points .now) (g .t) (s .pre .3) e)
+
+add-parts : tie.Need-add-parts
+add-parts c = search needs
+
+put-start-requires : tie.Need-put-start-requires
+put-start-requires c κs =
+    let s = c .before .before .before .before .before .before .before .before .before .before .before .before .before .before .before .before in
+    let g = s .args in
+    let e = c .before .before .before .before .before .before .before .before .before .before .grow .ensures in
+    (start-room (rowsMesh (g .mesh .now)) (g .k) (g .taken .now) (g .starts .now) (g .points .now) (g .t) (s .pre .3) e, omega (arith, corners-few (rowsMesh (g .mesh .now)) (g .k) (g .taken .now) (g .starts .now) (g .points .now) (g .t) (s .pre .3) e (c .before .before .before .append-contour .ensures)))
+
+same-length : tie.Need-same-length
+same-length c = search needs
+
+same-length-2 : tie.Need-same-length-2
+same-length-2 c = search needs
+
+same-length-3 : tie.Need-same-length-3
+same-length-3 c = search needs
+
+same-length-4 : tie.Need-same-length-4
+same-length-4 c = search needs
+
+same-length-5 : tie.Need-same-length-5
+same-length-5 c = search needs
+
+returns : tie.Need-returns
+returns c =
+    let s = c .before .before .before .before .before .before .before .before .before .before .before .before .before .before .before .before .before .before .before in
+    let g = s .args in
+    joined (rowsMesh (g .mesh .now)) (g .k) (g .taken .now) (g .starts .now) (g .points .now) (g .t) (s .pre .3) (c .before .before .before .before .before .before .before .before .before .before .before .before .before .grow .ensures) (c .before .before .before .before .before .before .append-contour .ensures) (c .before .before .put-start .ensures)
+
+pub append-region-spec : {M : Type 1} → statement M
+append-region-spec =
+    tie.close
+    (tie.spec
+    grow-requires
+    append-contour-requires
+    add-parts
+    put-start-requires
+    same-length
+    same-length-2
+    same-length-3
+    same-length-4
+    same-length-5
+    returns)

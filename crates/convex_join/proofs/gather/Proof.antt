@@ -1,0 +1,73 @@
+-- `convex_join::gather` meets its contract: the buffers at first are ready for `visit_all`. Assumes nothing.
+use borrow.Author.Needs.{needs}
+use mathlib.Core.Path.{_≡_, refl, sym, _∙_, ap}
+use mathlib.Core.Bool.{false}
+use mathlib.Core.List.{List}
+use Prim.Native.Nat.{_≤_}
+use native.Mathlib.Omega.{arith}
+use lib.ListN.{length, getD, take, replicate, length-set}
+use lib.Seq.{getD-set-same}
+use lib.IntN.{ℤ}
+use Rattle.integers.specs.Faults.{firstFault}
+use Rattle.mesh.specs.Mesh.{meshKinds}
+use Rattle.mesh.specs.Rows.{rowsMesh}
+use Rattle.mesh.proofs.Accepted.{accepted}
+use Rattle.mesh.proofs.Rows.{length-rows}
+use Rattle.convex_join.proofs.Regions.{first-ready, first-marked, first-flags}
+use Rattle.convex_join.proofs.gather.Statement.{statement}
+use Rattle.convex_join.proofs.gather.Tie as tie
+
+few : (rows : List (List ℤ)) → firstFault (meshKinds (rowsMesh rows)) ≡ 0 → length rows ≤ 1024
+few rows h = omega (arith, accepted (rowsMesh rows) h .few, length-rows rows)
+
+put-start-requires : tie.Need-put-start-requires
+put-start-requires c κs = search needs
+
+slice-aggregate-visit-all : tie.Need-slice-aggregate-visit-all
+slice-aggregate-visit-all c = search needs
+
+slice-aggregate-visit-all-2 : tie.Need-slice-aggregate-visit-all-2
+slice-aggregate-visit-all-2 c = search needs
+
+array-borrow-prefix-taken : tie.Need-array-borrow-prefix-taken
+array-borrow-prefix-taken c = few (c .before .before .before .before .before .before .before .args .mesh .now) (c .before .before .before .before .before .before .before .pre .0)
+
+slice-aggregate-visit-all-3 : tie.Need-slice-aggregate-visit-all-3
+slice-aggregate-visit-all-3 c =
+    let rows = c .before .before .before .before .before .before .before .before .args .mesh .now in
+    sym (first-flags rows 1024 (few rows (c .before .before .before .before .before .before .before .before .pre .0)) ∙ length-rows rows)
+
+visit-all-requires : tie.Need-visit-all-requires
+visit-all-requires c κs =
+    let s = c .before .before .before .before .before .before .before .before .before .before in
+    let rows = s .args .mesh .now in
+    let e = c .before .before .before .before .before .before .before .put-start .ensures in (
+      first-ready (rowsMesh rows) (take (length rows) (replicate 1024 false)) 1026 refl (s .pre .0) (first-flags rows 1024 (few rows (s .pre .0))),
+      first-marked (length rows) 1024,
+      ap length e ∙ length-set (s .args .starts .now) 0 0 ∙ s .pre .1,
+      s .pre .2,
+      ap (λ l. getD l 0 0) e ∙ getD-set-same (s .args .starts .now) 0 0 0 (omega (arith, s .pre .1)),
+    )
+
+same-length : tie.Need-same-length
+same-length c = search needs
+
+same-length-2 : tie.Need-same-length-2
+same-length-2 c = search needs
+
+returns : tie.Need-returns
+returns c = search needs
+
+pub gather-spec : {M : Type 1} → statement M
+gather-spec =
+    tie.close
+    (tie.spec
+    put-start-requires
+    slice-aggregate-visit-all
+    slice-aggregate-visit-all-2
+    array-borrow-prefix-taken
+    slice-aggregate-visit-all-3
+    visit-all-requires
+    same-length
+    same-length-2
+    returns)

@@ -1,0 +1,2 @@
+-- What the contracts cite: the parts gathered.
+pub mod Parts

@@ -1,0 +1,52 @@
+-- The buffers that the parts of a mesh are gathered in, one region after another. Assumes nothing.
+use mathlib.Core.Path.{_≡_}
+use mathlib.Core.Bool.{Bool, cond}
+use mathlib.Core.List.{List, [], _∷_, _++_, flatten}
+use Prim.Native.Nat.{ℕ, _+_, _*_, _-_, _≤_}
+use lib.ListN.{length, take}
+use lib.IntN.{ℤ}
+use Rattle.plane.specs.Plane.{Pt}
+use Rattle.mesh.specs.Mesh.{Mesh}
+use Rattle.table.specs.Table.{startsOf}
+use Rattle.convex.specs.Joining.{isIn}
+use Rattle.convex.specs.Zipper.{zipped, contourZ}
+use Rattle.convex_join.specs.declared.Tally.{Tally}
+use Rattle.convex_ring.specs.Buffers.{free, Marked, Ready}
+use Rattle.convex_contour.specs.Contour.{firstPoints}
+
+-- ---- parts gathered
+
+-- the first parts in the buffers are ps
+pub record Gathered (starts : List ℕ) (points : List (List ℤ)) (t : Tally) (ps : List (List Pt)) : Type 0 where
+  pub parts : t .parts ≡ length ps
+  pub corners : t .corners ≡ length (flatten ps)
+  pub begins : take (t .parts + 1) starts ≡ startsOf ps
+  pub gathered : firstPoints (t .corners) points ≡ flatten ps
+
+-- each triangle not taken has a place for a start, and three for corners
+pub record Room (m : Mesh) (flags : List Bool) (starts : List ℕ) (points : List (List ℤ)) (t : Tally) : Type 0 where
+  pub starts-size : length starts ≡ 1025
+  pub points-size : length points ≡ 3072
+  pub parts : t .parts + free flags ≤ length m
+  pub corners : t .corners + 3 * free flags ≤ 3 * length m
+
+-- after triangle k: the triangles taken by regions, and the parts
+abbrev pub seenNext : Mesh → List ℕ → ℕ → List ℕ
+seenNext m seen k = cond (isIn k seen) seen (seen ++ zipped m seen k .taken)
+
+abbrev pub partsNext : Mesh → List ℕ → ℕ → List (List Pt) → List (List Pt)
+partsNext m seen k ps = cond (isIn k seen) ps (ps ++ (contourZ (zipped m seen k) ∷ []))
+
+-- a region that starts with triangle k was gathered
+pub record Joined (m : Mesh) (k : ℕ) (flags : List Bool) (starts : List ℕ) (points : List (List ℤ)) (t : Tally) (cs′ : List (List ℤ)) (es′ : List (List ℕ)) (flags′ : List Bool) (starts′ : List ℕ) (points′ : List (List ℤ)) (t′ : Tally) : Type 0 where
+  pub ready : Ready m cs′ es′ flags′
+  pub room : Room m flags′ starts′ points′ t′
+  pub marked : (seen : List ℕ) → Marked flags seen → Marked flags′ (seen ++ zipped m seen k .taken)
+  pub gathered : (seen : List ℕ) (ps : List (List Pt)) → Marked flags seen → Gathered starts points t ps → Gathered starts′ points′ t′ (ps ++ (contourZ (zipped m seen k) ∷ []))
+
+-- triangle k was visited
+pub record Visited (m : Mesh) (k : ℕ) (flags : List Bool) (starts : List ℕ) (points : List (List ℤ)) (t : Tally) (cs′ : List (List ℤ)) (es′ : List (List ℕ)) (flags′ : List Bool) (starts′ : List ℕ) (points′ : List (List ℤ)) (t′ : Tally) : Type 0 where
+  pub ready : Ready m cs′ es′ flags′
+  pub room : Room m flags′ starts′ points′ t′
+  pub marked : (seen : List ℕ) → Marked flags seen → Marked flags′ (seenNext m seen k)
+  pub gathered : (seen : List ℕ) (ps : List (List Pt)) → Marked flags seen → Gathered starts points t ps → Gathered starts′ points′ t′ (partsNext m seen k ps)

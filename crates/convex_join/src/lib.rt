@@ -1,0 +1,199 @@
+// Joining triangles into convex parts (advanced/convex.rs, first half): `to_convex_polygons`, with no `requires`. Its answer and both lent buffers
+// equal `partsCounts`, `partsStarts` and `partsCorners` of convex/specs/Joining.antt. The parts are gathered in local buffers and copied to the
+// lent ones once there is room (specs/Parts.antt). Leans on mesh_faults, convex_grow, convex_contour and table.
+ghost use mathlib.Core.Path.{_≡_};
+ghost use mathlib.Core.Bool.{false};
+ghost use mathlib.Core.List.{[]};
+ghost use Prim.Native.Nat.{_+_, _-_, _<_, _≤_, _*_, _^_};
+ghost use lib.ListN.{length, getD, set, take};
+ghost use Rattle.integers.specs.Lists.{overlay};
+ghost use Rattle.integers.specs.Faults.{firstFault};
+ghost use Rattle.mesh.specs.Mesh.{meshKinds};
+ghost use Rattle.mesh.specs.Rows.{rowsMesh};
+ghost use Rattle.table.specs.Table.{numbersOf};
+ghost use Rattle.convex.specs.Joining.{parts, partsCounts, partsStarts, partsCorners};
+ghost use Rattle.convex_ring.specs.Buffers.{cornerAt, Marked, Ready};
+ghost use Rattle.convex_contour.specs.Contour.{firstPoints};
+ghost use Rattle.convex_join.specs.Parts.{Gathered, Room, Joined, Visited};
+use mesh::NIL_INDEX;
+use table::Counts;
+
+// How many parts and corners are gathered.
+pub struct Tally {
+    pub parts: usize,
+    pub corners: usize,
+}
+
+// Start i.
+fn put_start(starts: &mut [u32], i: usize, n: usize)
+    requires { ⌜ (i < length (now starts)) × (n < 2 ^ 32) ⌝ }
+    ensures { λ r. ⌜ now (starts .exit) ≡ set (now (starts .entry)) i n ⌝ }
+{
+    starts[i] = n as u32;
+}
+
+// The region that starts with triangle k, which is not taken, is gathered.
+fn append_region(
+    mesh: &[[i32; 9]],
+    corners: &mut [[i32; 2]],
+    edges: &mut [[usize; 2]],
+    taken: &mut [bool],
+    starts: &mut [u32],
+    points: &mut [[i32; 2]],
+    k: usize,
+    t: Tally,
+) -> Tally
+    requires { ⌜ Ready (rowsMesh (now mesh)) (now corners) (now edges) (now taken) × (k < length (now mesh)) × (getD (now taken) k false ≡ false) × Room (rowsMesh (now mesh)) (now taken) (now starts) (now points) t ⌝ }
+    ensures { λ r. ⌜ Joined (rowsMesh (now (mesh .entry))) k (now (taken .entry)) (now (starts .entry)) (now (points .entry)) t (now (corners .exit)) (now (edges .exit)) (now (taken .exit)) (now (starts .exit)) (now (points .exit)) r ⌝ }
+{
+    let p = convex_grow::grow(mesh, corners, edges, taken, k);
+    let count = convex_contour::append_contour(corners, p, points, t.corners);
+    let parts = t.parts + 1;
+    put_start(starts, parts, count);
+    Tally {
+        parts: parts,
+        corners: count,
+    }
+}
+
+// Triangle k starts a region, unless it is taken.
+fn visit(
+    mesh: &[[i32; 9]],
+    corners: &mut [[i32; 2]],
+    edges: &mut [[usize; 2]],
+    taken: &mut [bool],
+    starts: &mut [u32],
+    points: &mut [[i32; 2]],
+    k: usize,
+    t: Tally,
+) -> Tally
+    requires { ⌜ Ready (rowsMesh (now mesh)) (now corners) (now edges) (now taken) × (k < length (now mesh)) × Room (rowsMesh (now mesh)) (now taken) (now starts) (now points) t ⌝ }
+    ensures { λ r. ⌜ Visited (rowsMesh (now (mesh .entry))) k (now (taken .entry)) (now (starts .entry)) (now (points .entry)) t (now (corners .exit)) (now (edges .exit)) (now (taken .exit)) (now (starts .exit)) (now (points .exit)) r ⌝ }
+{
+    if taken[k] {
+        return t;
+    }
+    append_region(mesh, corners, edges, taken, starts, points, k, t)
+}
+
+// Unvisited triangles start regions in table order.
+fn visit_all(
+    mesh: &[[i32; 9]],
+    corners: &mut [[i32; 2]],
+    edges: &mut [[usize; 2]],
+    taken: &mut [bool],
+    starts: &mut [u32],
+    points: &mut [[i32; 2]],
+) -> Tally
+    requires { ⌜ Ready (rowsMesh (now mesh)) (now corners) (now edges) (now taken) × Marked (now taken) [] × (length (now starts) ≡ 1025) × (length (now points) ≡ 3072) × (getD (now starts) 0 0 ≡ 0) ⌝ }
+    ensures { λ r. ⌜ Gathered (now (starts .exit)) (now (points .exit)) r (parts (rowsMesh (now (mesh .entry)))) × (r .parts ≤ 1024) × (r .corners ≤ 3072) ⌝ }
+{
+    let mut t = Tally {
+        parts: 0,
+        corners: 0,
+    };
+    let mut k: usize = 0;
+    while k < mesh.len() {
+        t = visit(mesh, corners, edges, taken, starts, points, k, t);
+        k += 1;
+    }
+    t
+}
+
+// The parts of an accepted mesh, in buffers that hold the parts of any.
+fn gather(mesh: &[[i32; 9]], starts: &mut [u32], points: &mut [[i32; 2]]) -> Tally
+    requires { ⌜ (firstFault (meshKinds (rowsMesh (now mesh))) ≡ 0) × (length (now starts) ≡ 1025) × (length (now points) ≡ 3072) ⌝ }
+    ensures { λ r. ⌜ Gathered (now (starts .exit)) (now (points .exit)) r (parts (rowsMesh (now (mesh .entry)))) × (r .parts ≤ 1024) × (r .corners ≤ 3072) ⌝ }
+{
+    let mut corners = [[0i32; 2]; 1026];
+    let mut edges = [[NIL_INDEX; 2]; 1026];
+    let mut taken = [false; 1024];
+    let n = mesh.len();
+    put_start(starts, 0, 0);
+    visit_all(
+        mesh,
+        &mut corners,
+        &mut edges,
+        &mut taken[..n],
+        starts,
+        points,
+    )
+}
+
+// The first n starts, on the front of the lent ones.
+fn copy_starts(from: &[u32], n: usize, to: &mut [u32])
+    requires { ⌜ (n ≤ length (now from)) × (n ≤ length (now to)) ⌝ }
+    ensures { λ r. ⌜ now (to .exit) ≡ overlay (take n (now (from .entry))) (now (to .entry)) ⌝ }
+{
+    let mut i: usize = 0;
+    while i < n {
+        let x = from[i];
+        to[i] = x;
+        i += 1;
+    }
+}
+
+// Point i as two numbers.
+fn put_pair(points: &[[i32; 2]], i: usize, to: &mut [i32])
+    requires { ⌜ (i < length (now points)) × (2 * i + 1 < length (now to)) ⌝ }
+    ensures { λ r. ⌜ now (to .exit) ≡ set (set (now (to .entry)) (2 * i) (cornerAt (now (points .entry)) i .x)) (2 * i + 1) (cornerAt (now (points .entry)) i .y) ⌝ }
+{
+    let c = points[i];
+    let at = 2 * i;
+    to[at] = c[0];
+    to[at + 1] = c[1];
+}
+
+// The first n points as numbers, x and y in turn, on the front of the lent ones.
+fn copy_points(points: &[[i32; 2]], n: usize, to: &mut [i32])
+    requires { ⌜ (n ≤ length (now points)) × (2 * n ≤ length (now to)) ⌝ }
+    ensures { λ r. ⌜ now (to .exit) ≡ overlay (numbersOf (firstPoints n (now (points .entry)))) (now (to .entry)) ⌝ }
+{
+    let mut i: usize = 0;
+    while i < n {
+        put_pair(points, i, to);
+        i += 1;
+    }
+}
+
+// A refusal: its number and zero counts.
+fn refusal(fault: u32) -> Counts
+    ensures { λ r. ⌜ r ≡ record { fault = fault; parts = 0; corners = 0 } ⌝ }
+{
+    Counts {
+        fault: fault,
+        parts: 0,
+        corners: 0,
+    }
+}
+
+// The convex parts of a mesh, joined from its triangles: starts and corners (x, y in turn) on the front of the lent buffers. A refusal (1, 2, 3, 4, 5,
+// 6, 11, 22 or 21) gives zero counts and changes nothing.
+pub fn to_convex_polygons(mesh: &[[i32; 9]], starts: &mut [u32], corners: &mut [i32]) -> Counts
+    ensures counts { λ r. ⌜ r ≡ partsCounts (rowsMesh (now (mesh .entry))) (now (starts .entry)) (now (corners .entry)) ⌝ }
+    ensures starts { λ r. ⌜ now (starts .exit) ≡ partsStarts (rowsMesh (now (mesh .entry))) (now (starts .entry)) (now (corners .entry)) ⌝ }
+    ensures corners { λ r. ⌜ now (corners .exit) ≡ partsCorners (rowsMesh (now (mesh .entry))) (now (starts .entry)) (now (corners .entry)) ⌝ }
+{
+    let fault = mesh_faults::mesh_fault(mesh);
+    if fault != 0 {
+        return refusal(fault);
+    }
+    let mut begins = [0u32; 1025];
+    let mut points = [[0i32; 2]; 3072];
+    let t = gather(mesh, &mut begins, &mut points);
+    let parts = t.parts;
+    let count = t.corners;
+    if starts.len() < parts + 1 {
+        return refusal(table::FAULT_START_ROOM);
+    }
+    if corners.len() / 2 < count {
+        return refusal(table::FAULT_CORNER_ROOM);
+    }
+    copy_starts(&begins, parts + 1, starts);
+    copy_points(&points, count, corners);
+    Counts {
+        fault: 0,
+        parts: parts as u32,
+        corners: count as u32,
+    }
+}

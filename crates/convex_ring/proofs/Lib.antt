@@ -1,0 +1,2 @@
+-- The buffers of a region read as a zipper.
+pub mod Reading

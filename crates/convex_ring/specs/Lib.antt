@@ -1,0 +1,2 @@
+-- What the contracts cite: a region's buffers.
+pub mod Buffers

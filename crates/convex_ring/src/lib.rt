@@ -1,0 +1,85 @@
+// A region's contour while it grows, in one buffer: pending corners from the front, each with its outgoing edge, done corners from the back
+// (specs/Buffers.antt; convex/specs/Zipper.antt says why this is the paper's contour). Here it is read: the corners round the edge on top, and
+// whether a point joins there (`joins_over`). Leans on mesh and plane.
+ghost use mathlib.Core.Path.{_≡_};
+ghost use mathlib.Core.Bool.{false};
+ghost use Prim.Native.Nat.{_+_, _-_, _<_};
+ghost use lib.ListN.{length, getD, set};
+ghost use Rattle.plane.specs.Plane.{O};
+ghost use Rattle.plane.specs.Machine.{point, OnGrid};
+ghost use Rattle.convex.specs.Joining.{joins};
+ghost use Rattle.convex_ring.specs.Buffers.{cornerAt, pairOf, Grid, Around, around};
+use mesh::NIL_INDEX;
+use plane::IntPoint;
+use table::MAX_CONTOUR;
+
+// Where a region stands: how many corners are pending, where the done ones begin, where the last corner added stands among them, and whether
+// it is still pending.
+pub struct Progress {
+    pub pending: usize,
+    pub done: usize,
+    pub last: usize,
+    pub fresh: bool,
+}
+
+// The corner at i.
+pub fn corner_at(corners: &[[i32; 2]], i: usize) -> IntPoint
+    requires { ⌜ (i < length (now corners)) × Grid (now corners) ⌝ }
+    ensures { λ r. ⌜ (point r ≡ cornerAt (now (corners .entry)) i) × OnGrid r ⌝ }
+{
+    let c = corners[i];
+    IntPoint { x: c[0], y: c[1] }
+}
+
+// Whether p, put between a and b, leaves no turn to the right at a and at b; a0 is before a, b0 after b.
+fn joins_at(a0: IntPoint, a: IntPoint, p: IntPoint, b: IntPoint, b0: IntPoint) -> bool
+    requires { ⌜ OnGrid a0 × OnGrid a × OnGrid p × OnGrid b × OnGrid b0 ⌝ }
+    ensures { λ r. ⌜ r ≡ joins (point a0) (point a) (point p) (point b) (point b0) ⌝ }
+{
+    if plane::cross_product(plane::subtract(a, a0), plane::subtract(p, a)) >= 0 {
+        return plane::cross_product(plane::subtract(b, p), plane::subtract(b0, b)) >= 0;
+    }
+    false
+}
+
+// The corner 1 + i places after the top one, round the contour.
+fn ring_at(corners: &[[i32; 2]], pending: usize, done: usize, i: usize) -> IntPoint
+    requires { ⌜ Around (now corners) pending done × (i < 2) ⌝ }
+    ensures { λ r. ⌜ (point r ≡ getD (around (now (corners .entry)) pending done) i O) × OnGrid r ⌝ }
+{
+    if done + i < MAX_CONTOUR {
+        return corner_at(corners, done + i);
+    }
+    corner_at(corners, done + i - MAX_CONTOUR)
+}
+
+// The corner before the top one, round the contour.
+fn ring_end(corners: &[[i32; 2]], pending: usize, done: usize) -> IntPoint
+    requires { ⌜ Around (now corners) pending done ⌝ }
+    ensures { λ r. ⌜ (point r ≡ getD (around (now (corners .entry)) pending done) (length (around (now (corners .entry)) pending done) - 1) O) × OnGrid r ⌝ }
+{
+    if pending > 1 {
+        return corner_at(corners, pending - 2);
+    }
+    corner_at(corners, MAX_CONTOUR - 1)
+}
+
+// Whether the point p joins after the top corner.
+pub fn joins_over(corners: &[[i32; 2]], p: IntPoint, pending: usize, done: usize) -> bool
+    requires { ⌜ Around (now corners) pending done × OnGrid p ⌝ }
+    ensures { λ r. ⌜ r ≡ joins (getD (around (now (corners .entry)) pending done) (length (around (now (corners .entry)) pending done) - 1) O) (cornerAt (now (corners .entry)) (pending - 1)) (point p) (getD (around (now (corners .entry)) pending done) 0 O) (getD (around (now (corners .entry)) pending done) 1 O) ⌝ }
+{
+    let a0 = ring_end(corners, pending, done);
+    let a = corner_at(corners, pending - 1);
+    let b = ring_at(corners, pending, done, 0);
+    let b0 = ring_at(corners, pending, done, 1);
+    joins_at(a0, a, p, b, b0)
+}
+
+// The corner p at i.
+pub fn put_corner(corners: &mut [[i32; 2]], i: usize, p: IntPoint)
+    requires { ⌜ i < length (now corners) ⌝ }
+    ensures { λ r. ⌜ now (corners .exit) ≡ set (now (corners .entry)) i (pairOf (point p)) ⌝ }
+{
+    corners[i] = [p.x, p.y];
+}
