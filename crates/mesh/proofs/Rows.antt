@@ -7,8 +7,9 @@ use native.Mathlib.Omega.{arith}
 use lib.ListN.{length, getD, length-map}
 use lib.IntN.{ℤ}
 use Rattle.plane.specs.Plane.{Pt}
-use Rattle.mesh.specs.Mesh.{Triangle, Mesh, vertex, neighbour, triangleAt, noTriangle}
+use Rattle.mesh.specs.Mesh.{Triangle, Mesh, vertex, neighbour, triangleAt, opposite, noTriangle}
 use Rattle.mesh.specs.Rows.{number, word, rowTriangle, rowsMesh}
+use Rattle.mesh.proofs.Sides.{opposite-side}
 
 pub vertex-row : (row : List ℤ) (i : ℕ) → i < 3 → vertex (rowTriangle row) i ≡ record { x = number row (2 * i); y = number row (2 * i + 1) }
 unfolding vertex rowTriangle
@@ -33,3 +34,7 @@ unfolding rowsMesh
 triangle-row [] k h = absurd (omega arith)
 triangle-row (r ∷ rows) zero h = refl
 triangle-row (r ∷ rows) (suc k) h = triangle-row rows k (omega arith)
+
+-- the side of a row that names a triangle is one of three
+pub side-below : {j : ℕ} (row : List ℤ) (k : ℕ) → j ≡ opposite (rowTriangle row) k → j < 3
+side-below row k e = omega (arith, e, opposite-side (rowTriangle row) k)

@@ -105,14 +105,9 @@ pub fn mesh_fault(mesh: &[[i32; 9]]) -> u32
     if off_grid(mesh) {
         return 2;
     }
-    if mesh_neighbors::stray_neighbor(mesh) {
-        return 3;
-    }
-    if mesh_neighbors::misnamed(mesh) {
-        return 4;
-    }
-    if mesh_neighbors::mismatched(mesh) {
-        return 5;
+    let fault = mesh_neighbors::neighbor_fault(mesh);
+    if fault != 0 {
+        return fault;
     }
     if flat(mesh) {
         return 6;

@@ -1,6 +1,6 @@
 -- `mesh_faults::mesh_fault` meets its contract: each kind is told where those before it do not hold. Assumes nothing.
 use mathlib.Core.Path.{_≡_, refl, sym, _∙_, ap}
-use mathlib.Core.Bool.{Bool, true, false}
+use mathlib.Core.Bool.{Bool, true, false, cond}
 use mathlib.Core.List.{List}
 use Prim.Native.Nat.{ℕ, _≤_, _<_}
 use native.Mathlib.Omega.{arith}
@@ -11,6 +11,7 @@ use Rattle.integers.specs.Faults.{firstFault}
 use Rattle.mesh.specs.Mesh.{Mesh, tooMany, offGrid, strayNeighbour, misnamed, mismatched, flat, tooLarge, meshKinds}
 use Rattle.mesh.specs.Rows.{rowsMesh}
 use Rattle.mesh.proofs.Rows.{length-rows}
+use Rattle.mesh_neighbors.specs.Earliest.{neighbourFault}
 use borrow.Author.Needs.{needs}
 use Rattle.mesh_faults.proofs.mesh_fault.Statement.{statement}
 use Rattle.mesh_faults.proofs.mesh_fault.Tie as tie
@@ -23,7 +24,26 @@ few : (rows : List (List ℤ)) → length rows ≤ 1024 → tooMany (rowsMesh ro
 unfolding tooMany
 few rows h = le-ltb 1024 (length (rowsMesh rows)) (omega (arith, length-rows rows))
 
+-- the neighbours' fault is told before those after it, or passes on to them
+abbrev three : Bool → Bool → Bool → ℕ → ℕ
+three s n x r = cond s 3 (cond n 4 (cond x 5 r))
+
+told : (s n x : Bool) (r : ℕ) → (three s n x 0 ≡ 0 → ⊥) → three s n x 0 ≡ three s n x r
+told true n x r d = refl
+told false true x r d = refl
+told false false true r d = refl
+told false false false r d = absurd (d refl)
+
+untold : (s n x : Bool) (r : ℕ) → three s n x 0 ≡ 0 → three s n x r ≡ r
+untold true n x r e = absurd (omega (arith, e))
+untold false true x r e = absurd (omega (arith, e))
+untold false false true r e = absurd (omega (arith, e))
+untold false false false r e = refl
+
 module _ (m : Mesh) where
+  abbrev rest : ℕ
+  rest = cond (flat m) 6 (cond (tooLarge m) 11 0)
+
   abbrev answer : ℕ
   answer = firstFault (meshKinds m)
 
@@ -37,33 +57,24 @@ module _ (m : Mesh) where
     two b = rw (a, b)
 
     module _ (b : offGrid m ≡ false) where
-      three : strayNeighbour m ≡ true → 3 ≡ answer
-      unfolding firstFault
-      three c = rw (a, b, c)
+      pub neighbour : {f : ℕ} → f ≡ neighbourFault m → (f ≡ 0 → ⊥) → f ≡ answer
+      unfolding firstFault neighbourFault
+      neighbour e d = e ∙ rw (a, b) (told (strayNeighbour m) (misnamed m) (mismatched m) rest (λ q. d (e ∙ q)))
 
-      module _ (c : strayNeighbour m ≡ false) where
-        four : misnamed m ≡ true → 4 ≡ answer
-        unfolding firstFault
-        four d = rw (a, b, c, d)
+      module _ {f : ℕ} (e : f ≡ neighbourFault m) (z : f ≡ 0) where
+        past : answer ≡ rest
+        unfolding firstFault neighbourFault
+        past = rw (a, b) (untold (strayNeighbour m) (misnamed m) (mismatched m) rest (sym e ∙ z))
 
-        module _ (d : misnamed m ≡ false) where
-          five : mismatched m ≡ true → 5 ≡ answer
-          unfolding firstFault
-          five e = rw (a, b, c, d, e)
+        six : flat m ≡ true → 6 ≡ answer
+        six g = sym (past ∙ rw g)
 
-          module _ (e : mismatched m ≡ false) where
-            six : flat m ≡ true → 6 ≡ answer
-            unfolding firstFault
-            six f = rw (a, b, c, d, e, f)
+        module _ (g : flat m ≡ false) where
+          eleven : tooLarge m ≡ true → 11 ≡ answer
+          eleven h = sym (past ∙ rw (g, h))
 
-            module _ (f : flat m ≡ false) where
-              eleven : tooLarge m ≡ true → 11 ≡ answer
-              unfolding firstFault
-              eleven g = rw (a, b, c, d, e, f, g)
-
-              accepted : tooLarge m ≡ false → 0 ≡ answer
-              unfolding firstFault
-              accepted g = rw (a, b, c, d, e, f, g)
+          accepted : tooLarge m ≡ false → 0 ≡ answer
+          accepted h = sym (past ∙ rw (g, h))
 
 -- an answer of a pass, and the branch that it took
 read : {r s t : Bool} → r ≡ s → r ≡ t → s ≡ t
@@ -81,76 +92,34 @@ returns-2 c =
     let rows = e1 .before .args .mesh .now in
     two (rowsMesh rows) (few rows (e1 .if1 .left)) (read (c .before .off-grid .ensures) (c .if2 .taken))
 
-stray-neighbor-requires : tie.Need-stray-neighbor-requires
-stray-neighbor-requires c κs = search needs
+neighbor-fault-requires : tie.Need-neighbor-fault-requires
+neighbor-fault-requires c κs = search needs
 
 returns-3 : tie.Need-returns-3
 returns-3 c =
-    let e2 = c .before .before in
-    let e1 = e2 .before .before in
-    let rows = e1 .before .args .mesh .now in
-    three (rowsMesh rows) (few rows (e1 .if1 .left)) (read (e2 .before .off-grid .ensures) (e2 .if2 .left)) (read (c .before .stray-neighbor .ensures) (c .if3 .taken))
+    let rows = c .before .before .before .before .before .args .mesh .now in
+    neighbour (rowsMesh rows) (few rows (c .before .before .before .before .if1 .left)) (read (c .before .before .before .off-grid .ensures) (c .before .before .if2 .left)) (c .before .neighbor-fault .ensures) (c .if3 .taken)
 
-misnamed-requires : tie.Need-misnamed-requires
-misnamed-requires c κs = read (c .before .stray-neighbor .ensures) (c .if3 .left)
+flat-requires : tie.Need-flat-requires
+flat-requires c κs = read (c .before .before .before .off-grid .ensures) (c .before .before .if2 .left)
 
 returns-4 : tie.Need-returns-4
 returns-4 c =
-    let e3 = c .before .before in
-    let e2 = e3 .before .before in
-    let e1 = e2 .before .before in
-    let rows = e1 .before .args .mesh .now in
-    four (rowsMesh rows) (few rows (e1 .if1 .left)) (read (e2 .before .off-grid .ensures) (e2 .if2 .left)) (read (e3 .before .stray-neighbor .ensures) (e3 .if3 .left)) (read (c .before .misnamed .ensures) (c .if4 .taken))
+    let rows = c .before .before .before .before .before .before .before .args .mesh .now in
+    six (rowsMesh rows) (few rows (c .before .before .before .before .before .before .if1 .left)) (read (c .before .before .before .before .before .off-grid .ensures) (c .before .before .before .before .if2 .left)) (c .before .before .before .neighbor-fault .ensures) (c .before .before .if3 .left) (read (c .before .flat .ensures) (c .if4 .taken))
 
-mismatched-requires : tie.Need-mismatched-requires
-mismatched-requires c κs = let e = c .before .before in read (e .before .stray-neighbor .ensures) (e .if3 .left)
+too-large-requires : tie.Need-too-large-requires
+too-large-requires c κs = (read (c .before .before .before .before .before .off-grid .ensures) (c .before .before .before .before .if2 .left), read (c .before .flat .ensures) (c .if4 .left))
 
 returns-5 : tie.Need-returns-5
 returns-5 c =
-    let e4 = c .before .before in
-    let e3 = e4 .before .before in
-    let e2 = e3 .before .before in
-    let e1 = e2 .before .before in
-    let rows = e1 .before .args .mesh .now in
-    five (rowsMesh rows) (few rows (e1 .if1 .left)) (read (e2 .before .off-grid .ensures) (e2 .if2 .left)) (read (e3 .before .stray-neighbor .ensures) (e3 .if3 .left)) (read (e4 .before .misnamed .ensures) (e4 .if4 .left)) (read (c .before .mismatched .ensures) (c .if5 .taken))
-
-flat-requires : tie.Need-flat-requires
-flat-requires c κs = let e = c .before .before .before .before .before .before in read (e .before .off-grid .ensures) (e .if2 .left)
+    let rows = c .before .before .before .before .before .before .before .before .before .args .mesh .now in
+    eleven (rowsMesh rows) (few rows (c .before .before .before .before .before .before .before .before .if1 .left)) (read (c .before .before .before .before .before .before .before .off-grid .ensures) (c .before .before .before .before .before .before .if2 .left)) (c .before .before .before .before .before .neighbor-fault .ensures) (c .before .before .before .before .if3 .left) (read (c .before .before .before .flat .ensures) (c .before .before .if4 .left)) (read (c .before .too-large .ensures) (c .if5 .taken))
 
 returns-6 : tie.Need-returns-6
 returns-6 c =
-    let e5 = c .before .before in
-    let e4 = e5 .before .before in
-    let e3 = e4 .before .before in
-    let e2 = e3 .before .before in
-    let e1 = e2 .before .before in
-    let rows = e1 .before .args .mesh .now in
-    six (rowsMesh rows) (few rows (e1 .if1 .left)) (read (e2 .before .off-grid .ensures) (e2 .if2 .left)) (read (e3 .before .stray-neighbor .ensures) (e3 .if3 .left)) (read (e4 .before .misnamed .ensures) (e4 .if4 .left)) (read (e5 .before .mismatched .ensures) (e5 .if5 .left)) (read (c .before .flat .ensures) (c .if6 .taken))
-
-too-large-requires : tie.Need-too-large-requires
-too-large-requires c κs = let e = c .before .before .before .before .before .before .before .before in (read (e .before .off-grid .ensures) (e .if2 .left), read (c .before .flat .ensures) (c .if6 .left))
-
-returns-7 : tie.Need-returns-7
-returns-7 c =
-    let e6 = c .before .before in
-    let e5 = e6 .before .before in
-    let e4 = e5 .before .before in
-    let e3 = e4 .before .before in
-    let e2 = e3 .before .before in
-    let e1 = e2 .before .before in
-    let rows = e1 .before .args .mesh .now in
-    eleven (rowsMesh rows) (few rows (e1 .if1 .left)) (read (e2 .before .off-grid .ensures) (e2 .if2 .left)) (read (e3 .before .stray-neighbor .ensures) (e3 .if3 .left)) (read (e4 .before .misnamed .ensures) (e4 .if4 .left)) (read (e5 .before .mismatched .ensures) (e5 .if5 .left)) (read (e6 .before .flat .ensures) (e6 .if6 .left)) (read (c .before .too-large .ensures) (c .if7 .taken))
-
-returns-8 : tie.Need-returns-8
-returns-8 c =
-    let e6 = c .before .before in
-    let e5 = e6 .before .before in
-    let e4 = e5 .before .before in
-    let e3 = e4 .before .before in
-    let e2 = e3 .before .before in
-    let e1 = e2 .before .before in
-    let rows = e1 .before .args .mesh .now in
-    accepted (rowsMesh rows) (few rows (e1 .if1 .left)) (read (e2 .before .off-grid .ensures) (e2 .if2 .left)) (read (e3 .before .stray-neighbor .ensures) (e3 .if3 .left)) (read (e4 .before .misnamed .ensures) (e4 .if4 .left)) (read (e5 .before .mismatched .ensures) (e5 .if5 .left)) (read (e6 .before .flat .ensures) (e6 .if6 .left)) (read (c .before .too-large .ensures) (c .if7 .left))
+    let rows = c .before .before .before .before .before .before .before .before .before .args .mesh .now in
+    accepted (rowsMesh rows) (few rows (c .before .before .before .before .before .before .before .before .if1 .left)) (read (c .before .before .before .before .before .before .before .off-grid .ensures) (c .before .before .before .before .before .before .if2 .left)) (c .before .before .before .before .before .neighbor-fault .ensures) (c .before .before .before .before .if3 .left) (read (c .before .before .before .flat .ensures) (c .before .before .if4 .left)) (read (c .before .too-large .ensures) (c .if5 .left))
 
 pub mesh-fault-spec : {M : Type 1} → statement M
 mesh-fault-spec =
@@ -159,14 +128,10 @@ mesh-fault-spec =
     returns
     off-grid-requires
     returns-2
-    stray-neighbor-requires
+    neighbor-fault-requires
     returns-3
-    misnamed-requires
-    returns-4
-    mismatched-requires
-    returns-5
     flat-requires
-    returns-6
+    returns-4
     too-large-requires
-    returns-7
-    returns-8)
+    returns-5
+    returns-6)

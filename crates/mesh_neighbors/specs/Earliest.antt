@@ -1,0 +1,38 @@
+-- The first of faults 3, 4 and 5 that holds: of a mesh, of a triangle, of a side. They are numbered in the order in which document 01 tries them, so
+-- the mesh's is the least that a side tells. Assumes nothing.
+use mathlib.Core.Bool.{Bool, true, false, cond}
+use mathlib.Core.List.{List, [], _∷_}
+use Prim.Native.Nat.{ℕ}
+use lib.Dec.{eqb, ltb}
+use lib.ListN.{length}
+use Rattle.integers.specs.Faults.{Kind, firstFault}
+use Rattle.plane.specs.Plane.{Pt, eqPt}
+use Rattle.mesh.specs.Mesh.{Mesh, Triangle, none, vertex, after, before, named, opposite, triangleAt, someSide, shared, strays, misnames, mismatches, strayNeighbour, misnamed, mismatched}
+
+abbrev pub neighbourKinds : Bool → Bool → Bool → List Kind
+neighbourKinds a b c = (3, a) ∷ (4, b) ∷ (5, c) ∷ []
+
+unfoldable pub neighbourFault : Mesh → ℕ
+neighbourFault m = firstFault (neighbourKinds (strayNeighbour m) (misnamed m) (mismatched m))
+
+-- of triangle k
+abbrev pub rowFault : Mesh → ℕ → ℕ
+rowFault m k =
+    firstFault
+    (neighbourKinds
+    (someSide (shared (triangleAt m k) (λ i n. strays (length m) k n)))
+    (someSide (shared (triangleAt m k) (λ i n. misnames m k (triangleAt m k) n)))
+    (someSide (shared (triangleAt m k) (mismatches m k (triangleAt m k)))))
+
+-- of triangle u, which triangle k names over the edge from a to b: 4 where u does not name k back exactly once, 5 where their edge does not run from
+-- b to a
+unfoldable pub backFault : Triangle → ℕ → Pt → Pt → ℕ
+backFault u k a b = cond (eqb (named u k) 1) (cond (cond (eqPt a (vertex u (before (opposite u k)))) (eqPt b (vertex u (after (opposite u k)))) false) 0 5) 4
+
+-- of triangle k's side from a to b, across which it names n; o and p are its other two neighbours
+unfoldable pub sideFault : Mesh → ℕ → ℕ → ℕ → ℕ → Pt → Pt → ℕ
+sideFault m k n o p a b = cond (eqb n none) 0 (cond (strays (length m) k n) 3 (cond (cond (eqb o n) true (eqb p n)) 4 (backFault (triangleAt m n) k a b)))
+
+-- the lesser of two numbers, of which 0 is none
+unfoldable pub earlier : ℕ → ℕ → ℕ
+earlier a b = cond (eqb a 0) b (cond (eqb b 0) a (cond (ltb a b) a b))
