@@ -1,52 +1,50 @@
--- What `back_fault` tells, by the tests of the code: row n does not name k back once (`unnamed`), begins or ends its edge elsewhere (`begins`,
--- `parts`), or meets it (`meets`). Assumes nothing.
+-- What the triangle across names back, by the tests of the code on its row: each law is one way through `back_fault`. Assumes nothing.
 use mathlib.Core.Path.{_≡_, sym, _∙_, ap}
-use mathlib.Core.Bool.{Bool, true, false}
+use mathlib.Core.Bool.{true, false, cond}
 use mathlib.Core.List.{List, []}
 use Prim.Native.Nat.{ℕ, _<_}
-use borrow.Author.Tests.{eq-eqb, ne-eqb}
+use lib.Dec.{eqb}
 use lib.ListN.{length, getD}
 use lib.IntN.{ℤ}
-use Rattle.plane.specs.Plane.{Pt, eqPt}
-use Rattle.mesh.specs.Mesh.{Triangle, vertex, after, before, named, opposite, triangleAt}
+use Rattle.plane.specs.Plane.{Pt}
+use Rattle.mesh.specs.Mesh.{Triangle, vertex, neighbour, triangleAt}
 use Rattle.mesh.specs.Rows.{rowTriangle, rowsMesh}
 use Rattle.mesh.proofs.Rows.{triangle-row}
-use Rattle.mesh_neighbors.specs.Earliest.{backFault}
+use Rattle.mesh_neighbors.specs.Earliest.{edgeFault, backFault}
 
-module _ (rows : List (List ℤ)) (n k : ℕ) (h : n < length rows) (a b : Pt) {c : ℕ} (e : c ≡ named (rowTriangle (getD rows n [])) k) where
+module _ (rows : List (List ℤ)) (n k : ℕ) (h : n < length rows) (a b : Pt) {i j l : ℕ} (ei : i ≡ neighbour (rowTriangle (getD rows n [])) 0) (ej : j ≡ neighbour (rowTriangle (getD rows n [])) 1) (el : l ≡ neighbour (rowTriangle (getD rows n [])) 2) where
   abbrev u : Triangle
-  u = triangleAt (rowsMesh rows) n
+  u = rowTriangle (getD rows n [])
 
-  of-row : u ≡ rowTriangle (getD rows n [])
-  of-row = triangle-row rows n h
+  abbrev answer : ℕ
+  answer = backFault (triangleAt (rowsMesh rows) n) k a b
 
-  pub unnamed : (c ≡ 1 → ⊥) → 4 ≡ backFault u k a b
-  unfolding backFault
-  unnamed d = rw (ne-eqb (named u k) 1 (λ q. d (e ∙ ap (λ t. named t k) (sym of-row) ∙ q)))
+  -- the tests are those of the row's three neighbours
+  by-tests : answer ≡ cond (eqb i k) (cond (eqb j k) 4 (cond (eqb l k) 4 (edgeFault a b (vertex u 2) (vertex u 1)))) (cond (eqb j k) (cond (eqb l k) 4 (edgeFault a b (vertex u 0) (vertex u 2))) (cond (eqb l k) (edgeFault a b (vertex u 1) (vertex u 0)) 4))
+  unfolding backFault neighbour vertex
+  by-tests =
+      ap (λ t. backFault t k a b) (triangle-row rows n h)
+      ∙ sym (λ w. cond (eqb (ei w) k) (cond (eqb (ej w) k) 4 (cond (eqb (el w) k) 4 (edgeFault a b (vertex u 2) (vertex u 1)))) (cond (eqb (ej w) k) (cond (eqb (el w) k) 4 (edgeFault a b (vertex u 0) (vertex u 2))) (cond (eqb (el w) k) (edgeFault a b (vertex u 1) (vertex u 0)) 4)))
 
-  -- side is the vertex of u after the side that names k, end the one before
-  module _ (o : c ≡ 1) {j side end : ℕ} (ej : j ≡ opposite (rowTriangle (getD rows n [])) k) (es : side ≡ after j) (ee : end ≡ after side) {p : Pt} (ep : p ≡ vertex u end) {x : Bool} (ex : x ≡ eqPt a p) where
-    once : c ≡ named u k
-    once = e ∙ ap (λ t. named t k) (sym of-row)
+  module _ (x : eqb i k ≡ true) where
+    pub first-second : eqb j k ≡ true → 4 ≡ answer
+    first-second y = sym (by-tests ∙ rw (x, y))
 
-    at : side ≡ after (opposite u k)
-    at = es ∙ ap after (ej ∙ ap (λ t. opposite t k) (sym of-row))
+    pub first-third : eqb j k ≡ false → eqb l k ≡ true → 4 ≡ answer
+    first-third y z = sym (by-tests ∙ rw (x, y, z))
 
-    start : x ≡ eqPt a (vertex u (before (opposite u k)))
-    start = ex ∙ ap (eqPt a) (ep ∙ ap (vertex u) (ee ∙ ap after at))
+    pub first-alone : eqb j k ≡ false → eqb l k ≡ false → {p q : Pt} {r : ℕ} → p ≡ vertex u 2 → q ≡ vertex u 1 → r ≡ edgeFault a b p q → r ≡ answer
+    first-alone y z ep eq er = er ∙ (λ w. edgeFault a b (ep w) (eq w)) ∙ sym (by-tests ∙ rw (x, y, z))
 
-    pub begins : x ≡ false → 5 ≡ backFault u k a b
-    unfolding backFault
-    begins z = rw (eq-eqb (named u k) 1 (sym once ∙ o), sym start ∙ z)
+  module _ (x : eqb i k ≡ false) where
+    pub second-third : eqb j k ≡ true → eqb l k ≡ true → 4 ≡ answer
+    second-third y z = sym (by-tests ∙ rw (x, y, z))
 
-    module _ (z : x ≡ true) {q : Pt} (eq : q ≡ vertex u side) {y : Bool} (ey : y ≡ eqPt b q) where
-      stop : y ≡ eqPt b (vertex u (after (opposite u k)))
-      stop = ey ∙ ap (eqPt b) (eq ∙ ap (vertex u) at)
+    pub second-alone : eqb j k ≡ true → eqb l k ≡ false → {p q : Pt} {r : ℕ} → p ≡ vertex u 0 → q ≡ vertex u 2 → r ≡ edgeFault a b p q → r ≡ answer
+    second-alone y z ep eq er = er ∙ (λ w. edgeFault a b (ep w) (eq w)) ∙ sym (by-tests ∙ rw (x, y, z))
 
-      pub meets : y ≡ true → 0 ≡ backFault u k a b
-      unfolding backFault
-      meets w = rw (eq-eqb (named u k) 1 (sym once ∙ o), sym start ∙ z, sym stop ∙ w)
+    pub third-alone : eqb j k ≡ false → eqb l k ≡ true → {p q : Pt} {r : ℕ} → p ≡ vertex u 1 → q ≡ vertex u 0 → r ≡ edgeFault a b p q → r ≡ answer
+    third-alone y z ep eq er = er ∙ (λ w. edgeFault a b (ep w) (eq w)) ∙ sym (by-tests ∙ rw (x, y, z))
 
-      pub parts : y ≡ false → 5 ≡ backFault u k a b
-      unfolding backFault
-      parts w = rw (eq-eqb (named u k) 1 (sym once ∙ o), sym start ∙ z, sym stop ∙ w)
+    pub no-side : eqb j k ≡ false → eqb l k ≡ false → 4 ≡ answer
+    no-side y z = sym (by-tests ∙ rw (x, y, z))

@@ -10,11 +10,11 @@ use lib.Dec.{eqb, leb}
 use lib.ListN.{length, getD}
 use lib.IntN.{ℤ}
 use Rattle.integers.specs.Faults.{firstFault}
-use Rattle.plane.specs.Plane.{Pt}
+use Rattle.plane.specs.Plane.{Pt, eqPt}
 use Rattle.mesh.specs.Mesh.{Mesh, Triangle, none, vertex, neighbour, after, before, named, opposite, triangleAt, strays, runsOppositely}
 use Rattle.mesh.specs.Rows.{rowTriangle, rowsMesh}
 use Rattle.mesh.proofs.Rows.{length-rows, triangle-row}
-use Rattle.mesh_neighbors.specs.Earliest.{backFault, sideFault}
+use Rattle.mesh_neighbors.specs.Earliest.{edgeFault, backFault, sideFault}
 use Rattle.mesh_neighbors.proofs.Earliest.{kindsAt}
 
 -- ---- by the tests of the code
@@ -81,6 +81,24 @@ named-once t (suc zero) h = ap (λ s. eqb (cond (eqb (t .n0) (t .n1)) 1 0 + cond
 named-once t (suc (suc zero)) h = ap (λ s. eqb (cond (eqb (t .n0) (t .n2)) 1 0 + cond (eqb (t .n1) (t .n2)) 1 0 + cond s 1 0) 1) (eq-eqb (t .n2) (t .n2) refl) ∙ once-third (eqb (t .n0) (t .n2)) (eqb (t .n1) (t .n2))
 named-once t (suc (suc (suc i))) h = absurd (omega arith)
 
+-- what the triangle across names back, and its edge, by the side that names
+back-kinds : (u : Triangle) (k : ℕ) (a b : Pt) → backFault u k a b ≡ cond (eqb (named u k) 1) (cond (cond (eqPt a (vertex u (before (opposite u k)))) (eqPt b (vertex u (after (opposite u k)))) false) 0 5) 4
+unfolding backFault edgeFault named opposite
+back-kinds u k a b = cases (eqb (u .n0) k) (eqb (u .n1) k) (eqb (u .n2) k)
+  where
+    edge : Pt → Pt → ℕ
+    edge p q = cond (cond (eqPt a p) (eqPt b q) false) 0 5
+
+    cases : (x y z : Bool) → cond x (cond y 4 (cond z 4 (edge (u .v2) (u .v1)))) (cond y (cond z 4 (edge (u .v0) (u .v2))) (cond z (edge (u .v1) (u .v0)) 4)) ≡ cond (eqb (cond x 1 0 + cond y 1 0 + cond z 1 0) 1) (edge (vertex u (before (cond x 0 (cond y 1 2)))) (vertex u (after (cond x 0 (cond y 1 2))))) 4
+    cases true true true = refl
+    cases true true false = refl
+    cases true false true = refl
+    cases true false false = unfold vertex after in refl
+    cases false true true = refl
+    cases false true false = unfold vertex after in refl
+    cases false false true = unfold vertex after in refl
+    cases false false false = refl
+
 -- no neighbour; one that strays; one named twice; then what it names back, and its edge
 kinds : (e s w x y : Bool) → _≡_ {A = ℕ} (cond e 0 (cond s 3 (cond w 4 (cond x (cond y 0 5) 4)))) (cond (cond e false s) 3 (cond (cond e false (not (cond (not w) x false))) 4 (cond (cond e false (not y)) 5 0)))
 kinds true s w x y = refl
@@ -91,12 +109,13 @@ kinds false false false true false = refl
 kinds false false false false y = refl
 
 pub side-kinds : (m : Mesh) (k i : ℕ) → i < 3 → sideFault m k (neighbour (triangleAt m k) i) (neighbour (triangleAt m k) (after i)) (neighbour (triangleAt m k) (before i)) (vertex (triangleAt m k) (after i)) (vertex (triangleAt m k) (before i)) ≡ kindsAt m k i
-unfolding sideFault backFault firstFault runsOppositely
+unfolding sideFault firstFault runsOppositely
 side-kinds m k i h =
     let t = triangleAt m k in
     let n = neighbour t i in
     let u = triangleAt m n in
-    kinds (eqb n none) (strays (length m) k n) (cond (eqb (neighbour t (after i)) n) true (eqb (neighbour t (before i)) n)) (eqb (named u k) 1) (runsOppositely t i u (opposite u k))
+    ap (λ w. cond (eqb n none) 0 (cond (strays (length m) k n) 3 (cond (cond (eqb (neighbour t (after i)) n) true (eqb (neighbour t (before i)) n)) 4 w))) (back-kinds u k (vertex t (after i)) (vertex t (before i)))
+    ∙ kinds (eqb n none) (strays (length m) k n) (cond (eqb (neighbour t (after i)) n) true (eqb (neighbour t (before i)) n)) (eqb (named u k) 1) (runsOppositely t i u (opposite u k))
     ∙ ap (λ w. cond (cond (eqb n none) false (strays (length m) k n)) 3 (cond (cond (eqb n none) false (not (cond w (eqb (named u k) 1) false))) 4 (cond (cond (eqb n none) false (not (runsOppositely t i u (opposite u k)))) 5 0)))
     (sym (named-once t i h))
 

@@ -7,7 +7,7 @@ use lib.Dec.{eqb, ltb}
 use lib.ListN.{length}
 use Rattle.integers.specs.Faults.{Kind, firstFault}
 use Rattle.plane.specs.Plane.{Pt, eqPt}
-use Rattle.mesh.specs.Mesh.{Mesh, Triangle, none, vertex, after, before, named, opposite, triangleAt, someSide, shared, strays, misnames, mismatches, strayNeighbour, misnamed, mismatched}
+use Rattle.mesh.specs.Mesh.{Mesh, Triangle, none, triangleAt, someSide, shared, strays, misnames, mismatches, strayNeighbour, misnamed, mismatched}
 
 abbrev pub neighbourKinds : Bool → Bool → Bool → List Kind
 neighbourKinds a b c = (3, a) ∷ (4, b) ∷ (5, c) ∷ []
@@ -24,10 +24,17 @@ rowFault m k =
     (someSide (shared (triangleAt m k) (λ i n. misnames m k (triangleAt m k) n)))
     (someSide (shared (triangleAt m k) (mismatches m k (triangleAt m k)))))
 
+-- 5 where the edge from p to q is not the one from a to b
+unfoldable pub edgeFault : Pt → Pt → Pt → Pt → ℕ
+edgeFault a b p q = cond (cond (eqPt a p) (eqPt b q) false) 0 5
+
 -- of triangle u, which triangle k names over the edge from a to b: 4 where u does not name k back exactly once, 5 where their edge does not run from
 -- b to a
 unfoldable pub backFault : Triangle → ℕ → Pt → Pt → ℕ
-backFault u k a b = cond (eqb (named u k) 1) (cond (cond (eqPt a (vertex u (before (opposite u k)))) (eqPt b (vertex u (after (opposite u k)))) false) 0 5) 4
+backFault u k a b =
+    cond (eqb (u .n0) k)
+    (cond (eqb (u .n1) k) 4 (cond (eqb (u .n2) k) 4 (edgeFault a b (u .v2) (u .v1))))
+    (cond (eqb (u .n1) k) (cond (eqb (u .n2) k) 4 (edgeFault a b (u .v0) (u .v2))) (cond (eqb (u .n2) k) (edgeFault a b (u .v1) (u .v0)) 4))
 
 -- of triangle k's side from a to b, across which it names n; o and p are its other two neighbours
 unfoldable pub sideFault : Mesh → ℕ → ℕ → ℕ → ℕ → Pt → Pt → ℕ

@@ -6,7 +6,7 @@ ghost use lib.ListN.{length};
 ghost use Rattle.plane.specs.Machine.{point};
 ghost use Rattle.mesh.specs.Mesh.{triangleAt};
 ghost use Rattle.mesh.specs.Rows.{rowsMesh};
-ghost use Rattle.mesh_neighbors.specs.Earliest.{earlier, backFault, sideFault, rowFault, neighbourFault};
+ghost use Rattle.mesh_neighbors.specs.Earliest.{earlier, edgeFault, backFault, sideFault, rowFault, neighbourFault};
 use mesh::NIL_INDEX;
 use plane::IntPoint;
 
@@ -26,23 +26,47 @@ fn earlier_of(a: u32, b: u32) -> u32
     b
 }
 
-// 4 where triangle n does not name k back exactly once, 5 where the edge that it shares so does not run from b to a; else 0.
+// 5 where the edge from p to q is not the one from a to b; else 0.
+fn edge_fault(a: IntPoint, b: IntPoint, p: IntPoint, q: IntPoint) -> u32
+    ensures { λ r. ⌜ r ≡ edgeFault (point a) (point b) (point p) (point q) ⌝ }
+{
+    if plane::same_point(a, p) {
+        if plane::same_point(b, q) {
+            return 0;
+        }
+    }
+    5
+}
+
+// 4 where triangle n does not name k back exactly once, 5 where the edge that it shares so does not run from b to a; else 0. Each place of its row
+// is named, since a place known only at run time costs more than these tests.
 fn back_fault(mesh: &[[i32; 9]], n: usize, k: usize, a: IntPoint, b: IntPoint) -> u32
     requires { ⌜ n < length (now mesh) ⌝ }
     ensures { λ r. ⌜ r ≡ backFault (triangleAt (rowsMesh (now (mesh .entry))) n) k (point a) (point b) ⌝ }
 {
     let far = mesh[n];
-    if mesh::named_of(far, k) != 1 {
-        return 4;
-    }
-    let side = mesh::after_of(mesh::opposite_of(far, k));
-    let end = mesh::after_of(side);
-    if plane::same_point(a, mesh::vertex_at(mesh, n, end)) {
-        if plane::same_point(b, mesh::vertex_at(mesh, n, side)) {
-            return 0;
+    let first = mesh::neighbor_of(far, 0) == k;
+    let second = mesh::neighbor_of(far, 1) == k;
+    let third = mesh::neighbor_of(far, 2) == k;
+    if first {
+        if second {
+            return 4;
         }
+        if third {
+            return 4;
+        }
+        return edge_fault(a, b, mesh::vertex_of(far, 2), mesh::vertex_of(far, 1));
     }
-    5
+    if second {
+        if third {
+            return 4;
+        }
+        return edge_fault(a, b, mesh::vertex_of(far, 0), mesh::vertex_of(far, 2));
+    }
+    if third {
+        return edge_fault(a, b, mesh::vertex_of(far, 1), mesh::vertex_of(far, 0));
+    }
+    4
 }
 
 // The first of 3, 4 and 5 that holds of n, the neighbour of triangle k across the edge from a to b; o and p are its other two. 0 for none.

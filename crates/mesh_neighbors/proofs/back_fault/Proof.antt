@@ -1,8 +1,7 @@
--- `mesh_neighbors::back_fault` meets its contract: the cases of Back. Assumes nothing.
+-- `mesh_neighbors::back_fault` meets its contract: the laws of Back. Assumes nothing.
 use borrow.Author.Needs.{needs}
 use Rattle.plane.specs.Machine.{point}
-use Rattle.mesh.proofs.Rows.{side-below}
-use Rattle.mesh_neighbors.proofs.Back.{unnamed, begins, parts, meets}
+use Rattle.mesh_neighbors.proofs.Back.{first-second, first-third, first-alone, second-third, second-alone, third-alone, no-side}
 use Rattle.mesh_neighbors.proofs.back_fault.Statement.{statement}
 use Rattle.mesh_neighbors.proofs.back_fault.Tie as tie
 
@@ -12,49 +11,76 @@ mul-far c = search needs
 shared-slice-copy-out-far : tie.Need-shared-slice-copy-out-far
 shared-slice-copy-out-far c = search needs
 
-named-of-requires : tie.Need-named-of-requires
-named-of-requires c κs = search needs
+neighbor-of-requires : tie.Need-neighbor-of-requires
+neighbor-of-requires c κs = search needs
+
+neighbor-of-requires-2 : tie.Need-neighbor-of-requires-2
+neighbor-of-requires-2 c κs = search needs
+
+neighbor-of-requires-3 : tie.Need-neighbor-of-requires-3
+neighbor-of-requires-3 c κs = search needs
 
 returns : tie.Need-returns
 returns c =
-    let s = c .before .before .before in
-    unnamed (s .args .mesh .now) (s .args .n) (s .args .k) (s .pre) (point (s .args .a)) (point (s .args .b)) (c .before .named-of .ensures) (c .if1 .taken)
-
-opposite-of-requires : tie.Need-opposite-of-requires
-opposite-of-requires c κs = search needs
-
-after-of-requires : tie.Need-after-of-requires
-after-of-requires c κs = side-below _ _ (c .opposite-of .ensures)
-
-after-of-requires-2 : tie.Need-after-of-requires-2
-after-of-requires-2 c κs = search needs
-
-vertex-at-requires : tie.Need-vertex-at-requires
-vertex-at-requires c κs = search needs
-
-same-point-requires : tie.Need-same-point-requires
-same-point-requires c κs = search needs
-
-vertex-at-requires-2 : tie.Need-vertex-at-requires-2
-vertex-at-requires-2 c κs = search needs
-
-same-point-requires-2 : tie.Need-same-point-requires-2
-same-point-requires-2 c κs = search needs
+    let s = c .before .before .before .before .before .before in
+    first-second (s .args .mesh .now) (s .args .n) (s .args .k) (s .pre) (point (s .args .a)) (point (s .args .b)) (c .before .before .before .before .neighbor-of .ensures) (c .before .before .before .neighbor-of2 .ensures) (c .before .before .neighbor-of3 .ensures) (c .before .if1 .taken) (c .if2 .taken)
 
 returns-2 : tie.Need-returns-2
 returns-2 c =
-    let s = c .before .before .before .before .before .before .before .before .before .before .before .before in
-    meets (s .args .mesh .now) (s .args .n) (s .args .k) (s .pre) (point (s .args .a)) (point (s .args .b)) (c .before .before .before .before .before .before .before .before .before .before .named-of .ensures) (c .before .before .before .before .before .before .before .before .before .if1 .left) (c .before .before .before .before .before .before .before .before .opposite-of .ensures) (c .before .before .before .before .before .before .before .after-of .ensures .0) (c .before .before .before .before .before .before .after-of2 .ensures .0) (c .before .before .before .before .before .vertex-at .ensures) (c .before .before .before .before .same-point .ensures) (c .before .before .before .if2 .taken) (c .before .before .vertex-at2 .ensures) (c .before .same-point2 .ensures) (c .if3 .taken)
+    let s = c .before .before .before .before .before .before .before in
+    first-third (s .args .mesh .now) (s .args .n) (s .args .k) (s .pre) (point (s .args .a)) (point (s .args .b)) (c .before .before .before .before .before .neighbor-of .ensures) (c .before .before .before .before .neighbor-of2 .ensures) (c .before .before .before .neighbor-of3 .ensures) (c .before .before .if1 .taken) (c .before .if2 .left) (c .if3 .taken)
+
+vertex-of-requires : tie.Need-vertex-of-requires
+vertex-of-requires c κs = search needs
+
+vertex-of-requires-2 : tie.Need-vertex-of-requires-2
+vertex-of-requires-2 c κs = search needs
+
+edge-fault-requires : tie.Need-edge-fault-requires
+edge-fault-requires c κs = search needs
 
 returns-3 : tie.Need-returns-3
 returns-3 c =
-    let s = c .before .before .before .before .before .before .before .before .before .before .before .before in
-    parts (s .args .mesh .now) (s .args .n) (s .args .k) (s .pre) (point (s .args .a)) (point (s .args .b)) (c .before .before .before .before .before .before .before .before .before .before .named-of .ensures) (c .before .before .before .before .before .before .before .before .before .if1 .left) (c .before .before .before .before .before .before .before .before .opposite-of .ensures) (c .before .before .before .before .before .before .before .after-of .ensures .0) (c .before .before .before .before .before .before .after-of2 .ensures .0) (c .before .before .before .before .before .vertex-at .ensures) (c .before .before .before .before .same-point .ensures) (c .before .before .before .if2 .taken) (c .before .before .vertex-at2 .ensures) (c .before .same-point2 .ensures) (c .if3 .left)
+    let s = c .before .before .before .before .before .before .before .before .before .before in
+    first-alone (s .args .mesh .now) (s .args .n) (s .args .k) (s .pre) (point (s .args .a)) (point (s .args .b)) (c .before .before .before .before .before .before .before .before .neighbor-of .ensures) (c .before .before .before .before .before .before .before .neighbor-of2 .ensures) (c .before .before .before .before .before .before .neighbor-of3 .ensures) (c .before .before .before .before .before .if1 .taken) (c .before .before .before .before .if2 .left) (c .before .before .before .if3 .left) (c .before .before .vertex-of .ensures) (c .before .vertex-of2 .ensures) (c .edge-fault .ensures)
 
 returns-4 : tie.Need-returns-4
 returns-4 c =
-    let s = c .before .before .before .before .before .before .before .before .before in
-    begins (s .args .mesh .now) (s .args .n) (s .args .k) (s .pre) (point (s .args .a)) (point (s .args .b)) (c .before .before .before .before .before .before .before .named-of .ensures) (c .before .before .before .before .before .before .if1 .left) (c .before .before .before .before .before .opposite-of .ensures) (c .before .before .before .before .after-of .ensures .0) (c .before .before .before .after-of2 .ensures .0) (c .before .before .vertex-at .ensures) (c .before .same-point .ensures) (c .if2 .left)
+    let s = c .before .before .before .before .before .before .before in
+    second-third (s .args .mesh .now) (s .args .n) (s .args .k) (s .pre) (point (s .args .a)) (point (s .args .b)) (c .before .before .before .before .before .neighbor-of .ensures) (c .before .before .before .before .neighbor-of2 .ensures) (c .before .before .before .neighbor-of3 .ensures) (c .before .before .if1 .left) (c .before .if4 .taken) (c .if5 .taken)
+
+vertex-of-requires-3 : tie.Need-vertex-of-requires-3
+vertex-of-requires-3 c κs = search needs
+
+vertex-of-requires-4 : tie.Need-vertex-of-requires-4
+vertex-of-requires-4 c κs = search needs
+
+edge-fault-requires-2 : tie.Need-edge-fault-requires-2
+edge-fault-requires-2 c κs = search needs
+
+returns-5 : tie.Need-returns-5
+returns-5 c =
+    let s = c .before .before .before .before .before .before .before .before .before .before in
+    second-alone (s .args .mesh .now) (s .args .n) (s .args .k) (s .pre) (point (s .args .a)) (point (s .args .b)) (c .before .before .before .before .before .before .before .before .neighbor-of .ensures) (c .before .before .before .before .before .before .before .neighbor-of2 .ensures) (c .before .before .before .before .before .before .neighbor-of3 .ensures) (c .before .before .before .before .before .if1 .left) (c .before .before .before .before .if4 .taken) (c .before .before .before .if5 .left) (c .before .before .vertex-of3 .ensures) (c .before .vertex-of4 .ensures) (c .edge-fault2 .ensures)
+
+vertex-of-requires-5 : tie.Need-vertex-of-requires-5
+vertex-of-requires-5 c κs = search needs
+
+vertex-of-requires-6 : tie.Need-vertex-of-requires-6
+vertex-of-requires-6 c κs = search needs
+
+edge-fault-requires-3 : tie.Need-edge-fault-requires-3
+edge-fault-requires-3 c κs = search needs
+
+returns-6 : tie.Need-returns-6
+returns-6 c =
+    let s = c .before .before .before .before .before .before .before .before .before .before in
+    third-alone (s .args .mesh .now) (s .args .n) (s .args .k) (s .pre) (point (s .args .a)) (point (s .args .b)) (c .before .before .before .before .before .before .before .before .neighbor-of .ensures) (c .before .before .before .before .before .before .before .neighbor-of2 .ensures) (c .before .before .before .before .before .before .neighbor-of3 .ensures) (c .before .before .before .before .before .if1 .left) (c .before .before .before .before .if4 .left) (c .before .before .before .if6 .taken) (c .before .before .vertex-of5 .ensures) (c .before .vertex-of6 .ensures) (c .edge-fault3 .ensures)
+
+returns-7 : tie.Need-returns-7
+returns-7 c =
+    let s = c .before .before .before .before .before .before .before in
+    no-side (s .args .mesh .now) (s .args .n) (s .args .k) (s .pre) (point (s .args .a)) (point (s .args .b)) (c .before .before .before .before .before .neighbor-of .ensures) (c .before .before .before .before .neighbor-of2 .ensures) (c .before .before .before .neighbor-of3 .ensures) (c .before .before .if1 .left) (c .before .if4 .left) (c .if6 .left)
 
 pub back-fault-spec : {M : Type 1} → statement M
 back-fault-spec =
@@ -62,15 +88,22 @@ back-fault-spec =
     (tie.spec
     mul-far
     shared-slice-copy-out-far
-    named-of-requires
+    neighbor-of-requires
+    neighbor-of-requires-2
+    neighbor-of-requires-3
     returns
-    opposite-of-requires
-    after-of-requires
-    after-of-requires-2
-    vertex-at-requires
-    same-point-requires
-    vertex-at-requires-2
-    same-point-requires-2
     returns-2
+    vertex-of-requires
+    vertex-of-requires-2
+    edge-fault-requires
     returns-3
-    returns-4)
+    returns-4
+    vertex-of-requires-3
+    vertex-of-requires-4
+    edge-fault-requires-2
+    returns-5
+    vertex-of-requires-5
+    vertex-of-requires-6
+    edge-fault-requires-3
+    returns-6
+    returns-7)
