@@ -77,7 +77,7 @@ fn any(rng: &mut Rng) -> (Mesh, Vec<Fault>) {
     };
     let faults = match rng.below(9) {
         0 | 1 => vec![rng.pick(&ORDER)],
-        // 1 makes any mesh a large one
+        // 1 seldom, since it makes any mesh a large one
         2 => vec![rng.pick(&ORDER[1..]), rng.pick(&ORDER)],
         _ => Vec::new(),
     };
