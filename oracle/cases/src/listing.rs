@@ -3,12 +3,12 @@
 
 use crate::antt;
 use crate::parts::good;
-use crate::text;
 use crate::topic::{layers, Case, Topic};
 use cli::answers::parts_of_file;
 use inputs::mesh_damage::{damaged, ORDER};
 use inputs::rng::Rng;
 use inputs::stored;
+use inputs::text;
 use judge::file::{self, MeshFile, Split};
 use judge::listing::{listing, refusal};
 use judge::Fault;

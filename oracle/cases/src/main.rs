@@ -5,7 +5,6 @@
 //! - `topic`: what a topic is: a few definitions, and cases of them
 //! - `plane`, `mesh`, `parts`, `splits`, `pair`, `walk`, `table`, `pairs`,
 //!   `listing`: the topics
-//! - `text`: inputs as people read them
 //! - `antt`: terms and files of the prover's language
 //! - `report`: the checker's log, read for the cases that differ
 //!
@@ -21,7 +20,6 @@ mod plane;
 mod report;
 mod splits;
 mod table;
-mod text;
 mod topic;
 mod walk;
 

@@ -1,13 +1,13 @@
 //! The topic of crate `mesh`: a mesh's first fault, beside the judge.
 
 use crate::antt;
-use crate::text;
 use crate::topic::{layers, Case, Topic};
 use inputs::mesh_damage::{damaged, ORDER};
 use inputs::meshes::{self, Mesh};
 use inputs::rng::Rng;
-use judge::limits::{NONE, TRIANGLES};
-use judge::mesh::{fault, Triangle};
+use inputs::text;
+use judge::limits::TRIANGLES;
+use judge::mesh::fault;
 
 /// The definitions' names, here and in `DECLARATIONS`.
 const USES: &str = "\
@@ -36,11 +36,7 @@ pub fn topic(rng: &mut Rng, count: usize) -> Topic {
         .collect();
     all.push(Mesh::new());
     for many in [TRIANGLES - 1, TRIANGLES, TRIANGLES + 1] {
-        let one = Triangle {
-            points: [(0, 0), (1, 0), (0, 1)],
-            neighbours: [NONE; 3],
-        };
-        all.push(vec![one; many]);
+        all.push(meshes::apart(many));
     }
     all.push(meshes::good_of(rng, TRIANGLES));
     all.extend([false, true].map(|one_more| meshes::area_limit(rng, one_more)));

@@ -4,11 +4,11 @@
 //! and what demand 3 says, computed of contours once round.
 
 use crate::antt::{self, contour, integer, point};
-use crate::text;
 use crate::topic::{layers, Case, Topic};
 use i_triangle::int::expose::{one_pair, Operation};
 use i_triangle::int::reach::{self, Place};
 use inputs::rng::Rng;
+use inputs::text;
 use inputs::{contours, coordinates};
 use judge::round::{once_round, strictly_convex};
 use judge::walk::{winding, winding_leaves_64_bits};

@@ -3,8 +3,6 @@
 //! `difference_parts`; and the result's bounds.
 
 use crate::antt::{self, bounds, operand};
-use crate::parts::lent;
-use crate::text;
 use crate::topic::{layers, Case, Topic};
 use cli::answers::pair_contours;
 use inputs::contours;
@@ -12,6 +10,8 @@ use inputs::coordinates::EDGE;
 use inputs::operands::{self, Pair};
 use inputs::pair_damage::{damaged, ORDER};
 use inputs::rng::Rng;
+use inputs::rooms;
+use inputs::text;
 use judge::pairs::{fault, result_bounds, Operand, Operation};
 use judge::room::{self, Room, Size};
 use judge::table::Table;
@@ -113,7 +113,7 @@ fn give(pair: &Pair) -> Case {
 
 fn refused(rng: &mut Rng, pair: &Pair) -> Case {
     let answer = pair_contours(pair.operation, &pair.left, &pair.right).unwrap_or_default();
-    let lent = lent(rng, &answer);
+    let lent = rooms::about(rng, Size::of(&answer));
     let fault = match fault(pair.operation, &pair.left, &pair.right) {
         0 => room::fault(Size::of(&answer), lent),
         fault => fault,

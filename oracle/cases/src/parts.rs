@@ -3,12 +3,13 @@
 //! refuses, beside the judge.
 
 use crate::antt;
-use crate::text;
 use crate::topic::{layers, Case, Topic};
 use cli::answers::{parts, Cut};
 use inputs::mesh_damage::{damaged, ORDER};
 use inputs::meshes::{self, Mesh};
 use inputs::rng::Rng;
+use inputs::rooms;
+use inputs::text;
 use judge::limits::NONE;
 use judge::mesh::{self, area_two, Triangle};
 use judge::room::{self, Room, Size};
@@ -57,7 +58,7 @@ pub fn topic(rng: &mut Rng, count: usize) -> Topic {
     for _ in 0..count / 4 {
         let mesh = perhaps_damaged(rng);
         let answer = parts(&mesh, Cut::None).unwrap_or_default();
-        let lent = lent(rng, &answer);
+        let lent = rooms::about(rng, Size::of(&answer));
         cases.push(refused(&mesh, &answer, lent));
     }
     Topic {
@@ -98,22 +99,6 @@ pub fn fault(mesh: &Mesh, answer: &[Contour], lent: Room) -> Fault {
     match mesh::fault(mesh) {
         0 => room::fault(Size::of(answer), lent),
         fault => fault,
-    }
-}
-
-/// Room about the size of an answer: enough, just not enough, or none.
-pub fn lent(rng: &mut Rng, answer: &[Contour]) -> Room {
-    let size = Size::of(answer);
-    let mut about = |exact: usize| match rng.below(8) {
-        0 => 0,
-        1 | 2 => exact.saturating_sub(1),
-        3 => exact + 1,
-        4 => exact + 100,
-        _ => exact,
-    };
-    Room {
-        starts: about(size.starts()),
-        numbers: about(size.numbers()),
     }
 }
 

@@ -3,15 +3,15 @@
 //! beside the same of a mesh whose one region it is; and what a call refuses.
 
 use crate::antt;
-use crate::parts::{fault, good, lent, perhaps_damaged, MOST};
-use crate::text;
+use crate::parts::{fault, good, perhaps_damaged, MOST};
 use crate::topic::{layers, Case, Topic};
 use cli::answers::{parts, Cut};
 use inputs::meshes::{self, Mesh};
 use inputs::rng::Rng;
-use inputs::{contours, coordinates};
+use inputs::text;
+use inputs::{contours, coordinates, rooms};
 use judge::file::Split::{self, Centroid, Ear, Fan};
-use judge::room::Room;
+use judge::room::{Room, Size};
 use judge::{Contour, Point};
 
 /// The definitions' names, here and in `DECLARATIONS`.
@@ -68,7 +68,7 @@ pub fn topic(rng: &mut Rng, count: usize) -> Topic {
         let (how, limit) = (rng.pick(&SPLITS), rng.below(LIMITS) as u32);
         let mesh = perhaps_damaged(rng);
         let answer = parts(&mesh, Cut::Past(limit, how)).unwrap_or_default();
-        let lent = lent(rng, &answer);
+        let lent = rooms::about(rng, Size::of(&answer));
         cases.push(refused(how, limit, &mesh, &answer, lent));
     }
     Topic {

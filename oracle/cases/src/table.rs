@@ -2,12 +2,12 @@
 //! its parts and back, the stored form and the part shown, beside the judge.
 
 use crate::antt::{self, bounds, bytes, contours, integers};
-use crate::text;
 use crate::topic::{layers, Case, Topic};
 use inputs::operands::{self, Pair};
 use inputs::pair_damage::{break_rules, damaged};
 use inputs::rng::Rng;
 use inputs::stored::table_bytes;
+use inputs::text;
 use judge::limits::{CONTOUR, CORNERS, PARTS};
 use judge::pairs::{breaks_bounds, Operand};
 use judge::room::{Room, Size};

@@ -2,10 +2,10 @@
 //! pair stepped refuse, beside the judge, and what they answer, beside the Rust.
 
 use crate::antt::{self, integers, point};
-use crate::text;
 use crate::topic::{layers, Case, Topic};
 use i_triangle::int::reach;
 use inputs::rng::Rng;
+use inputs::text;
 use inputs::{contours, coordinates, places};
 use judge::limits::CONTOUR;
 use judge::walk::{self, Place};

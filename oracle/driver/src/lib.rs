@@ -4,6 +4,7 @@
 //!   both sides, counted, and a difference made as small as possible
 //! - `told`: what the boundary's functions hand back
 //! - `plane`: `cross_product`, `area_two`, `angle_cmp`
+//! - `mesh`: `mesh_fault`, `to_convex_polygons`
 //! - `boundary`: the C functions of the Rattle archive and the list of entry
 //!   points, where it is linked
 //!
@@ -11,6 +12,7 @@
 //! in the list of `boundary`.
 
 pub mod entry;
+pub mod mesh;
 pub mod plane;
 pub mod told;
 

@@ -11,6 +11,8 @@
 //! - `operands`: part tables with bounds; `pair_damage`: with one fault or two
 //! - `stored`: stored tables and mesh files, good and damaged
 //! - `places`: walks as a caller may make them
+//! - `rooms`: room lent for an answer
+//! - `text`: inputs as text, for people
 
 pub mod contours;
 pub mod coordinates;
@@ -21,7 +23,9 @@ pub mod pair_damage;
 pub mod places;
 pub mod plane;
 pub mod rng;
+pub mod rooms;
 pub mod stored;
+pub mod text;
 
 /// The number that these faults together give, kinds tried in this order.
 #[cfg(test)]

@@ -38,6 +38,31 @@ pub fn small_at(triangles: u32, width: u64, number: u64) -> Mesh {
         .collect()
 }
 
+/// Every mesh of two triangles that have an area, with its points on a grid of 2 by
+/// 2 and neighbours none, in the mesh, or one past it.
+pub fn two_with_area() -> impl Iterator<Item = Mesh> {
+    let each = small_count(2, 2).isqrt();
+    let with_area: Vec<u64> = (0..each)
+        .filter(|&n| area_two(small_at(2, 2, n)[0].points) > 0)
+        .collect();
+    let firsts = with_area.clone();
+    with_area.into_iter().flat_map(move |second| {
+        let firsts = firsts.clone().into_iter();
+        firsts.map(move |first| small_at(2, 2, first + each * second))
+    })
+}
+
+/// So many triangles that have no neighbours.
+pub fn apart(count: usize) -> Mesh {
+    vec![
+        Triangle {
+            points: [(0, 0), (1, 0), (0, 1)],
+            neighbours: [NONE; 3],
+        };
+        count
+    ]
+}
+
 /// Triangles joined across edges that run oppositely, each edge at most once and
 /// no two triangles twice.
 pub fn linked(triangles: &[[Point; 3]]) -> Mesh {
@@ -322,6 +347,30 @@ pub fn good(rng: &mut Rng, most: usize) -> Mesh {
     }
 }
 
+/// A good mesh of as many triangles as there may be, or nearly so, of some kind.
+pub fn large(rng: &mut Rng) -> Mesh {
+    let mesh = match rng.below(6) {
+        0 => linked(&fan(&parabola(TRIANGLES + 2))),
+        1 => linked(&polygon(rng, &parabola(TRIANGLES + 2))),
+        2 => linked(&strip(rng, TRIANGLES as i32 / 2)),
+        3 => linked(&grid(rng, 32, 16, 3)),
+        4 => soup(rng, TRIANGLES, 3),
+        _ => {
+            let one = linked(&strip(rng, 2));
+            copies(rng, &one, TRIANGLES / 4)
+        }
+    };
+    match rng.below(2) {
+        0 => renumbered(rng, &mesh),
+        _ => mesh,
+    }
+}
+
+/// A strictly convex contour of so many corners.
+pub fn parabola(corners: usize) -> Vec<Point> {
+    (0..corners as i32).map(|i| (i, i * i)).collect()
+}
+
 /// A mesh whose doubled areas add up to exactly 2^63 − 1; or to one more, which is
 /// fault 11. The whole range as a square, and what is left in triangles.
 pub fn area_limit(rng: &mut Rng, one_more: bool) -> Mesh {
@@ -372,6 +421,19 @@ mod tests {
     }
 
     #[test]
+    fn large_ones_are_accepted() {
+        let mut rng = Rng::new(14);
+        let mut most = 0;
+        for _ in 0..60 {
+            let mesh = large(&mut rng);
+            assert_eq!(fault(&mesh), 0);
+            assert!(mesh.len() >= TRIANGLES - 1, "{}", mesh.len());
+            most = most.max(mesh.len());
+        }
+        assert_eq!(most, TRIANGLES);
+    }
+
+    #[test]
     fn areas_meet_their_limit_from_both_sides() {
         let mut rng = Rng::new(13);
         let most = i128::from(i64::MAX);
@@ -398,6 +460,20 @@ mod tests {
             good, 12,
             "four triangles of a square, each from three starts"
         );
+    }
+
+    #[test]
+    fn every_two_triangles_with_an_area_are_there_once() {
+        let all: Vec<Mesh> = two_with_area().collect();
+        assert_eq!(all.len(), (12 * 64) * (12 * 64));
+        let areas = |mesh: &Mesh| mesh.iter().all(|t| area_two(t.points) > 0);
+        assert!(all.iter().all(areas));
+        let numbers: std::collections::HashSet<String> =
+            all.iter().step_by(97).map(|m| format!("{m:?}")).collect();
+        assert_eq!(numbers.len(), all.len().div_ceil(97));
+        assert!(all
+            .iter()
+            .any(|m| fault(m) == 0 && m[0].neighbours.contains(&1)));
     }
 
     #[test]

@@ -33,6 +33,21 @@ pub fn parts(mesh: &[Record]) -> Vec<Contour> {
     out(delaunay(mesh).to_convex_polygons())
 }
 
+/// A mesh in the Rust's own types, made once, so that a measurement of
+/// `to_convex_polygons` has neither the mesh's making in it nor the answer's
+/// turning into plain lists.
+pub struct Prepared(IntDelaunay<i32>);
+
+impl Prepared {
+    pub fn of(mesh: &[Record]) -> Self {
+        Self(delaunay(mesh))
+    }
+
+    pub fn parts(&self) -> Vec<Vec<IntPoint<i32>>> {
+        self.0.to_convex_polygons()
+    }
+}
+
 /// `to_convex_polygons_with_max_vertices`.
 pub fn split_parts(mesh: &[Record], limit: usize, strategy: ConvexSplitStrategy) -> Vec<Contour> {
     out(delaunay(mesh).to_convex_polygons_with_max_vertices(limit, strategy))

@@ -13,6 +13,9 @@ pub trait Simplify {
 
 impl<I: IntNumber> Simplify for IntContour<I> {
     fn simplify_contour(&mut self) -> bool {
+        if (0..self.len()).all(|i| turn(self, i) != I::Wide::ZERO) {
+            return false;
+        }
         let kept: Vec<IntPoint<I>> = (0..self.len())
             .filter(|&i| turn(self, i) != I::Wide::ZERO)
             .map(|i| self[i])
@@ -21,16 +24,15 @@ impl<I: IntNumber> Simplify for IntContour<I> {
             kept.first() == self.first(),
             "the first corner lies in line, which document 01 says it never does"
         );
-        let dropped = kept.len() < self.len();
         *self = kept;
-        dropped
+        true
     }
 }
 
 /// The cross of the edge into corner i and the edge out of it.
 fn turn<I: IntNumber>(contour: &[IntPoint<I>], i: usize) -> I::Wide {
-    let n = contour.len();
-    let before = contour[(i + n - 1) % n];
-    let after = contour[(i + 1) % n];
+    let last = contour.len() - 1;
+    let before = contour[if i == 0 { last } else { i - 1 }];
+    let after = contour[if i == last { 0 } else { i + 1 }];
     (contour[i] - before).cross_product(after - contour[i])
 }

@@ -1,0 +1,31 @@
+// The mesh and its parts as the runs beside the Rust call them (oracle/beside links this crate as a static library): one thin function over
+// each function that is compared, with no `requires` and the same contract. A mesh is lent as rows of nine numbers. Leans on convex_join and
+// mesh_faults.
+ghost use mathlib.Core.Path.{_≡_};
+ghost use Rattle.integers.specs.Faults.{firstFault};
+ghost use Rattle.mesh.specs.Mesh.{meshKinds};
+ghost use Rattle.mesh.specs.Rows.{rowsMesh};
+ghost use Rattle.convex.specs.Joining.{partsCounts, partsStarts, partsCorners};
+use table::Counts;
+
+// mesh_faults::mesh_fault.
+#[no_mangle]
+pub extern "C" fn beside_mesh_fault(mesh: &[[i32; 9]]) -> u32
+    ensures { λ r. ⌜ r ≡ firstFault (meshKinds (rowsMesh (now (mesh .entry)))) ⌝ }
+{
+    mesh_faults::mesh_fault(mesh)
+}
+
+// convex_join::to_convex_polygons.
+#[no_mangle]
+pub extern "C" fn beside_to_convex_polygons(
+    mesh: &[[i32; 9]],
+    starts: &mut [u32],
+    corners: &mut [i32],
+) -> Counts
+    ensures counts { λ r. ⌜ r ≡ partsCounts (rowsMesh (now (mesh .entry))) (now (starts .entry)) (now (corners .entry)) ⌝ }
+    ensures starts { λ r. ⌜ now (starts .exit) ≡ partsStarts (rowsMesh (now (mesh .entry))) (now (starts .entry)) (now (corners .entry)) ⌝ }
+    ensures corners { λ r. ⌜ now (corners .exit) ≡ partsCorners (rowsMesh (now (mesh .entry))) (now (starts .entry)) (now (corners .entry)) ⌝ }
+{
+    convex_join::to_convex_polygons(mesh, starts, corners)
+}

@@ -1,0 +1,552 @@
+//! The two entry points of the mesh: its first fault, and its convex parts written
+//! to lent starts and corners. Refusals are the judge's, parts the Rust's.
+
+use crate::entry::{simpler_numbers, EntryPoint};
+use cli::answers::{parts, Cut};
+use inputs::mesh_damage::{damaged, ORDER};
+use inputs::meshes::{self, Mesh};
+use inputs::rng::Rng;
+use inputs::{rooms, text};
+use judge::limits::{NONE, TRIANGLES};
+use judge::mesh::Triangle;
+use judge::room::{self, Room, Size};
+use judge::{Contour, Fault, Point};
+use std::collections::BTreeSet;
+use std::iter;
+
+/// A triangle as it is lent: x and y of the three points, and three neighbours,
+/// none being −1.
+pub type Row = [i32; 9];
+
+pub fn rows(mesh: &[Triangle]) -> Vec<Row> {
+    mesh.iter()
+        .map(|t| {
+            let [a, b, c] = t.points;
+            let [i, j, k] = t.neighbours.map(|n| n as i32);
+            [a.0, a.1, b.0, b.1, c.0, c.1, i, j, k]
+        })
+        .collect()
+}
+
+/// What a call that writes parts hands back: counts are 0 where there is a fault.
+#[repr(C)]
+#[derive(Debug, Clone, Copy, PartialEq, Eq)]
+pub struct Counts {
+    pub fault: u32,
+    pub parts: u32,
+    pub corners: u32,
+}
+
+/// One random mesh in so many of those that an entry point of numbers takes.
+const SHARE: u64 = 5;
+
+/// Each is given the Rattle function that it asks.
+pub fn mesh_fault_beside(rattle: fn(&[Row]) -> u32) -> MeshFault {
+    MeshFault { rattle }
+}
+
+pub fn to_convex_polygons_beside(rattle: WritesParts) -> ToConvexPolygons {
+    ToConvexPolygons { rattle }
+}
+
+pub type WritesParts = fn(&[Row], &mut [u32], &mut [i32]) -> Counts;
+
+// ---- inputs
+
+/// Every mesh of one triangle on a grid of 2 by 2, and of two that have an area,
+/// with neighbours none, in the mesh or one past it; the limits of number and area.
+fn fixed() -> impl Iterator<Item = Mesh> {
+    let one = |n| meshes::small_at(1, 2, n);
+    let limits = [TRIANGLES - 1, TRIANGLES, TRIANGLES + 1].map(meshes::apart);
+    let mut rng = Rng::new(0);
+    let areas = [false, true].map(|one_more| meshes::area_limit(&mut rng, one_more));
+    iter::once(Mesh::new())
+        .chain((0..meshes::small_count(1, 2)).map(one))
+        .chain(meshes::two_with_area())
+        .chain(limits)
+        .chain(areas)
+}
+
+/// A good mesh, mostly of few triangles, and the faults to put in: none, one or two.
+fn any(rng: &mut Rng) -> (Mesh, Vec<Fault>) {
+    let good = match rng.below(1_000) {
+        0..=9 => meshes::large(rng),
+        10..=39 => meshes::good(rng, TRIANGLES),
+        40..=199 => meshes::good(rng, 100),
+        _ => meshes::good(rng, 20),
+    };
+    let faults = match rng.below(9) {
+        0 | 1 => vec![rng.pick(&ORDER)],
+        // 1 seldom, since it makes any mesh a large one
+        2 => vec![rng.pick(&ORDER[1..]), rng.pick(&ORDER)],
+        _ => Vec::new(),
+    };
+    (good, faults)
+}
+
+// ---- the fault alone
+
+pub struct MeshFault {
+    rattle: fn(&[Row]) -> u32,
+}
+
+impl EntryPoint for MeshFault {
+    type Input = Mesh;
+    type Answer = u32;
+
+    fn name(&self) -> &'static str {
+        "mesh_fault"
+    }
+
+    fn faults(&self) -> &'static [u32] {
+        &ORDER
+    }
+
+    fn inputs<'a>(&self, rng: &'a mut Rng, count: u64) -> Box<dyn Iterator<Item = Mesh> + 'a> {
+        let random = (0..count / SHARE).map(move |_| {
+            let (good, faults) = any(rng);
+            damaged(rng, &good, &faults)
+        });
+        Box::new(fixed().chain(random))
+    }
+
+    fn rattle(&self, mesh: &Mesh) -> u32 {
+        (self.rattle)(&rows(mesh))
+    }
+
+    fn rust(&self, mesh: &Mesh) -> u32 {
+        judge::mesh::fault(mesh)
+    }
+
+    fn fault(&self, answer: &u32) -> u32 {
+        *answer
+    }
+
+    fn simpler(&self, mesh: &Mesh) -> Vec<Mesh> {
+        simpler(mesh)
+    }
+
+    fn show(&self, mesh: &Mesh) -> String {
+        text::mesh(mesh)
+    }
+}
+
+// ---- the parts
+
+/// A mesh, and the room that is lent for its parts.
+#[derive(Debug, Clone)]
+pub struct Call {
+    pub mesh: Mesh,
+    pub lent: Room,
+}
+
+/// The counts, and all of the memory about the lent buffers.
+#[derive(Debug, PartialEq)]
+pub struct Written {
+    pub counts: Counts,
+    pub starts: Vec<u32>,
+    pub corners: Vec<i32>,
+}
+
+/// What the memory holds before the call, and how many places are not lent after
+/// those that are.
+const START: u32 = 0xa5a5_a5a5;
+const NUMBER: i32 = 0x5a5a_5a5a;
+const NOT_LENT: usize = 2;
+
+impl Written {
+    fn before(lent: Room) -> Self {
+        Self {
+            counts: Counts {
+                fault: 0,
+                parts: 0,
+                corners: 0,
+            },
+            starts: vec![START; lent.starts + NOT_LENT],
+            corners: vec![NUMBER; lent.numbers + NOT_LENT],
+        }
+    }
+
+    fn refused(lent: Room, fault: Fault) -> Self {
+        let mut written = Self::before(lent);
+        written.counts.fault = fault;
+        written
+    }
+
+    /// The parts on the front of the lent memory, which has room for them.
+    fn of(lent: Room, parts: &[Contour]) -> Self {
+        let mut written = Self::before(lent);
+        let size = Size::of(parts);
+        written.counts.parts = size.parts as u32;
+        written.counts.corners = size.corners as u32;
+        let mut corner = 0;
+        written.starts[0] = 0;
+        for (part, contour) in parts.iter().enumerate() {
+            for &(x, y) in contour {
+                written.corners[2 * corner..2 * corner + 2].copy_from_slice(&[x, y]);
+                corner += 1;
+            }
+            written.starts[part + 1] = corner as u32;
+        }
+        written
+    }
+}
+
+/// What document 01 and the Rust say of a call.
+pub fn written(call: &Call) -> Written {
+    match parts(&call.mesh, Cut::None) {
+        Err(fault) => Written::refused(call.lent, fault),
+        Ok(parts) => match room::fault(Size::of(&parts), call.lent) {
+            0 => Written::of(call.lent, &parts),
+            fault => Written::refused(call.lent, fault),
+        },
+    }
+}
+
+/// The size of a mesh's parts; none where it is refused.
+fn size(mesh: &Mesh) -> Size {
+    Size::of(&parts(mesh, Cut::None).unwrap_or_default())
+}
+
+pub struct ToConvexPolygons {
+    rattle: WritesParts,
+}
+
+impl EntryPoint for ToConvexPolygons {
+    type Input = Call;
+    type Answer = Written;
+
+    fn name(&self) -> &'static str {
+        "to_convex_polygons"
+    }
+
+    fn faults(&self) -> &'static [u32] {
+        &[1, 2, 3, 4, 5, 6, 11, 22, 21]
+    }
+
+    /// The fixed meshes that are accepted with every room about their answer's
+    /// size, the others with room for any; then random ones with some room.
+    fn inputs<'a>(&self, rng: &'a mut Rng, count: u64) -> Box<dyn Iterator<Item = Call> + 'a> {
+        let fixed = fixed().flat_map(|mesh| {
+            let lents = match judge::mesh::fault(&mesh) {
+                0 => rooms::every(size(&mesh)),
+                _ => vec![Room {
+                    starts: mesh.len() + 1,
+                    numbers: 6 * mesh.len(),
+                }],
+            };
+            lents.into_iter().map(move |lent| Call {
+                mesh: mesh.clone(),
+                lent,
+            })
+        });
+        let random = (0..count / SHARE).map(move |_| {
+            let (good, faults) = any(rng);
+            let lent = rooms::about(rng, size(&good));
+            let mesh = damaged(rng, &good, &faults);
+            Call { mesh, lent }
+        });
+        Box::new(fixed.chain(random))
+    }
+
+    fn rattle(&self, call: &Call) -> Written {
+        let mut written = Written::before(call.lent);
+        written.counts = (self.rattle)(
+            &rows(&call.mesh),
+            &mut written.starts[..call.lent.starts],
+            &mut written.corners[..call.lent.numbers],
+        );
+        written
+    }
+
+    fn rust(&self, call: &Call) -> Written {
+        written(call)
+    }
+
+    fn fault(&self, answer: &Written) -> u32 {
+        answer.counts.fault
+    }
+
+    fn simpler(&self, call: &Call) -> Vec<Call> {
+        let Room { starts, numbers } = call.lent;
+        let with = |mesh: Mesh, starts: usize, numbers: usize| Call {
+            mesh,
+            lent: Room { starts, numbers },
+        };
+        let meshes = simpler(&call.mesh).into_iter();
+        let mut out: Vec<Call> = meshes.map(|mesh| with(mesh, starts, numbers)).collect();
+        let fewer = |places: usize| [places / 2, places.saturating_sub(1)];
+        let fewer_starts = fewer(starts).into_iter().filter(|&n| n < starts);
+        out.extend(fewer_starts.map(|n| with(call.mesh.clone(), n, numbers)));
+        let fewer_numbers = fewer(numbers).into_iter().filter(|&n| n < numbers);
+        out.extend(fewer_numbers.map(|n| with(call.mesh.clone(), starts, n)));
+        out
+    }
+
+    fn show(&self, call: &Call) -> String {
+        let Room { starts, numbers } = call.lent;
+        format!("{} room {starts} {numbers}", text::mesh(&call.mesh))
+    }
+}
+
+// ---- simpler meshes
+
+/// How many triangles a mesh has at the most where more is tried than to leave some
+/// out.
+const FEW: usize = 12;
+
+/// The mesh with triangles left out, a link undone, or a coordinate nearer to zero
+/// wherever it stands.
+fn simpler(mesh: &Mesh) -> Vec<Mesh> {
+    let mut out = Vec::new();
+    let halves = iter::successors(Some(mesh.len()), |n| Some(n / 2));
+    for size in halves.take_while(|&n| n > 0) {
+        let firsts = (0..mesh.len()).step_by(size);
+        out.extend(firsts.map(|first| without(mesh, first, size)));
+    }
+    if mesh.len() <= FEW {
+        out.extend(unlinked(mesh));
+        out.extend(nearer(mesh));
+    }
+    out
+}
+
+/// The mesh without so many triangles, those after them moved up.
+fn without(mesh: &Mesh, first: usize, size: usize) -> Mesh {
+    let end = (first + size).min(mesh.len());
+    let moved = |n: u32| match n as usize {
+        at if n == NONE || at < first => n,
+        at if at < end => NONE,
+        _ => n - (end - first) as u32,
+    };
+    let kept = mesh[..first].iter().chain(&mesh[end..]);
+    kept.map(|t| Triangle {
+        points: t.points,
+        neighbours: t.neighbours.map(moved),
+    })
+    .collect()
+}
+
+/// The mesh with one neighbour less, and with what names back left out too.
+fn unlinked(mesh: &Mesh) -> Vec<Mesh> {
+    let mut out = Vec::new();
+    for (i, t) in mesh.iter().enumerate() {
+        for k in (0..3).filter(|&k| t.neighbours[k] != NONE) {
+            let mut one_way = mesh.clone();
+            one_way[i].neighbours[k] = NONE;
+            let mut both_ways = one_way.clone();
+            if let Some(other) = both_ways.get_mut(t.neighbours[k] as usize) {
+                for n in other.neighbours.iter_mut().filter(|n| **n == i as u32) {
+                    *n = NONE;
+                }
+            }
+            out.extend([both_ways, one_way]);
+        }
+    }
+    out
+}
+
+/// The mesh with all its points of one x, or of one y, at a simpler one.
+fn nearer(mesh: &Mesh) -> Vec<Mesh> {
+    let moved = |at: &dyn Fn(Point) -> Point| -> Mesh {
+        let triangle = |t: &Triangle| Triangle {
+            points: t.points.map(at),
+            neighbours: t.neighbours,
+        };
+        mesh.iter().map(triangle).collect()
+    };
+    let points = || mesh.iter().flat_map(|t| t.points);
+    let xs: BTreeSet<i32> = points().map(|p| p.0).collect();
+    let ys: BTreeSet<i32> = points().map(|p| p.1).collect();
+    let mut out = Vec::new();
+    for x in xs {
+        let to = |to: i32| moved(&|p| if p.0 == x { (to, p.1) } else { p });
+        out.extend(simpler_numbers(x).into_iter().map(to));
+    }
+    for y in ys {
+        let to = |to: i32| moved(&|p| if p.1 == y { (p.0, to) } else { p });
+        out.extend(simpler_numbers(y).into_iter().map(to));
+    }
+    out
+}
+
+/// The driver itself, tried on functions of known worth: right ones pass, and
+/// each deliberate fault is caught and made small.
+#[cfg(test)]
+mod tests {
+    use super::*;
+    use crate::entry::{run, Report};
+    use judge::mesh::area_two;
+
+    const COUNT: u64 = 10_000;
+
+    fn mesh_of(rows: &[Row]) -> Mesh {
+        rows.iter()
+            .map(|r| Triangle {
+                points: [(r[0], r[1]), (r[2], r[3]), (r[4], r[5])],
+                neighbours: [r[6], r[7], r[8]].map(|n| n as u32),
+            })
+            .collect()
+    }
+
+    fn right_fault(rows: &[Row]) -> u32 {
+        judge::mesh::fault(&mesh_of(rows))
+    }
+
+    fn answer(mesh: Mesh, starts: &mut [u32], corners: &mut [i32]) -> Counts {
+        let lent = Room {
+            starts: starts.len(),
+            numbers: corners.len(),
+        };
+        let written = written(&Call { mesh, lent });
+        starts.copy_from_slice(&written.starts[..lent.starts]);
+        corners.copy_from_slice(&written.corners[..lent.numbers]);
+        written.counts
+    }
+
+    fn right(rows: &[Row], starts: &mut [u32], corners: &mut [i32]) -> Counts {
+        answer(mesh_of(rows), starts, corners)
+    }
+
+    #[test]
+    fn right_functions_pass() {
+        let faults = run(&mesh_fault_beside(right_fault), 1, COUNT);
+        let parts = run(&to_convex_polygons_beside(right), 1, COUNT);
+        for report in [&faults, &parts] {
+            assert!(report.passed(), "{report}");
+            assert!(report.faults.values().all(|&times| times > 50), "{report}");
+        }
+        let fixed = 1 + 64 * 27 + 768 * 768 + 3 + 2;
+        assert_eq!(faults.compared, fixed + COUNT / SHARE);
+    }
+
+    fn caught(report: &Report) -> &str {
+        assert!(report.differ > 0 && !report.passed());
+        report.smallest.as_ref().expect("a difference is shown")
+    }
+
+    fn caught_faults(wrong: fn(&[Row]) -> u32) -> String {
+        caught(&run(&mesh_fault_beside(wrong), 1, COUNT)).into()
+    }
+
+    fn caught_parts(wrong: WritesParts) -> String {
+        caught(&run(&to_convex_polygons_beside(wrong), 1, COUNT)).into()
+    }
+
+    #[test]
+    fn one_triangle_too_few_is_caught() {
+        let small = caught_faults(|rows| match rows.len() {
+            TRIANGLES => 1,
+            _ => right_fault(rows),
+        });
+        assert!(
+            small.ends_with("and 904 more]: Rust 0, Rattle 1"),
+            "{small}"
+        );
+    }
+
+    #[test]
+    fn an_area_of_zero_accepted_is_caught() {
+        let small = caught_faults(|rows| {
+            let mut mesh = mesh_of(rows);
+            mesh.retain(|t| area_two(t.points) != 0);
+            match right_fault(rows) {
+                6 if mesh.iter().all(|t| area_two(t.points) > 0) => 0,
+                fault => fault,
+            }
+        });
+        assert_eq!(
+            small,
+            "[(0,0) (0,0) (0,0) none none none]: Rust 6, Rattle 0"
+        );
+    }
+
+    /// The first part from its second corner on.
+    fn turned(rows: &[Row], starts: &mut [u32], corners: &mut [i32]) -> Counts {
+        let counts = right(rows, starts, corners);
+        if counts.parts > 0 {
+            corners[..2 * starts[1] as usize].rotate_left(2);
+        }
+        counts
+    }
+
+    #[test]
+    fn a_part_from_another_corner_is_caught() {
+        let small = caught_parts(turned);
+        assert!(
+            small.starts_with("[(1,0) (0,1) (0,0) none none none] room 2 6: "),
+            "{small}"
+        );
+    }
+
+    /// No triangle joins where a corner would lie in line.
+    fn too_strict(rows: &[Row], starts: &mut [u32], corners: &mut [i32]) -> Counts {
+        let mut mesh = mesh_of(rows);
+        let size = size(&mesh);
+        if size.parts > 0 && size.corners < mesh.len() + 2 * size.parts {
+            for t in &mut mesh {
+                t.neighbours = [NONE; 3];
+            }
+        }
+        answer(mesh, starts, corners)
+    }
+
+    #[test]
+    fn a_join_refused_at_a_straight_corner_is_caught() {
+        let small = caught_parts(too_strict);
+        let two = "[(1,0) (1,1) (0,0) none none 1; (1,0) (2,0) (1,1) none 0 none] room 2 0: ";
+        assert!(small.starts_with(two), "{small}");
+    }
+
+    /// The start after the last is cleared.
+    fn past_the_answer(rows: &[Row], starts: &mut [u32], corners: &mut [i32]) -> Counts {
+        let counts = right(rows, starts, corners);
+        match starts.get_mut(counts.parts as usize + 1) {
+            Some(start) if counts.fault == 0 => *start = 0,
+            _ => {}
+        }
+        counts
+    }
+
+    #[test]
+    fn memory_changed_past_the_answer_is_caught() {
+        let small = caught_parts(past_the_answer);
+        assert!(small.starts_with("[] room 2 0: "), "{small}");
+    }
+
+    /// Starts are written before the room for corners is looked at.
+    fn starts_first(rows: &[Row], starts: &mut [u32], corners: &mut [i32]) -> Counts {
+        let counts = right(rows, starts, corners);
+        if counts.fault == 21 {
+            starts[0] = 0;
+        }
+        counts
+    }
+
+    #[test]
+    fn a_refusal_that_wrote_is_caught() {
+        let small = caught_parts(starts_first);
+        assert!(
+            small.starts_with("[(1,0) (0,1) (0,0) none none none] room 2 0: "),
+            "{small}"
+        );
+    }
+
+    /// 21 before 22.
+    fn corners_first(rows: &[Row], starts: &mut [u32], corners: &mut [i32]) -> Counts {
+        let mut counts = right(rows, starts, corners);
+        if counts.fault == 22 && corners.len() < size(&mesh_of(rows)).numbers() {
+            counts.fault = 21;
+        }
+        counts
+    }
+
+    #[test]
+    fn room_looked_at_in_another_order_is_caught() {
+        let small = caught_parts(corners_first);
+        assert!(
+            small.starts_with("[(1,0) (0,1) (0,0) none none none] room 0 0: "),
+            "{small}"
+        );
+    }
+}
