@@ -4,6 +4,7 @@
 //!   both sides, counted, and a difference made as small as possible
 //! - `told`: what the boundary's functions hand back
 //! - `plane`: `cross_product`, `area_two`, `angle_cmp`
+//! - `table`: `read_table`, `write_table`, `show_part`
 //! - `boundary`: the C functions of the Rattle archive and the list of entry
 //!   points, where it is linked
 //!
@@ -12,6 +13,7 @@
 
 pub mod entry;
 pub mod plane;
+pub mod table;
 pub mod told;
 
 #[cfg(feature = "linked")]
