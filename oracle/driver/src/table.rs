@@ -71,14 +71,20 @@ fn put<T: Copy>(lent: &mut [T], answer: &[T]) {
 // ---- what document 01 says
 
 pub fn read_table(input: &Read) -> ReadAnswer {
+    let lent = input.lent;
+    read_into(input, lent_starts(lent.starts), lent_numbers(lent.numbers))
+}
+
+/// The same, into what was lent.
+pub fn read_into(input: &Read, starts: Vec<u32>, corners: Vec<i32>) -> ReadAnswer {
     let mut out = ReadAnswer {
         told: ToldCounts {
             fault: stored::read_fault(&input.bytes, input.lent),
             parts: 0,
             corners: 0,
         },
-        starts: lent_starts(input.lent.starts),
-        corners: lent_numbers(input.lent.numbers),
+        starts,
+        corners,
     };
     if out.told.fault == 0 {
         let table = stored::decode(&input.bytes).expect("no fault");
@@ -91,12 +97,17 @@ pub fn read_table(input: &Read) -> ReadAnswer {
 }
 
 pub fn write_table(input: &Write) -> WriteAnswer {
+    write_into(input, lent_bytes(input.lent))
+}
+
+/// The same, into what was lent.
+pub fn write_into(input: &Write, bytes: Vec<u8>) -> WriteAnswer {
     let mut out = WriteAnswer {
         told: ToldLength {
             fault: stored::write_fault(&input.table, input.lent),
             length: 0,
         },
-        bytes: lent_bytes(input.lent),
+        bytes,
     };
     if out.told.fault == 0 {
         let stored = stored::encode(&input.table);

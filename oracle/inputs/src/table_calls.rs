@@ -76,14 +76,17 @@ pub fn reads(rng: &mut Rng, count: u64) -> Inputs<'_, Read> {
         },
     });
     let damaged = damaged_reads(rng);
-    let random = (0..count).map(move |_| {
-        let bytes = match rng.below(4) {
-            0 => few_words(rng),
-            _ => table_bytes(rng),
-        };
-        read(rng, bytes)
-    });
+    let random = (0..count).map(move |_| any_read(rng));
     Box::new(short.chain(whole).chain(damaged).chain(random))
+}
+
+/// A random one.
+pub fn any_read(rng: &mut Rng) -> Read {
+    let bytes = match rng.below(4) {
+        0 => few_words(rng),
+        _ => table_bytes(rng),
+    };
+    read(rng, bytes)
 }
 
 /// Strings of every length up to 44 bytes: of one byte, of counting ones, and
@@ -182,11 +185,14 @@ pub fn writes(rng: &mut Rng, count: u64) -> Inputs<'_, Write> {
     });
     let damaged = damaged_tables(rng);
     let damaged: Vec<Write> = damaged.into_iter().map(|table| write(rng, table)).collect();
-    let random = (0..count).map(move |_| {
-        let table = tables::any(rng);
-        write(rng, table)
-    });
+    let random = (0..count).map(move |_| any_write(rng));
     Box::new(whole.chain(damaged).chain(random))
+}
+
+/// A random one.
+pub fn any_write(rng: &mut Rng) -> Write {
+    let table = tables::any(rng);
+    write(rng, table)
 }
 
 /// The bytes of the stored form, of any table.
@@ -230,15 +236,18 @@ pub fn shows(rng: &mut Rng, count: u64) -> Inputs<'_, Show> {
             [show(rng, &table, &good), show(rng, &good, &table)]
         })
         .collect();
-    let random = (0..count).map(move |_| {
-        let left = tables::any(rng);
-        let right = match rng.below(3) {
-            0 => tables::any(rng),
-            _ => tables::good(rng),
-        };
-        show(rng, &left, &right)
-    });
+    let random = (0..count).map(move |_| any_show(rng));
     Box::new(small.chain(limits).chain(damaged).chain(random))
+}
+
+/// A random one.
+pub fn any_show(rng: &mut Rng) -> Show {
+    let left = tables::any(rng);
+    let right = match rng.below(3) {
+        0 => tables::any(rng),
+        _ => tables::good(rng),
+    };
+    show(rng, &left, &right)
 }
 
 const SIDES: [Side; 2] = [Side::Left, Side::Right];
