@@ -4,8 +4,8 @@
 //!   both sides, counted, and a difference made as small as possible
 //! - `told`: what the boundary's functions hand back
 //! - `plane`: `cross_product`, `area_two`, `angle_cmp`
-//! - `table`: `read_table`, `write_table`, `show_part`; `table_sample`: the stored
-//!   sample of their answers
+//! - `table`: `read_table`, `write_table`, `show_part`; `table_simpler`: their
+//!   simpler inputs; `table_sample`: the stored sample of their answers
 //! - `boundary`: the C functions of the Rattle archive and the list of entry
 //!   points, where it is linked
 //!
@@ -16,6 +16,7 @@ pub mod entry;
 pub mod plane;
 pub mod table;
 pub mod table_sample;
+mod table_simpler;
 pub mod told;
 
 #[cfg(feature = "linked")]

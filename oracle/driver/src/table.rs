@@ -3,12 +3,12 @@
 //! 01 alone. The given Rust has no tables. The memory lent is filled with a
 //! pattern before each call and compared whole after it.
 
-use crate::entry::{simpler_numbers, EntryPoint};
+use crate::entry::EntryPoint;
+use crate::table_simpler::{simpler_read, simpler_show, simpler_write};
 use inputs::rng::Rng;
 use inputs::table_calls::{reads, shows, writes, Inputs, Read, Show, Write};
-use judge::shown::{self, Side};
+use judge::shown;
 use judge::stored;
-use judge::table::Table;
 use judge::Fault;
 use std::fmt::Debug;
 
@@ -144,119 +144,6 @@ pub fn show_part(input: &Show) -> ShowAnswer {
     out
 }
 
-// ---- simpler inputs
-
-/// The list with a piece left out, and, where it is short, with one element
-/// simpler.
-fn simpler_list<T: Copy>(list: &[T], simpler: fn(T) -> Vec<T>) -> Vec<Vec<T>> {
-    let piece = list.len().div_ceil(32).max(1);
-    let mut out: Vec<Vec<T>> = (0..list.len())
-        .step_by(piece)
-        .map(|at| [&list[..at], &list[list.len().min(at + piece)..]].concat())
-        .collect();
-    if piece == 1 {
-        for (i, &value) in list.iter().enumerate() {
-            out.extend(simpler(value).into_iter().map(|value| {
-                let mut changed = list.to_vec();
-                changed[i] = value;
-                changed
-            }));
-        }
-    }
-    out
-}
-
-/// Numbers nearer to 0.
-fn lesser(value: usize) -> Vec<usize> {
-    let nearer = [0, value / 2, value.saturating_sub(1)];
-    nearer.into_iter().filter(|&n| n < value).collect()
-}
-
-fn simpler_table(table: &Table) -> Vec<Table> {
-    let start = |start: u32| {
-        lesser(start as usize)
-            .into_iter()
-            .map(|n| n as u32)
-            .collect()
-    };
-    let starts = simpler_list(&table.starts, start);
-    let corners = simpler_list(&table.corners, simpler_numbers);
-    let with_starts = starts.into_iter().map(|starts| Table {
-        starts,
-        corners: table.corners.clone(),
-    });
-    let with_corners = corners.into_iter().map(|corners| Table {
-        starts: table.starts.clone(),
-        corners,
-    });
-    with_starts.chain(with_corners).collect()
-}
-
-fn simpler_read(input: &Read) -> Vec<Read> {
-    let byte = |byte: u8| lesser(byte as usize).into_iter().map(|n| n as u8).collect();
-    let mut out: Vec<Read> = simpler_list(&input.bytes, byte)
-        .into_iter()
-        .map(|bytes| Read {
-            bytes,
-            lent: input.lent,
-        })
-        .collect();
-    let with = |starts: usize, numbers: usize| {
-        let mut changed = input.clone();
-        changed.lent.starts = starts;
-        changed.lent.numbers = numbers;
-        changed
-    };
-    let lent = input.lent;
-    out.extend(
-        lesser(lent.starts)
-            .into_iter()
-            .map(|n| with(n, lent.numbers)),
-    );
-    out.extend(
-        lesser(lent.numbers)
-            .into_iter()
-            .map(|n| with(lent.starts, n)),
-    );
-    out
-}
-
-fn simpler_write(input: &Write) -> Vec<Write> {
-    let Write { table, lent } = input;
-    let tables = simpler_table(table).into_iter();
-    let mut out: Vec<Write> = tables.map(|table| Write { table, lent: *lent }).collect();
-    out.extend(lesser(*lent).into_iter().map(|lent| Write {
-        table: table.clone(),
-        lent,
-    }));
-    out
-}
-
-fn simpler_show(input: &Show) -> Vec<Show> {
-    let with = |change: &dyn Fn(&mut Show)| {
-        let mut changed = input.clone();
-        change(&mut changed);
-        changed
-    };
-    let mut out = Vec::new();
-    for table in simpler_table(&input.left) {
-        out.push(with(&|q| q.left = table.clone()));
-    }
-    for table in simpler_table(&input.right) {
-        out.push(with(&|q| q.right = table.clone()));
-    }
-    for part in lesser(input.part as usize) {
-        out.push(with(&|q| q.part = part as u32));
-    }
-    for lent in lesser(input.lent) {
-        out.push(with(&|q| q.lent = lent));
-    }
-    if input.side == Side::Right {
-        out.push(with(&|q| q.side = Side::Left));
-    }
-    out
-}
-
 // ---- the entry points
 
 /// A call on part tables beside the judge.
@@ -353,6 +240,8 @@ mod tests {
     use super::*;
     use crate::entry::{run, Report};
     use judge::limits::{CONTOUR, CORNERS, PARTS};
+    use judge::shown::Side;
+    use judge::table::Table;
 
     const COUNT: u64 = 10_000;
 
