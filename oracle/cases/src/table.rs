@@ -7,8 +7,8 @@ use inputs::operands::{self, Pair};
 use inputs::pair_damage::{break_rules, damaged};
 use inputs::rng::Rng;
 use inputs::stored::table_bytes;
+use inputs::tables::limits;
 use inputs::text;
-use judge::limits::{CONTOUR, CORNERS, PARTS};
 use judge::pairs::{breaks_bounds, Operand};
 use judge::room::{Room, Size};
 use judge::shown::{self, Side};
@@ -81,25 +81,6 @@ pub fn topic(rng: &mut Rng, count: usize) -> Topic {
 
 /// Bytes past which a random stored table is left out.
 const LONG: usize = 1_000;
-
-/// As many parts, corners, or corners of a contour as may be, one fewer, and one
-/// more.
-fn limits() -> Vec<Table> {
-    let mut out = Vec::new();
-    for past in [0, 1, 2] {
-        let at = |limit: usize| limit + past - 1;
-        out.push(Table::of(&vec![vec![(0, 0)]; at(PARTS)]));
-        let mut parts = vec![vec![(1, 1); 1_000]; CORNERS / 1_000];
-        parts.push(vec![(1, 1); at(CORNERS) - 1_000 * parts.len()]);
-        out.push(Table::of(&parts));
-        out.push(Table::of(&[
-            vec![],
-            vec![(2, 2); at(CONTOUR)],
-            vec![(3, 3)],
-        ]));
-    }
-    out
-}
 
 fn parts(rng: &mut Rng) -> Vec<Contour> {
     operands::parts(rng, 5, 6, 100)

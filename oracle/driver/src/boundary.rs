@@ -3,12 +3,17 @@
 use crate::entry::{run, Report};
 use crate::mesh::{mesh_fault_beside, to_convex_polygons_beside, Counts, Row};
 use crate::plane::{angle_cmp_beside, area_two_beside, cross_product_beside};
+use crate::table::{self, ReadAnswer, ShowAnswer, WriteAnswer};
+use crate::table::{read_table_beside, show_part_beside, write_table_beside};
 use crate::told::Told;
 use inputs::plane::Four;
+use inputs::table_calls::{Read, Show, Write};
+use judge::shown::Side;
 use judge::Point;
 
 mod archive {
     use super::{Counts, Row, Told};
+    use crate::table::{ToldCounts, ToldLength};
 
     extern "C" {
         pub fn beside_cross_product(
@@ -41,6 +46,36 @@ mod archive {
             corners: *mut i32,
             corners_lent: usize,
         ) -> Counts;
+        pub fn beside_read_table(
+            bytes: *const u8,
+            bytes_length: usize,
+            starts: *mut u32,
+            starts_length: usize,
+            corners: *mut i32,
+            corners_length: usize,
+        ) -> ToldCounts;
+        pub fn beside_write_table(
+            starts: *const u32,
+            starts_length: usize,
+            corners: *const i32,
+            corners_length: usize,
+            bytes: *mut u8,
+            bytes_length: usize,
+        ) -> ToldLength;
+        pub fn beside_show_part(
+            left_starts: *const u32,
+            left_starts_length: usize,
+            left_corners: *const i32,
+            left_corners_length: usize,
+            right_starts: *const u32,
+            right_starts_length: usize,
+            right_corners: *const i32,
+            right_corners_length: usize,
+            right: bool,
+            k: u32,
+            out: *mut i32,
+            out_length: usize,
+        ) -> ToldLength;
     }
 }
 
@@ -51,6 +86,9 @@ pub const ENTRY_POINTS: &[fn(u64, u64) -> Report] = &[
     |seed, count| run(&angle_cmp_beside(angle_cmp), seed, count),
     |seed, count| run(&mesh_fault_beside(mesh_fault), seed, count),
     |seed, count| run(&to_convex_polygons_beside(to_convex_polygons), seed, count),
+    |seed, count| run(&read_table_beside(read_table), seed, count),
+    |seed, count| run(&write_table_beside(write_table), seed, count),
+    |seed, count| run(&show_part_beside(show_part), seed, count),
 ];
 
 // Safe: the functions take and return plain numbers, or slices as their place and
@@ -84,4 +122,63 @@ pub fn to_convex_polygons(mesh: &[Row], starts: &mut [u32], corners: &mut [i32])
             corners.len(),
         )
     }
+}
+
+// Safe: each slice passes as its pointer and its length, lent for the call alone,
+// and the prover has shown that nothing past it is touched.
+
+fn read_table(input: &Read) -> ReadAnswer {
+    let mut starts = table::lent_starts(input.lent.starts);
+    let mut corners = table::lent_numbers(input.lent.numbers);
+    let told = unsafe {
+        archive::beside_read_table(
+            input.bytes.as_ptr(),
+            input.bytes.len(),
+            starts.as_mut_ptr(),
+            starts.len(),
+            corners.as_mut_ptr(),
+            corners.len(),
+        )
+    };
+    ReadAnswer {
+        told,
+        starts,
+        corners,
+    }
+}
+
+fn write_table(input: &Write) -> WriteAnswer {
+    let mut bytes = table::lent_bytes(input.lent);
+    let told = unsafe {
+        archive::beside_write_table(
+            input.table.starts.as_ptr(),
+            input.table.starts.len(),
+            input.table.corners.as_ptr(),
+            input.table.corners.len(),
+            bytes.as_mut_ptr(),
+            bytes.len(),
+        )
+    };
+    WriteAnswer { told, bytes }
+}
+
+fn show_part(input: &Show) -> ShowAnswer {
+    let mut numbers = table::lent_numbers(input.lent);
+    let told = unsafe {
+        archive::beside_show_part(
+            input.left.starts.as_ptr(),
+            input.left.starts.len(),
+            input.left.corners.as_ptr(),
+            input.left.corners.len(),
+            input.right.starts.as_ptr(),
+            input.right.starts.len(),
+            input.right.corners.as_ptr(),
+            input.right.corners.len(),
+            input.side == Side::Right,
+            input.part,
+            numbers.as_mut_ptr(),
+            numbers.len(),
+        )
+    };
+    ShowAnswer { told, numbers }
 }

@@ -5,6 +5,8 @@
 //! - `told`: what the boundary's functions hand back
 //! - `plane`: `cross_product`, `area_two`, `angle_cmp`
 //! - `mesh`: `mesh_fault`, `to_convex_polygons`
+//! - `table`: `read_table`, `write_table`, `show_part`; `table_simpler`: their
+//!   simpler inputs; `table_sample`: the stored sample of their answers
 //! - `boundary`: the C functions of the Rattle archive and the list of entry
 //!   points, where it is linked
 //!
@@ -14,6 +16,9 @@
 pub mod entry;
 pub mod mesh;
 pub mod plane;
+pub mod table;
+pub mod table_sample;
+mod table_simpler;
 pub mod told;
 
 #[cfg(feature = "linked")]

@@ -9,6 +9,8 @@
 //!   ones that overlap or wind round a vertex more than once
 //! - `mesh_damage`: copies of a good mesh with one fault or two
 //! - `operands`: part tables with bounds; `pair_damage`: with one fault or two
+//! - `tables`: part tables, small ones exhaustively, each rule broken, the limits
+//! - `table_calls`: what is asked of the calls on tables, and the memory lent
 //! - `stored`: stored tables and mesh files, good and damaged
 //! - `places`: walks as a caller may make them
 //! - `rooms`: room lent for an answer
@@ -26,6 +28,8 @@ pub mod rng;
 pub mod rooms;
 pub mod stored;
 pub mod text;
+pub mod table_calls;
+pub mod tables;
 
 /// The number that these faults together give, kinds tried in this order.
 #[cfg(test)]

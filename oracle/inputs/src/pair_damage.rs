@@ -4,8 +4,9 @@
 
 use crate::contours;
 use crate::coordinates::{self, EDGE};
-use crate::operands::{self, Pair};
+use crate::operands::Pair;
 use crate::rng::Rng;
+use crate::tables::{break_rule, RULES};
 use judge::pairs::{Operand, Operation};
 use judge::table::Table;
 use judge::{Contour, Fault};
@@ -37,22 +38,8 @@ pub fn damaged(rng: &mut Rng, pair: &Pair, faults: &[Fault]) -> Pair {
 
 /// A table against one of its rules or limits.
 pub fn break_rules(rng: &mut Rng, table: &mut Table) {
-    let last = table.starts.len() - 1;
-    match rng.below(8) {
-        0 => table.starts.clear(),
-        1 => table.starts[0] = 1 + rng.below(3) as u32,
-        2 => table.starts[last] += 1 + rng.below(2) as u32,
-        3 => table.corners.push(0),
-        4 => {
-            let count = table.corner_count() as u32;
-            table.starts.extend([count + 1, count]);
-        }
-        5 => *table = Table::of(&operands::at_limit(rng, 1)),
-        6 => table.starts.extend([u32::MAX, 0]),
-        _ => {
-            table.corners.extend([0, 0]);
-        }
-    }
+    let rule = rng.pick(&RULES);
+    break_rule(rng, table, rule);
 }
 
 fn out_of_range(rng: &mut Rng, operand: &mut Operand) {
@@ -124,6 +111,7 @@ fn reach_too_far(rng: &mut Rng, pair: &mut Pair) {
 mod tests {
     use super::*;
     use crate::first_of;
+    use crate::operands;
     use judge::pairs::fault;
 
     #[test]

@@ -51,16 +51,25 @@ pub fn table_bytes(rng: &mut Rng) -> Vec<u8> {
         table.corners[at] = crate::coordinates::beyond(rng);
     }
     let mut bytes = stored::encode(&table);
-    match rng.below(20) {
+    let way = rng.below(20);
+    damage_table_bytes(rng, &mut bytes, way);
+    bytes
+}
+
+/// The ways in which a stored table's length, or a count that it tells, is
+/// damaged; a number past them does nothing.
+pub const WAYS: usize = 6;
+
+pub fn damage_table_bytes(rng: &mut Rng, bytes: &mut Vec<u8>, way: usize) {
+    match way {
         0 => drop(bytes.pop()),
         1 => bytes.push(0),
         2 => bytes.extend([0; 4]),
         3 => bytes.truncate(rng.below(12)),
-        4 => put(&mut bytes, 0, rng.pick(&[2_049, 0x4000_0000, u32::MAX])),
-        5 => put(&mut bytes, 1, rng.pick(&[8_193, 0x2000_0000, u32::MAX])),
+        4 => put(bytes, 0, rng.pick(&[2_049, 0x4000_0000, u32::MAX])),
+        5 => put(bytes, 1, rng.pick(&[8_193, 0x2000_0000, u32::MAX])),
         _ => {}
     }
-    bytes
 }
 
 fn put(bytes: &mut [u8], word: usize, value: u32) {

@@ -1,7 +1,9 @@
-//! `sample FILE`: writes the stored sample of the oracle's answers for the plane
-//! (vectors/README.md has the layout). The same bytes every time.
+//! `sample plane FILE`, `sample tables FILE`: writes the stored sample of the
+//! oracle's answers for the plane, or of the judge's for part tables
+//! (vectors/README.md has the layouts). The same bytes every time.
 
 use driver::plane::{angle_cmp, area_two, cross_product};
+use driver::table_sample;
 use driver::told::Told;
 use inputs::plane::{self, Four};
 use inputs::rng::Rng;
@@ -16,14 +18,21 @@ const RANDOM: usize = 80;
 
 fn main() -> ExitCode {
     let words: Vec<String> = env::args().skip(1).collect();
-    let [file] = &words[..] else {
-        eprintln!("usage: sample FILE");
-        return ExitCode::from(2);
+    let words: Vec<&str> = words.iter().map(String::as_str).collect();
+    let (bytes, records, file) = match words[..] {
+        ["plane", file] => (sample(), sample().len() / RECORD, file),
+        ["tables", file] => {
+            let (bytes, [right, wrong]) = table_sample::sample();
+            (bytes, right + wrong, file)
+        }
+        _ => {
+            eprintln!("usage: sample plane FILE, sample tables FILE");
+            return ExitCode::from(2);
+        }
     };
-    let bytes = sample();
     match fs::write(file, &bytes) {
         Ok(()) => {
-            println!("{} records, {} bytes", bytes.len() / RECORD, bytes.len());
+            println!("{records} records, {} bytes", bytes.len());
             ExitCode::SUCCESS
         }
         Err(error) => {

@@ -1,0 +1,2 @@
+-- What the runs beside the judge are told.
+pub mod Beside

@@ -1,0 +1,176 @@
+-- `vectors_table::right` meets its contract: the places lent are as many as the record says, and hold what the definition says. Assumes
+-- nothing.
+use mathlib.Core.Path.{_≡_, sym, _∙_, ap}
+use mathlib.Core.Bool.{Bool, true, false}
+use mathlib.Core.List.{List}
+use Prim.Native.Nat.{ℕ, _+_, _*_, _≤_}
+use native.Mathlib.Omega.{arith}
+use borrow.Author.Needs.{needs}
+use borrow.Author.Tests.{ltb-false, eqb-true, not-false}
+use lib.IntN.{pos}
+use lib.ListN.{length, take, replicate}
+use Rattle.integers.proofs.Tests.{either-false}
+use Rattle.table.specs.Stored.{wordAt}
+use Rattle.vectors_table.specs.Sample.{recordBroken, recordRight, rightOf}
+use Rattle.vectors_table.proofs.Pieces.{take-replicate, length-taken}
+use Rattle.vectors_table.proofs.right.Statement.{statement}
+use Rattle.vectors_table.proofs.right.Tie as tie
+
+-- what a whole record is
+record Whole (r : List ℕ) : Type 0 where
+  head : 32 ≤ length r
+  starts : wordAt r 2 ≤ 32
+  numbers : wordAt r 3 ≤ 64
+  bytes : wordAt r 4 ≤ 256
+  size : length r ≡ 32 + 4 * wordAt r 2 + 4 * wordAt r 3 + wordAt r 4
+
+whole : (r : List ℕ) → recordBroken r ≡ false → Whole r
+unfolding recordBroken
+whole r e =
+    let (h, e₁) = either-false _ _ e in
+    let (s, e₂) = either-false _ _ e₁ in
+    let (m, e₃) = either-false _ _ e₂ in
+    let (n, e₄) = either-false _ _ e₃ in
+    let (z, e₅) = either-false _ _ e₄ in
+    record { head = ltb-false _ _ h; starts = ltb-false _ _ s; numbers = ltb-false _ _ m; bytes = ltb-false _ _ n; size = eqb-true _ _ (not-false _ z) }
+
+module _ (r : List ℕ) {b : Bool} (e : b ≡ recordBroken r) where
+  not-right : b ≡ true → false ≡ rightOf r
+  unfolding rightOf
+  not-right h = rw (sym e ∙ h)
+
+  module _ (h : b ≡ false) where
+    w : Whole r
+    w = whole r (sym e ∙ h)
+
+    head-there : 32 ≤ length r
+    head-there = w .head
+
+    starts-fit : {s : ℕ} → s ≡ wordAt r 2 → s ≤ 32
+    starts-fit p = omega (arith, w .starts)
+
+    numbers-fit : {m : ℕ} → m ≡ wordAt r 3 → m ≤ 64
+    numbers-fit p = omega (arith, w .numbers)
+
+    bytes-fit : {n : ℕ} → n ≡ wordAt r 4 → n ≤ 256
+    bytes-fit p = omega (arith, w .bytes)
+
+    module _ {s m : ℕ} (p : s ≡ wordAt r 2) (q : m ≡ wordAt r 3) where
+      lists-fit : (length {A = ℕ} (take s (replicate 32 0)) ≡ wordAt r 2) × (length (take m (replicate 64 (pos 0))) ≡ wordAt r 3)
+          × (32 + 4 * length {A = ℕ} (take s (replicate 32 0)) + 4 * length (take m (replicate 64 (pos 0))) ≤ length r)
+      lists-fit =
+          let a = length-taken {A = ℕ} s 32 0 (starts-fit p) in
+          let c = length-taken m 64 (pos 0) (numbers-fit q) in
+          (a ∙ p, c ∙ q, omega (arith, w .size))
+
+      by-record : {n : ℕ} {v : Bool} → n ≡ wordAt r 4
+          → v ≡ recordRight r (take s (replicate 32 2779096485)) (take m (replicate 64 (pos 1515870810))) (take n (replicate 256 165)) → v ≡ rightOf r
+      unfolding rightOf
+      by-record {n} t g =
+          let a = take-replicate {A = ℕ} s 32 2779096485 (starts-fit p) ∙ ap (λ k. replicate {A = ℕ} k 2779096485) p in
+          let c = take-replicate m 64 (pos 1515870810) (numbers-fit q) ∙ ap (λ k. replicate k (pos 1515870810)) q in
+          let d = take-replicate {A = ℕ} n 256 165 (bytes-fit t) ∙ ap (λ k. replicate {A = ℕ} k 165) t in
+          rw (sym e ∙ h) (g ∙ (λ i. recordRight r (a i) (c i) (d i)))
+
+broken-requires : tie.Need-broken-requires
+broken-requires c κs = search needs
+
+returns : tie.Need-returns
+returns c = not-right _ (c .before .broken .ensures) (c .if1 .taken)
+
+word-at-requires : tie.Need-word-at-requires
+word-at-requires c κs = omega (arith, head-there _ (c .before .broken .ensures) (c .if1 .left))
+
+cast-s : tie.Need-cast-s
+cast-s c = search needs
+
+word-at-requires-2 : tie.Need-word-at-requires-2
+word-at-requires-2 c κs = let e = c .before in omega (arith, head-there _ (e .before .broken .ensures) (e .if1 .left))
+
+cast-m : tie.Need-cast-m
+cast-m c = search needs
+
+word-at-requires-3 : tie.Need-word-at-requires-3
+word-at-requires-3 c κs = let e = c .before .before in omega (arith, head-there _ (e .before .broken .ensures) (e .if1 .left))
+
+cast-n : tie.Need-cast-n
+cast-n c = search needs
+
+array-borrow-prefix-starts : tie.Need-array-borrow-prefix-starts
+array-borrow-prefix-starts c = let e = c .before .before .before in starts-fit _ (e .before .broken .ensures) (e .if1 .left) (c .before .before .word-at .ensures)
+
+slice-aggregate-record-right : tie.Need-slice-aggregate-record-right
+slice-aggregate-record-right c =
+    let e = c .before .before .before .before in
+    sym (length-taken _ 32 0 (starts-fit _ (e .before .broken .ensures) (e .if1 .left) (c .before .before .before .word-at .ensures)))
+
+array-borrow-prefix-numbers : tie.Need-array-borrow-prefix-numbers
+array-borrow-prefix-numbers c = let e = c .before .before .before .before in numbers-fit _ (e .before .broken .ensures) (e .if1 .left) (c .before .before .word-at2 .ensures)
+
+slice-aggregate-record-right-2 : tie.Need-slice-aggregate-record-right-2
+slice-aggregate-record-right-2 c =
+    let e = c .before .before .before .before .before in
+    sym (length-taken _ 64 (pos 0) (numbers-fit _ (e .before .broken .ensures) (e .if1 .left) (c .before .before .before .word-at2 .ensures)))
+
+array-borrow-prefix-lent-starts : tie.Need-array-borrow-prefix-lent-starts
+array-borrow-prefix-lent-starts c = let e = c .before .before .before .before .before in starts-fit _ (e .before .broken .ensures) (e .if1 .left) (c .before .before .before .before .word-at .ensures)
+
+slice-aggregate-record-right-3 : tie.Need-slice-aggregate-record-right-3
+slice-aggregate-record-right-3 c =
+    let e = c .before .before .before .before .before .before in
+    sym (length-taken _ 32 2779096485 (starts-fit _ (e .before .broken .ensures) (e .if1 .left) (c .before .before .before .before .before .word-at .ensures)))
+
+array-borrow-prefix-lent-numbers : tie.Need-array-borrow-prefix-lent-numbers
+array-borrow-prefix-lent-numbers c = let e = c .before .before .before .before .before .before in numbers-fit _ (e .before .broken .ensures) (e .if1 .left) (c .before .before .before .before .word-at2 .ensures)
+
+slice-aggregate-record-right-4 : tie.Need-slice-aggregate-record-right-4
+slice-aggregate-record-right-4 c =
+    let e = c .before .before .before .before .before .before .before in
+    sym (length-taken _ 64 (pos 1515870810) (numbers-fit _ (e .before .broken .ensures) (e .if1 .left) (c .before .before .before .before .before .word-at2 .ensures)))
+
+array-borrow-prefix-lent-bytes : tie.Need-array-borrow-prefix-lent-bytes
+array-borrow-prefix-lent-bytes c = let e = c .before .before .before .before .before .before .before in bytes-fit _ (e .before .broken .ensures) (e .if1 .left) (c .before .before .before .before .word-at3 .ensures)
+
+slice-aggregate-record-right-5 : tie.Need-slice-aggregate-record-right-5
+slice-aggregate-record-right-5 c =
+    let e = c .before .before .before .before .before .before .before .before in
+    sym (length-taken _ 256 165 (bytes-fit _ (e .before .broken .ensures) (e .if1 .left) (c .before .before .before .before .before .word-at3 .ensures)))
+
+record-right-requires : tie.Need-record-right-requires
+record-right-requires c κs =
+    let e = c .before .before .before .before .before .before .before .before in
+    let w₃ = c .before .before .before .before .before in
+    lists-fit _ (e .before .broken .ensures) (e .if1 .left) (w₃ .before .before .word-at .ensures) (w₃ .before .word-at2 .ensures)
+
+returns-2 : tie.Need-returns-2
+returns-2 c =
+    let a = c .before .before .before .before .before in
+    let w₃ = a .before .before .before .before .before .before in
+    let w₂ = w₃ .before in
+    let e = w₂ .before .before in
+    by-record _ (e .before .broken .ensures) (e .if1 .left) (w₂ .before .word-at .ensures) (w₂ .word-at2 .ensures) (w₃ .word-at3 .ensures) (a .record-right .ensures)
+
+pub right-spec : {M : Type 1} → statement M
+right-spec =
+    tie.close
+    (tie.spec
+    broken-requires
+    returns
+    word-at-requires
+    cast-s
+    word-at-requires-2
+    cast-m
+    word-at-requires-3
+    cast-n
+    array-borrow-prefix-starts
+    slice-aggregate-record-right
+    array-borrow-prefix-numbers
+    slice-aggregate-record-right-2
+    array-borrow-prefix-lent-starts
+    slice-aggregate-record-right-3
+    array-borrow-prefix-lent-numbers
+    slice-aggregate-record-right-4
+    array-borrow-prefix-lent-bytes
+    slice-aggregate-record-right-5
+    record-right-requires
+    returns-2)

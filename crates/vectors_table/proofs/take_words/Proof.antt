@@ -1,0 +1,82 @@
+-- `vectors_table::take_words` meets its contract. The loop's invariant: the first i words stand on the buffer's front. Assumes nothing.
+use mathlib.Core.Path.{_≡_, refl, sym, _∙_, ap}
+use Prim.Native.Nat.{_+_, _≤_, _<_, _-_}
+use native.Mathlib.Omega.{arith}
+use borrow.Author.Needs.{needs}
+use lib.ListN.{length, take, drop, length-set, length-drop}
+use lib.Seq.{length-take-le}
+use Rattle.integers.specs.Lists.{overlay}
+use Rattle.integers.proofs.Overlay.{overlay-nil, overlay-all}
+use Rattle.table.specs.Stored.{wordsOf}
+use Rattle.table.proofs.Words.{length-words}
+use Rattle.table_stored.proofs.Reading.{word-more, word-from}
+use Rattle.vectors_table.proofs.take_words.Statement.{statement}
+use Rattle.vectors_table.proofs.take_words.Tie as tie
+
+abbrev Inv-loop : tie.InvT-loop
+Inv-loop bytes from out₀ i₀ out i = (i ≤ length out₀) × (length out ≡ length out₀) × (out ≡ overlay (take i (drop from (wordsOf bytes))) out₀)
+
+abbrev μ-loop : tie.MeasureT-loop
+μ-loop bytes from out₀ i₀ out i = length out₀ - i
+
+loop-holds : tie.Need-loop-holds Inv-loop μ-loop
+loop-holds c = (omega arith, refl, sym (overlay-nil _))
+
+add-word-at : tie.Need-add-word-at Inv-loop μ-loop
+add-word-at c = search needs
+
+word-at-requires : tie.Need-word-at-requires Inv-loop μ-loop
+word-at-requires c κs = search needs
+
+mul-out : tie.Need-mul-out Inv-loop μ-loop
+mul-out c = search needs
+
+slice-write-out : tie.Need-slice-write-out Inv-loop μ-loop
+slice-write-out c = search needs
+
+add-i : tie.Need-add-i Inv-loop μ-loop
+add-i c = search needs
+
+loop-less : tie.Need-loop-less Inv-loop μ-loop
+loop-less c = search needs
+
+loop-again : tie.Need-loop-again Inv-loop μ-loop
+loop-again c =
+    let l = c .before .before in
+    let s = l .before .before .before .args in
+    let n : l .loop .i < length (drop (s .from) (wordsOf (s .bytes .now))) = omega (arith, length-drop (s .from) (wordsOf (s .bytes .now)), length-words (s .bytes .now)) in (
+      omega arith,
+      simp length-set (l .loop .inv .1),
+      word-more (drop (s .from) (wordsOf (s .bytes .now))) (s .out .now) (l .loop .i) n (omega arith) (l .loop .inv .2)
+          (c .word-at .ensures ∙ word-from (s .bytes .now) (s .from) (l .loop .i) (s .from + l .loop .i) refl),
+    )
+
+same-length : tie.Need-same-length Inv-loop μ-loop
+same-length c = search needs
+
+returns : tie.Need-returns Inv-loop μ-loop
+returns c =
+    let l = c .before in
+    let s = l .before .before .before .args in
+    let ws = drop (s .from) (wordsOf (s .bytes .now)) in
+    let e : l .loop .i ≡ length (s .out .now) = omega arith in
+    let n : length (take (length (s .out .now)) ws) ≡ length (s .out .now) =
+    length-take-le (length (s .out .now)) ws (omega (arith, length-drop (s .from) (wordsOf (s .bytes .now)), length-words (s .bytes .now))) in
+    l .loop .inv .2 ∙ ap (λ k. overlay (take k ws) (s .out .now)) e ∙ overlay-all (take (length (s .out .now)) ws) (s .out .now) (omega arith)
+
+pub take-words-spec : {M : Type 1} → statement M
+take-words-spec =
+    tie.close
+    (tie.spec
+    Inv-loop
+    μ-loop
+    loop-holds
+    add-word-at
+    word-at-requires
+    mul-out
+    slice-write-out
+    add-i
+    loop-less
+    loop-again
+    same-length
+    returns)
