@@ -1,0 +1,67 @@
+-- `join_example::print_starts` is safe and ends. The invariant: i has not passed the end; the measure is what is left. Assumes nothing.
+use Prim.Native.Nat.{_≤_, _-_}
+use borrow.Author.Needs.{needs}
+use lib.ListN.{length}
+use Rattle.join_example.proofs.print_starts.Statement.{statement}
+use Rattle.join_example.proofs.print_starts.Tie as tie
+
+abbrev Inv-loop : tie.InvT-loop
+Inv-loop starts i₀ t4 i = i ≤ length starts
+
+abbrev μ-loop : tie.MeasureT-loop
+μ-loop starts i₀ t4 i = length starts - i
+
+slice-aggregate-write-all : tie.Need-slice-aggregate-write-all Inv-loop μ-loop
+slice-aggregate-write-all c = search needs
+
+write-all-requires : tie.Need-write-all-requires Inv-loop μ-loop
+write-all-requires c κs = search needs
+
+loop-holds : tie.Need-loop-holds Inv-loop μ-loop
+loop-holds c = search needs
+
+mul-print-start : tie.Need-mul-print-start Inv-loop μ-loop
+mul-print-start c = search needs
+
+shared-slice-read-print-start : tie.Need-shared-slice-read-print-start Inv-loop μ-loop
+shared-slice-read-print-start c = search needs
+
+print-start-requires : tie.Need-print-start-requires Inv-loop μ-loop
+print-start-requires c κs = search needs
+
+add-i : tie.Need-add-i Inv-loop μ-loop
+add-i c = search needs
+
+loop-less : tie.Need-loop-less Inv-loop μ-loop
+loop-less c = search needs
+
+loop-again : tie.Need-loop-again Inv-loop μ-loop
+loop-again c = search needs
+
+slice-aggregate-write-all-2 : tie.Need-slice-aggregate-write-all-2 Inv-loop μ-loop
+slice-aggregate-write-all-2 c = search needs
+
+write-all-requires-2 : tie.Need-write-all-requires-2 Inv-loop μ-loop
+write-all-requires-2 c κs = search needs
+
+returns : tie.Need-returns Inv-loop μ-loop
+returns c = search needs
+
+pub print-starts-spec : {M : Type 1} → statement M
+print-starts-spec =
+    tie.close
+    (tie.spec
+    Inv-loop
+    μ-loop
+    slice-aggregate-write-all
+    write-all-requires
+    loop-holds
+    mul-print-start
+    shared-slice-read-print-start
+    print-start-requires
+    add-i
+    loop-less
+    loop-again
+    slice-aggregate-write-all-2
+    write-all-requires-2
+    returns)

@@ -1,0 +1,71 @@
+// The README's example of joining: the parts of document 01's dart, two triangles that do not join, then the same mesh refused, once for want of
+// a place for the last start and once for a neighbour that is not there. What it prints is its file `stdout`. Leans on convex_join.
+
+// Writes a name and a number.
+fn print_number(name: &[u8], n: u64) {
+    io::write_all(1, name);
+    io::print_decimal(1, n);
+}
+
+// Writes a coordinate after a space. Below 0 its bits, read unsigned, are as far below 2^32.
+fn print_coordinate(n: i32) {
+    let bits = mesh::unsigned(n) as u64;
+    if n < 0 {
+        print_number(b" -", 4294967296 - bits);
+        return;
+    }
+    print_number(b" ", bits);
+}
+
+fn print_start(n: u32) {
+    print_number(b" ", n as u64);
+}
+
+fn print_starts(starts: &[u32]) {
+    io::write_all(1, b"starts");
+    let mut i = 0;
+    while i < starts.len() {
+        print_start(starts[i]);
+        i += 1;
+    }
+    io::write_all(1, b"\n");
+}
+
+fn print_corners(corners: &[i32]) {
+    io::write_all(1, b"corners");
+    let mut i = 0;
+    while i < corners.len() {
+        print_coordinate(corners[i]);
+        i += 1;
+    }
+    io::write_all(1, b"\n");
+}
+
+// Joins the mesh into the lent places and writes what the call told and what it left there.
+fn print_parts(mesh: &[[i32; 9]], starts: &mut [u32], corners: &mut [i32]) {
+    let counts = convex_join::to_convex_polygons(mesh, starts, corners);
+    print_number(b"joined: fault ", counts.fault as u64);
+    print_number(b", parts ", counts.parts as u64);
+    print_number(b", corners ", counts.corners as u64);
+    io::write_all(1, b"\n");
+    print_starts(starts);
+    print_corners(corners);
+}
+
+// A row has the three points and then the neighbours across from them, -1 for none.
+fn main() {
+    let dart = [
+        [0i32, 0, 4, 0, 0, 4, 1, -1, -1],
+        [4, 0, 10, -2, 0, 4, -1, 0, -1],
+    ];
+    let stray = [
+        [0i32, 0, 4, 0, 0, 4, 2, -1, -1],
+        [4, 0, 10, -2, 0, 4, -1, 0, -1],
+    ];
+    let mut starts = [0u32; 3];
+    let mut corners = [0i32; 12];
+    print_parts(&dart, &mut starts, &mut corners);
+    let mut few = [0u32; 2];
+    print_parts(&dart, &mut few, &mut corners);
+    print_parts(&stray, &mut starts, &mut corners);
+}
