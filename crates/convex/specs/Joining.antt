@@ -4,15 +4,15 @@ use mathlib.Core.Bool.{Bool, true, false, cond}
 use mathlib.Core.List.{List, [], _∷_, _++_, map, flatten}
 use Prim.Native.Nat.{ℕ, zero, suc, _+_, _*_, _-_}
 use lib.Dec.{eqb}
-use lib.ListN.{length}
+use lib.ListN.{length, getD}
 use lib.IntN.{ℤ, pos}
-use lib.Signed.{leZ}
+use lib.Signed.{leZ, ltZ}
 use Rattle.integers.specs.Lists.{All, sumℤ, upTo, ExactlyOnce, rotate, neighbours}
 use Rattle.integers.specs.Test.{eqZ}
 use Rattle.integers.specs.Faults.{firstFault}
 use Rattle.plane.specs.Plane.{Pt, O, _-ᵖ_, cross, turn}
-use Rattle.plane.specs.Contour.{lastOf, contourArea}
-use Rattle.mesh.specs.Mesh.{Triangle, Mesh, none, vertex, neighbour, after, before, triangleAt, triangleArea, opposite, meshKinds}
+use Rattle.plane.specs.Contour.{lastOf, edges, contourArea}
+use Rattle.mesh.specs.Mesh.{Triangle, Mesh, none, vertex, neighbour, after, before, triangleAt, triangleArea, opposite, meshArea, meshKinds}
 use Rattle.table.specs.declared.Counts.{Counts}
 use Rattle.table.specs.Table.{roomKinds, countsOf, written, startsOf, cornersOf, tableBroken}
 
@@ -186,6 +186,27 @@ pub record TakenOnce (m : Mesh) : Type 0 where
 
 abbrev pub EachTakenOnce : Type 0
 EachTakenOnce = (m : Mesh) → firstFault (meshKinds m) ≡ 0 → TakenOnce m
+
+-- so the parts' doubled areas add up to the mesh's
+abbrev pub PartsArea : Type 0
+PartsArea = (m : Mesh) → firstFault (meshKinds m) ≡ 0 → sumℤ (map contourArea (parts m)) ≡ meshArea m
+
+-- ---- "the first is never one"
+
+-- the turn at the first corner of a list, round it
+unfoldable pub firstTurn : List Pt → ℤ
+firstTurn [] = pos 0
+firstTurn (p ∷ []) = pos 0
+firstTurn (p ∷ c ∷ l) = turn (lastOf c l) p c
+
+-- the last vertex added has a turn above 0, so it is where the part starts; and no corner of a part has turn 0
+pub record Straightened (m : Mesh) : Type 0 where
+  pub first : All (λ r. ltZ (pos 0) (firstTurn (fromLast (r .contour))) ≡ true) (regions m)
+  pub stays : All (λ r. getD (contourOf r) 0 O ≡ getD (fromLast (r .contour)) 0 O) (regions m)
+  pub turns : All (λ l. All (λ t. eqZ (cross (t .0) (t .1)) (pos 0) ≡ false) (neighbours (edges l))) (parts m)
+
+abbrev pub EachStraightened : Type 0
+EachStraightened = (m : Mesh) → firstFault (meshKinds m) ≡ 0 → Straightened m
 
 -- the answer is a part table within the limits: 7 never refuses what joining gives
 abbrev pub PartsTable : Type 0
