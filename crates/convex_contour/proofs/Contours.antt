@@ -1,5 +1,5 @@
 -- A whole region's contour in its buffer: it is the zipper's from the last corner added (`contour-zipper`); its corners by their places
--- (`contour-near`, `contour-far`, `after-inner`, `after-last`). Points appended (`appended-none`, `appended-one`, `appended-more`); the corner at hand
+-- (`contour-near`, `contour-far`, `after-inner`, `after-last`), and place after place (`placeAt`: `place-next`, `place-corner`, `place-last`). Points appended (`appended-none`, `appended-one`, `appended-more`); the corner at hand
 -- and the one before it (`Sliding`); corners of turn 0 dropped one corner a turn (`Keeping`: `keeping-start`, `keeping-turn`, `keeping-end`).
 -- Assumes nothing.
 use mathlib.Core.Path.{_≡_, refl, sym, _∙_, ap, ap₂, subst}
@@ -8,11 +8,14 @@ use mathlib.Core.List.{List, [], _∷_, _++_, map, map-append, append-assoc, app
 use Prim.Native.Nat.{ℕ, zero, suc, _+_, _-_, _≤_, _<_}
 use native.Mathlib.Numerals.{add-one}
 use native.Mathlib.Omega.{arith}
+use borrow.Author.Tests.{eqb-true, eqb-false, ltb-true, ltb-false, lt-ltb, le-ltb, ne-eqb}
+use lib.Dec.{eqb, ltb}
 use lib.ListN.{length, getD, set, take, drop, length-append, length-drop, length-map, length-set, List·getD-append, List·getD-map, List·getD-eq-default, drop-of-length-le}
 use lib.Seq.{drop-cons, drop-drop, getD-take, getD-drop, getD-append-add, length-take-le, take-suc-set}
 use lib.IntN.{ℤ, pos}
 use Rattle.integers.specs.Lists.{rotate}
 use Rattle.integers.specs.Test.{eqZ}
+use Rattle.integers.proofs.Order.{by-test}
 use Rattle.integers.proofs.Rotation.{rotate-eq}
 use Rattle.integers.proofs.Elements.{map-take, map-drop}
 use Rattle.plane.specs.declared.IntPoint.{IntPoint}
@@ -23,7 +26,7 @@ use Rattle.convex.specs.Joining.{keptBy, turning, withoutStraight}
 use Rattle.convex.specs.Zipper.{Zipper, fromLastZ}
 use Rattle.convex_ring.specs.declared.Progress.{Progress}
 use Rattle.convex_ring.specs.Buffers.{cornerOf, cornerAt, pairOf, Holds}
-use Rattle.convex_contour.specs.Contour.{contourAt, Whole, cornerAfter, keptIf, firstPoints, Appended}
+use Rattle.convex_contour.specs.Contour.{contourAt, Whole, placeAfter, placeBefore, cornerAfter, keptIf, firstPoints, Appended}
 use Rattle.convex_ring.proofs.Reading.{length-done}
 
 -- ---- the contour of a zipper
@@ -44,6 +47,10 @@ getD-any : {A : Type 0} (l : List A) (i : ℕ) (d e : A) → i < length l → ge
 getD-any [] i d e h = absurd (omega arith)
 getD-any (x ∷ l) zero d e h = refl
 getD-any (x ∷ l) (suc i) d e h = getD-any l i d e (omega arith)
+
+-- where corner i stands; after the last one the first again
+abbrev pub placeAt : Progress → ℕ → ℕ
+placeAt p i = cond (ltb (p .last + i) 1026) (p .last + i) (p .last + i - 1026 + p .done)
 
 module _ (cs : List (List ℤ)) (p : Progress) (w : Whole cs p) where
   abbrev tail : List (List ℤ)
@@ -76,6 +83,57 @@ module _ (cs : List (List ℤ)) (p : Progress) (w : Whole cs p) where
 
   pub after-last : (i : ℕ) → 1026 ≤ i + 1 + p .done → getD (contourAt cs p) 0 O ≡ cornerAfter (contourAt cs p) i
   after-last i h = sym (List·getD-eq-default (contourAt cs p) (getD (contourAt cs p) 0 O) {n = suc i} (omega (arith, length-contour)))
+
+  -- ---- places, round the contour
+
+  pub place-first : p .last ≡ placeAt p 0
+  place-first = sym (rw (lt-ltb (p .last + 0) 1026 (omega (arith, w .ended))) (omega arith))
+
+  pub place-below : (i : ℕ) → i + p .done ≤ 1026 → placeAt p i < 1026
+  place-below i h = by-test (ltb (p .last + i) 1026)
+      (λ t. rw t (omega (arith, ltb-true (p .last + i) 1026 t)))
+      (λ t. rw t (omega (arith, ltb-false (p .last + i) 1026 t, w .ended)))
+
+  pub place-next : (i : ℕ) {k r : ℕ} → i + p .done < 1026 → k ≡ placeAt p i → r ≡ placeAfter (p .done) k → r ≡ placeAt p (i + 1)
+  unfolding placeAfter
+  place-next i {k} h e f = f ∙ ap (placeAfter (p .done)) e ∙ by-test (ltb (p .last + i) 1026)
+      (λ t. rw t (near (ltb-true (p .last + i) 1026 t)))
+      (λ t. rw t (far (ltb-false (p .last + i) 1026 t)))
+    where
+      near : p .last + i < 1026 → placeAfter (p .done) (p .last + i) ≡ placeAt p (i + 1)
+      near g = by-test (eqb (p .last + i + 1) 1026)
+          (λ t. rw (t, le-ltb (p .last + (i + 1)) 1026 (omega (arith, eqb-true (p .last + i + 1) 1026 t))) (omega (arith, eqb-true (p .last + i + 1) 1026 t)))
+          (λ t. rw (t, lt-ltb (p .last + (i + 1)) 1026 (omega (arith, eqb-false (p .last + i + 1) 1026 t))) (omega arith))
+
+      far : 1026 ≤ p .last + i → placeAfter (p .done) (p .last + i - 1026 + p .done) ≡ placeAt p (i + 1)
+      far g = rw (ne-eqb (p .last + i - 1026 + p .done + 1) 1026 (λ q. omega (arith, q, w .ended)), le-ltb (p .last + (i + 1)) 1026 (omega arith)) (omega arith)
+
+  -- what stands at a place
+  at-place : (i : ℕ) → i + p .done < 1026 → cornerAt cs (placeAt p i) ≡ getD (contourAt cs p) i O
+  at-place i h = by-test (ltb (p .last + i) 1026)
+      (λ t. rw t (sym (contour-near i (ltb-true (p .last + i) 1026 t))))
+      (λ t. rw t (sym (contour-far i h (ltb-false (p .last + i) 1026 t))))
+
+  pub place-corner : (i : ℕ) {q : Pt} {k : ℕ} → i + p .done < 1026 → k ≡ placeAt p (i + 1) → q ≡ cornerAt cs k → q ≡ cornerAfter (contourAt cs p) i
+  place-corner i h e f = f ∙ ap (cornerAt cs) e ∙ by-test (ltb (i + 1 + p .done) 1026)
+      (λ t. at-place (i + 1) (ltb-true (i + 1 + p .done) 1026 t) ∙ after-inner i (ltb-true (i + 1 + p .done) 1026 t))
+      (λ t. let g = ltb-false (i + 1 + p .done) 1026 t in
+      ap (cornerAt cs) (rw (le-ltb (p .last + (i + 1)) 1026 (omega (arith, g, w .placed))) (omega (arith, g, w .placed))) ∙ sym (contour-near 0 (omega (arith, w .ended))) ∙ after-last i g)
+
+  -- the corner before the first
+  pub place-last : {k : ℕ} {q : Pt} → k ≡ placeBefore (p .done) (p .last) → q ≡ cornerAt cs k → q ≡ getD (contourAt cs p) (1026 - p .done - 1) O
+  unfolding placeBefore
+  place-last e f = f ∙ ap (cornerAt cs) (e ∙ by-test (ltb (p .done) (p .last))
+      (λ t. rw (t, le-ltb (p .last + (1026 - p .done - 1)) 1026 (omega (arith, ltb-true (p .done) (p .last) t, w .some))) (omega (arith, ltb-true (p .done) (p .last) t, w .some)))
+      (λ t. rw (t, lt-ltb (p .last + (1026 - p .done - 1)) 1026 (omega (arith, ltb-false (p .done) (p .last) t, w .some, w .placed))) (omega (arith, ltb-false (p .done) (p .last) t, w .some, w .placed))))
+      ∙ at-place (1026 - p .done - 1) (omega (arith, w .some))
+
+  pub first-at : getD (contourAt cs p) 0 O ≡ cornerAt cs (p .last)
+  first-at = contour-near 0 (omega (arith, w .ended)) ∙ ap (cornerAt cs) (omega arith)
+
+  pub before-below : {k : ℕ} → k ≡ placeBefore (p .done) (p .last) → k < 1026
+  unfolding placeBefore
+  before-below e = rw e (by-test (ltb (p .done) (p .last)) (λ t. rw t (omega (arith, w .ended))) (λ t. rw t (omega arith)))
 
 -- ---- points appended
 

@@ -3,6 +3,7 @@ use mathlib.Core.Path.{_≡_}
 use mathlib.Core.Bool.{Bool, cond}
 use mathlib.Core.List.{List, [], _∷_, _++_, map}
 use Prim.Native.Nat.{ℕ, suc, _+_, _-_, _≤_, _<_}
+use lib.Dec.{eqb, ltb}
 use lib.ListN.{length, getD, take, drop}
 use lib.IntN.{ℤ}
 use Rattle.plane.specs.Plane.{Pt, O}
@@ -18,9 +19,16 @@ contourAt cs p = map cornerOf (drop (p .last) cs ++ take (p .last - p .done) (dr
 pub record Whole (cs : List (List ℤ)) (p : Progress) : Type 0 where
   pub size : length cs ≡ 1026
   pub placed : p .done ≤ p .last
-  pub ended : p .last ≤ 1026
+  pub ended : p .last < 1026
   pub some : p .done < 1026
   pub grid : Grid cs
+
+-- the place after a place of the contour, round its part of the buffer, which begins at d; and the place before
+unfoldable pub placeAfter : ℕ → ℕ → ℕ
+placeAfter d i = cond (eqb (i + 1) 1026) d (i + 1)
+
+unfoldable pub placeBefore : ℕ → ℕ → ℕ
+placeBefore d i = cond (ltb d i) (i - 1) 1025
 
 -- the corner after corner i, round the contour
 abbrev pub cornerAfter : List Pt → ℕ → Pt

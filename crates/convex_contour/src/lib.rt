@@ -3,40 +3,37 @@
 ghost use mathlib.Core.Path.{_≡_};
 ghost use mathlib.Core.Bool.{not};
 ghost use Prim.Native.Nat.{_+_, _-_, _<_, _≤_};
-ghost use lib.ListN.{length, getD};
+ghost use lib.ListN.{length};
 ghost use lib.IntN.{pos};
 ghost use Rattle.integers.specs.Test.{eqZ};
-ghost use Rattle.plane.specs.Plane.{O, turn};
+ghost use Rattle.plane.specs.Plane.{turn};
 ghost use Rattle.plane.specs.Machine.{point, OnGrid};
 ghost use Rattle.convex.specs.Joining.{withoutStraight};
-ghost use Rattle.convex_contour.specs.Contour.{contourAt, Whole, cornerAfter, keptIf, Appended};
+ghost use Rattle.convex_contour.specs.Contour.{contourAt, Whole, placeAfter, placeBefore, keptIf, Appended};
 use convex_ring::Progress;
 use plane::IntPoint;
 use table::MAX_CONTOUR;
 
-// Corner i of a whole region's contour, which runs from the last corner added.
-fn contour_at(corners: &[[i32; 2]], p: Progress, i: usize) -> IntPoint
-    requires { ⌜ Whole (now corners) p × (i + p .done < 1026) ⌝ }
-    ensures { λ r. ⌜ (point r ≡ getD (contourAt (now (corners .entry)) p) i O) × OnGrid r ⌝ }
+// The place after a place of a whole region's contour, which stands from `done` to the end of the buffer; round it.
+fn place_after(done: usize, place: usize) -> usize
+    requires { ⌜ place < 1026 ⌝ }
+    ensures { λ r. ⌜ r ≡ placeAfter done place ⌝ }
 {
-    let done = p.done;
-    let place = p.last + i;
-    if place < MAX_CONTOUR {
-        return convex_ring::corner_at(corners, place);
+    let next = place + 1;
+    if next == MAX_CONTOUR {
+        return done;
     }
-    convex_ring::corner_at(corners, place - MAX_CONTOUR + done)
+    next
 }
 
-// The corner after corner i, round the contour.
-fn contour_after(corners: &[[i32; 2]], p: Progress, i: usize) -> IntPoint
-    requires { ⌜ Whole (now corners) p × (i + p .done < 1026) ⌝ }
-    ensures { λ r. ⌜ (point r ≡ cornerAfter (contourAt (now (corners .entry)) p) i) × OnGrid r ⌝ }
+// The place before it.
+fn place_before(done: usize, place: usize) -> usize
+    ensures { λ r. ⌜ r ≡ placeBefore done place ⌝ }
 {
-    let next = i + 1;
-    if next + p.done < MAX_CONTOUR {
-        return contour_at(corners, p, next);
+    if place > done {
+        return place - 1;
     }
-    contour_at(corners, p, 0)
+    MAX_CONTOUR - 1
 }
 
 // Whether the turn at b, from a to c, is not 0.
@@ -76,12 +73,14 @@ pub fn append_contour(
     ensures { λ r. ⌜ Appended (withoutStraight (contourAt (now (corners .entry)) p)) (now (points .entry)) from (now (points .exit)) r ⌝ }
 {
     let size = MAX_CONTOUR - p.done;
-    let mut a = contour_at(corners, p, size - 1);
-    let mut b = contour_at(corners, p, 0);
+    let mut place = p.last;
+    let mut a = convex_ring::corner_at(corners, place_before(p.done, place));
+    let mut b = convex_ring::corner_at(corners, place);
     let mut count = from;
     let mut i: usize = 0;
     while i < size {
-        let c = contour_after(corners, p, i);
+        place = place_after(p.done, place);
+        let c = convex_ring::corner_at(corners, place);
         count = append_corner(points, count, a, b, c);
         a = b;
         b = c;

@@ -7,6 +7,7 @@ use Prim.Native.Nat.{ℕ, zero, suc, _+_, _*_, _-_, _≤_, _<_}
 use native.Mathlib.Omega.{arith}
 use lib.ListN.{length, getD, set, length-set, drop-of-length-le}
 use lib.IntN.{ℤ}
+use Rattle.integers.proofs.Tests.{differ}
 use Rattle.mesh.specs.Mesh.{Triangle, Mesh, vertex, neighbour, after, before, triangleAt}
 use Rattle.mesh.proofs.Accepted.{accepted}
 use Rattle.convex.specs.Zipper.{Slot, Zipper, startZ, stepZ, growZ}
@@ -80,6 +81,8 @@ module _ (m : Mesh) (cs : List (List ℤ)) (es : List (List ℕ)) (flags : List 
     three = omega arith;
     placed = omega arith;
     ended = omega arith;
+    settled = λ e. differ (sym e);
+    rested = λ e. absurd (omega (arith, e));
   }
 
   slot : (i j : ℕ) → getD cs′ i [] ≡ c j → getD es′ i [] ≡ e j → slotAt cs′ es′ i ≡ record { corner = vertex t j; inside = k; across = neighbour t (before j) }

@@ -116,6 +116,10 @@ end-moved : (t : Bool) (d l : ℕ) → d ≤ 1026 → l ≤ 1026 → cond t (d -
 end-moved true d l h k = omega arith
 end-moved false d l h k = k
 
+settle-moved : (t : Bool) (d l : ℕ) → 0 < d → d ≤ 1026 → (t ≡ false → l < 1026) → cond t (d - 1) l < 1026
+settle-moved true d l g h k = omega arith
+settle-moved false d l g h k = k refl
+
 -- ---- a step
 
 pub stepped-by : {m : Mesh} {cs : List (List ℤ)} {es : List (List ℕ)} {flags : List Bool} {p : Progress} {cs1 cs2 : List (List ℤ)} {es1 es2 : List (List ℕ)} {flags1 flags2 : List Bool} {p1 p2 : Progress} → cs2 ≡ cs1 → es2 ≡ es1 → flags2 ≡ flags1 → p2 ≡ p1 → Stepped m cs es flags p cs1 es1 flags1 p1 → Stepped m cs es flags p cs2 es2 flags2 p2
@@ -182,6 +186,8 @@ module _ (m : Mesh) (cs : List (List ℤ)) (es : List (List ℕ)) (flags : List 
     three = omega (arith, s .three, s .room);
     placed = place-moved (p .fresh) (p .done) (p .last) (s .placed);
     ended = end-moved (p .fresh) (p .done) (p .last) (s .whole) (s .ended);
+    settled = λ e. settle-moved (p .fresh) (p .done) (p .last) (omega (arith, s .room)) (s .whole) (s .settled);
+    rested = λ e. refl;
   }
 
   move-holds : (seen : List ℕ) (z : Zipper) → Holds cs es flags p seen z → Holds (set cs (p .done - 1) top) es flags (movedBy p) seen (moved x rest z)
@@ -253,6 +259,8 @@ module _ (m : Mesh) (cs : List (List ℤ)) (es : List (List ℕ)) (flags : List 
           three = omega (arith, s .three);
           placed = s .placed;
           ended = s .ended;
+          settled = λ e. differ (sym e);
+          rested = λ e. absurd (omega (arith, e));
         }
 
     push-pending : pendingOf cs′ es′ (p .pending + 1) ≡ record { corner = vertex u v; inside = x .across; across = neighbour u (before v) } ∷ record { corner = x .corner; inside = x .across; across = neighbour u (after v) } ∷ rest

@@ -84,7 +84,7 @@ module _ (m : Mesh) (k : ℕ) (flags : List Bool) (starts : List ℕ) (points : 
   contour-whole = record {
     size = g .sound .ready .corners;
     placed = g .sound .placed;
-    ended = g .sound .ended;
+    ended = g .sound .settled (g .sound .rested (g .empty));
     some = omega (arith, g .empty, g .sound .three);
     grid = g .sound .ready .grid;
   }

@@ -82,7 +82,8 @@ pub record Ready (m : Mesh) (cs : List (List ℤ)) (es : List (List ℕ)) (flags
   pub grid : Grid cs
   pub across : (i : ℕ) → i < 1026 → (acrossAt es i ≡ none → ⊥) → acrossAt es i < length m
 
--- and of the counts: each triangle not taken has a place between those pending and those done
+-- and of the counts: each triangle not taken has a place between those pending and those done; the last corner added, once done, has its own, and is
+-- done where nothing is pending
 pub record Sound (m : Mesh) (cs : List (List ℤ)) (es : List (List ℕ)) (flags : List Bool) (p : Progress) : Type 0 where
   pub ready : Ready m cs es flags
   pub room : p .pending + free flags ≤ p .done
@@ -90,6 +91,8 @@ pub record Sound (m : Mesh) (cs : List (List ℤ)) (es : List (List ℕ)) (flags
   pub three : 3 + p .done ≤ p .pending + 1026
   pub placed : p .done ≤ p .last
   pub ended : p .last ≤ 1026
+  pub settled : p .fresh ≡ false → p .last < 1026
+  pub rested : p .pending ≡ 0 → p .fresh ≡ false
 
 -- ---- round the contour
 
