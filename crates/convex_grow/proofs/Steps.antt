@@ -211,10 +211,6 @@ module _ (m : Mesh) (cs : List (List ℤ)) (es : List (List ℕ)) (flags : List 
   -- ---- a triangle joins
 
   module _ (d : chosen m flags x r ≡ none → ⊥) where
-    pub chosen-across : chosen m flags x r ≡ x .across
-    unfolding chosen
-    chosen-across = found (eqb (x .across) none) (getD flags (x .across) false) (joinsZ x r u v) (x .across) d .0
-
     across-some : x .across ≡ none → ⊥
     unfolding chosen
     across-some = eqb-false (x .across) none (found (eqb (x .across) none) (getD flags (x .across) false) (joinsZ x r u v) (x .across) d .1 .0)

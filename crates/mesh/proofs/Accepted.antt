@@ -1,21 +1,19 @@
 -- What an accepted mesh has, side by side: where no fault is found, each test's rule holds of every triangle and side (`accepted`).
 -- Assumes nothing.
-use mathlib.Core.Path.{_≡_, refl, sym, _∙_, ap}
+use mathlib.Core.Path.{_≡_, refl}
 use mathlib.Core.Bool.{Bool, true, false, not, cond}
-use mathlib.Core.List.{List, [], _∷_}
 use Prim.Native.Nat.{ℕ, zero, suc, _≤_, _<_}
-use native.Mathlib.Omega.{arith}
 use borrow.Author.Tests.{eqb-true, eqb-false, ltb-false, leb-false, not-false}
-use lib.Dec.{eqb, leb, ltb, lit<}
+use lib.Dec.{eqb, leb, lit<}
 use lib.ListN.{length}
 use lib.IntN.{ℤ, pos}
-use lib.Signed.{_≤ℤ_, _<ℤ_, leZ, ltZ}
-use Rattle.integers.specs.Faults.{Kind, firstFault}
+use lib.Signed.{_≤ℤ_, _<ℤ_, leZ}
+use Rattle.integers.specs.Faults.{firstFault}
 use Rattle.integers.proofs.Faults.{first-none}
 use Rattle.integers.proofs.Tests.{differ, either-false, ltZ-≤, leZ-<}
-use Rattle.plane.specs.Plane.{Pt, eqPt, onGrid}
+use Rattle.plane.specs.Plane.{eqPt, onGrid}
 use Rattle.plane.proofs.Edges.{eqPt-true}
-use Rattle.mesh.specs.Mesh.{Triangle, Mesh, none, vertex, neighbour, after, before, triangleAt, triangleArea, tooMany, offGrid, strayNeighbour, named, misnamed, opposite, runsOppositely, mismatched, flat, meshArea, tooLarge, meshKinds}
+use Rattle.mesh.specs.Mesh.{Mesh, none, vertex, neighbour, after, before, triangleAt, triangleArea, tooMany, offGrid, strayNeighbour, named, misnamed, opposite, runsOppositely, mismatched, flat, meshArea, tooLarge, meshKinds}
 use Rattle.mesh.proofs.Sides.{some-false, mesh-side-false}
 
 pub record Accepted (m : Mesh) : Type 0 where

@@ -3,4 +3,3 @@ pub mod Sides
 pub mod Accepted
 pub mod Rows
 pub mod Passes
-pub mod Neighbours

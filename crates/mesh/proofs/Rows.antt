@@ -1,13 +1,12 @@
 -- A row's vertices and neighbours by their places (`vertex-row`, `neighbour-row`), a mesh's triangles by their rows (`triangle-row`).
 -- Assumes nothing.
-use mathlib.Core.Path.{_≡_, refl, sym, _∙_, ap}
-use mathlib.Core.List.{List, [], _∷_, map}
+use mathlib.Core.Path.{_≡_, refl}
+use mathlib.Core.List.{List, [], _∷_}
 use Prim.Native.Nat.{ℕ, zero, suc, _+_, _*_, _<_}
 use native.Mathlib.Omega.{arith}
 use lib.ListN.{length, getD, length-map}
 use lib.IntN.{ℤ}
-use Rattle.plane.specs.Plane.{Pt}
-use Rattle.mesh.specs.Mesh.{Triangle, Mesh, vertex, neighbour, triangleAt, opposite, noTriangle}
+use Rattle.mesh.specs.Mesh.{vertex, neighbour, triangleAt, opposite}
 use Rattle.mesh.specs.Rows.{number, word, rowTriangle, rowsMesh}
 use Rattle.mesh.proofs.Sides.{opposite-side}
 

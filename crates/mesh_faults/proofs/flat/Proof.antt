@@ -7,8 +7,7 @@ use lib.ListN.{length}
 use lib.IntN.{pos}
 use lib.Signed.{leZ}
 use Rattle.mesh.specs.Mesh.{triangleArea, offGrid, flat}
-use Rattle.mesh.proofs.Neighbours.{row-on-grid}
-use Rattle.mesh.proofs.Passes.{Pass, pass-start, pass-found, pass-next, pass-end}
+use Rattle.mesh.proofs.Passes.{Pass, pass-start, pass-found, pass-next, pass-end, row-on-grid}
 use Rattle.mesh_faults.proofs.flat.Statement.{statement}
 use Rattle.mesh_faults.proofs.flat.Tie as tie
 

@@ -15,7 +15,7 @@ use Rattle.integers.proofs.Bits.{kept, got}
 use Rattle.mesh_faults.specs.declared.Added.the-variants.{Total, Past}
 use Rattle.mesh_faults.specs.Totals.{addedOf}
 use Rattle.mesh_faults.proofs.Areas.{Sum, sum-start, sum-next, sum-past, sum-end, row-above}
-use Rattle.mesh.proofs.Neighbours.{row-on-grid}
+use Rattle.mesh.proofs.Passes.{row-on-grid}
 use Rattle.mesh_faults.proofs.too_large.Statement.{statement}
 use Rattle.mesh_faults.proofs.too_large.Tie as tie
 use Rattle.mesh_faults.proofs.too_large.Reads as reads
