@@ -4,7 +4,8 @@
 //!   both sides, counted, and a difference made as small as possible
 //! - `told`: what the boundary's functions hand back
 //! - `plane`: `cross_product`, `area_two`, `angle_cmp`
-//! - `mesh`: `mesh_fault`, `to_convex_polygons`
+//! - `mesh`: `mesh_fault`, `to_convex_polygons`; `mesh_sample`: the stored sample of
+//!   the latter's answers
 //! - `table`: `read_table`, `write_table`, `show_part`; `table_simpler`: their
 //!   simpler inputs; `table_sample`: the stored sample of their answers
 //! - `boundary`: the C functions of the Rattle archive and the list of entry
@@ -15,6 +16,7 @@
 
 pub mod entry;
 pub mod mesh;
+pub mod mesh_sample;
 pub mod plane;
 pub mod table;
 pub mod table_sample;

@@ -204,7 +204,7 @@ pub fn written(call: &Call) -> Written {
 }
 
 /// The size of a mesh's parts; none where it is refused.
-fn size(mesh: &Mesh) -> Size {
+pub fn size(mesh: &Mesh) -> Size {
     Size::of(&parts(mesh, Cut::None).unwrap_or_default())
 }
 

@@ -1,7 +1,8 @@
-//! `sample plane FILE`, `sample tables FILE`: writes the stored sample of the
-//! oracle's answers for the plane, or of the judge's for part tables
-//! (vectors/README.md has the layouts). The same bytes every time.
+//! `sample plane FILE`, `sample tables FILE`, `sample meshes FILE`: writes the stored
+//! sample of the oracle's answers for the plane, of the judge's for part tables, or
+//! of both for joining (vectors/README.md has the layouts). The same bytes every time.
 
+use driver::mesh_sample;
 use driver::plane::{angle_cmp, area_two, cross_product};
 use driver::table_sample;
 use driver::told::Told;
@@ -25,8 +26,12 @@ fn main() -> ExitCode {
             let (bytes, [right, wrong]) = table_sample::sample();
             (bytes, right + wrong, file)
         }
+        ["meshes", file] => {
+            let (bytes, [right, wrong]) = mesh_sample::sample();
+            (bytes, right + wrong, file)
+        }
         _ => {
-            eprintln!("usage: sample plane FILE, sample tables FILE");
+            eprintln!("usage: sample plane FILE, sample tables FILE, sample meshes FILE");
             return ExitCode::from(2);
         }
     };

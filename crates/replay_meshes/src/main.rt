@@ -1,0 +1,88 @@
+// Replays a stored sample of joining, from standard input to its end: how many records hold what joining answers, and how
+// many do not. A record says first how many bytes it has; one that says what cannot be, or that the input ends within, is wrong.
+// Leans on vectors_mesh.
+ghost use Prim.Native.Nat.{_+_, _≤_};
+ghost use lib.ListN.{length};
+use table_words::word_at;
+use vectors_mesh::HEAD;
+use vectors_mesh::RECORD;
+
+// A proved loop has to end: so many turns, of a record each, that no input has more.
+const TURNS: u64 = 1099511627776;
+
+// How many records are right, and how many are wrong.
+struct Tally {
+    right: u64,
+    wrong: u64,
+}
+
+// Reads the next record onto the front of buf, as far as there is one, and answers how many bytes it put there.
+fn read_record(buf: &mut [u8]) -> usize
+    requires { ⌜ 1664 ≤ length (now buf) ⌝ }
+    ensures { λ r. ⌜ r ≤ 1664 ⌝ }
+{
+    let n = io::read_full(0, &mut buf[..HEAD]);
+    if n < HEAD {
+        return n;
+    }
+    let size = word_at(buf, 0) as usize;
+    if size < HEAD {
+        return HEAD;
+    }
+    if size > RECORD {
+        return HEAD;
+    }
+    let more = io::read_full(0, &mut buf[HEAD..size]);
+    if more < size - HEAD {
+        return HEAD + more;
+    }
+    size
+}
+
+// The tally of the next record of standard input, 0 of both at its end.
+fn replay_one() -> Tally
+    ensures { λ r. ⌜ r .right + r .wrong ≤ 1 ⌝ }
+{
+    let mut buf = [0u8; RECORD];
+    let n = read_record(&mut buf);
+    if n == 0 {
+        return Tally { right: 0, wrong: 0 };
+    }
+    if vectors_mesh::right(&buf[..n]) {
+        return Tally { right: 1, wrong: 0 };
+    }
+    Tally { right: 0, wrong: 1 }
+}
+
+// The tally of all of standard input.
+fn replay_all() -> Tally {
+    let mut right: u64 = 0;
+    let mut wrong: u64 = 0;
+    let mut turns: u64 = TURNS;
+    while turns > 0 {
+        let one = replay_one();
+        if one.right + one.wrong == 0 {
+            break;
+        }
+        right += one.right;
+        wrong += one.wrong;
+        turns -= 1;
+    }
+    Tally {
+        right: right,
+        wrong: wrong,
+    }
+}
+
+// Writes a name, a number and a line's end.
+fn print_line(name: &[u8], n: u64) {
+    io::write_all(1, name);
+    io::print_decimal(1, n);
+    io::write_all(1, b"\n");
+}
+
+fn main() {
+    let all = replay_all();
+    print_line(b"right ", all.right);
+    print_line(b"wrong ", all.wrong);
+}
