@@ -1,19 +1,18 @@
--- Bytes as the code reads them, word by word. In order: the length; start i; number i judged; a word or a number more in a lent buffer;
--- the fault, by the tests that the code makes; the room; the answer. Assumes nothing.
+-- Bytes as the code reads them, word by word. In order: the length; start i; number i judged; the fault, by the tests that
+-- the code makes; the room; the answer. Assumes nothing.
 use mathlib.Core.Path.{_≡_, sym, _∙_, ap}
 use mathlib.Core.Bool.{Bool, true, false, not, cond}
-use mathlib.Core.List.{List, _∷_, map, map-append}
+use mathlib.Core.List.{List, _∷_, map}
 use Prim.Native.Nat.{ℕ, _+_, _*_, _-_, _/_, _%_, _<_, _≤_}
-use native.Mathlib.Nat.{le-of-lt, add-comm}
+use native.Mathlib.Nat.{add-comm}
 use native.Mathlib.Numerals.{add-one}
 use native.Mathlib.Omega.{arith}
 use borrow.Author.Tests.{lt-ltb, le-ltb, eq-eqb}
 use lib.Dec.{eqb, ltb}
-use lib.ListN.{length, take, drop, getD, set, length-map, drop-of-length-le}
-use lib.Seq.{drop-cons, take-suc, length-take-le, getD-take, getD-drop}
+use lib.ListN.{length, take, drop, getD, drop-of-length-le}
+use lib.Seq.{drop-cons, getD-take, getD-drop}
 use lib.IntN.{ℤ}
 use Rattle.integers.specs.Lists.{overlay}
-use Rattle.integers.proofs.Overlay.{overlay-turn}
 use Rattle.plane.specs.Plane.{inRange}
 use Rattle.table.specs.Table.{stepsBroken, startsBroken, offRange, tableBroken}
 use Rattle.table.specs.Stored.{wordsOf, wordAt, signed, storedStarts, storedCorners, lengthBroken, storedBroken, storedParts, readFault}
@@ -125,25 +124,6 @@ pub none-found : (bytes : List ℕ) (i : ℕ) → length bytes / 4 ≤ i → off
 unfolding offRange
 none-found bytes i h = rw (drop-of-length-le (wordsOf bytes) {i = i} (omega (arith, length-words bytes)))
 
--- ---- one more in a lent buffer
-
-pub word-more : (ws old : List ℕ) {buf : List ℕ} (i : ℕ) {v : ℕ} → i < length ws → i < length old → buf ≡ overlay (take i ws) old → v ≡ getD ws i 0
-    → set buf i v ≡ overlay (take (i + 1) ws) old
-word-more ws old {buf} i {v} h k p q =
-    ap (set buf i) q
-    ∙ rw (add-one, take-suc ws i 0) (overlay-turn (take i ws) old i (getD ws i 0) p (length-take-le i ws (le-of-lt h)) k)
-
-pub number-more : (ws : List ℕ) (old : List ℤ) {buf : List ℤ} (i : ℕ) {v : ℤ} → i < length ws → i < length old
-    → buf ≡ overlay (map signed (take i ws)) old → v ≡ signed (getD ws i 0) → set buf i v ≡ overlay (map signed (take (i + 1) ws)) old
-number-more ws old {buf} i {v} h k p q =
-    let n : length (map signed (take i ws)) ≡ i = length-map (take i ws) signed ∙ length-take-le i ws (le-of-lt h) in
-    ap (set buf i) q
-    ∙ rw (add-one, take-suc ws i 0, map-append) (overlay-turn (map signed (take i ws)) old i (signed (getD ws i 0)) p n k)
-
--- word i from word k on
-pub word-from : (bytes : List ℕ) (k i n : ℕ) → n ≡ k + i → wordAt bytes n ≡ getD (drop k (wordsOf bytes)) i 0
-word-from bytes k i n e = ap (λ j. getD (wordsOf bytes) j 0) e ∙ sym (getD-drop k (wordsOf bytes) i 0)
-
 -- ---- the fault
 
 module _ (bytes : List ℕ) (rs rc : ℕ) where
@@ -177,7 +157,7 @@ module _ (bytes : List ℕ) (rs rc : ℕ) where
 -- ---- where the answer's words lie, and the room for them
 
 pub record Room (bytes : List ℕ) (rs rc p c : ℕ) : Type 0 where
-  pub starts-lie : 4 * (p + 1 + 2) ≤ length bytes
+  pub starts-lie : 4 * (2 + (p + 1)) ≤ length bytes
   pub starts-fit : p + 1 ≤ rs
   pub corners-lie : 4 * (p + 3 + 2 * c) ≤ length bytes
   pub corners-fit : 2 * c ≤ rc

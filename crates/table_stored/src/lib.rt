@@ -6,8 +6,7 @@ ghost use mathlib.Core.Path.{_≡_};
 ghost use mathlib.Core.Bool.{false};
 ghost use mathlib.Core.List.{map};
 ghost use Prim.Native.Nat.{_+_, _*_, _≤_};
-ghost use lib.ListN.{length, take, drop};
-ghost use Rattle.integers.specs.Lists.{overlay};
+ghost use lib.ListN.{length, drop};
 ghost use Rattle.table.specs.Table.{startsBroken, offRange};
 ghost use Rattle.table.specs.Stored.{wordsOf, wordAt, signed, unsigned, storedStarts, lengthBroken, storedBroken, readFault, writeFault};
 ghost use Rattle.table_words.specs.Place.{putWords};
@@ -115,30 +114,6 @@ fn read_fault(bytes: &[u8], starts: usize, corners: usize) -> u32
     0
 }
 
-// Writes `count` words, from word 2 on, on the front of the starts.
-fn read_starts(bytes: &[u8], count: usize, starts: &mut [u32])
-    requires { ⌜ (4 * (count + 2) ≤ length (now bytes)) × (count ≤ length (now starts)) ⌝ }
-    ensures { λ _. ⌜ now (starts .exit) ≡ overlay (take count (drop 2 (wordsOf (now (bytes .entry))))) (now (starts .entry)) ⌝ }
-{
-    let mut i = 0;
-    while i < count {
-        starts[i] = word_at(bytes, i + 2);
-        i += 1;
-    }
-}
-
-// Writes `count` words, from word `from` on, as signed numbers on the front of the corners.
-fn read_corners(bytes: &[u8], from: usize, count: usize, corners: &mut [i32])
-    requires { ⌜ (4 * (from + count) ≤ length (now bytes)) × (count ≤ length (now corners)) ⌝ }
-    ensures { λ _. ⌜ now (corners .exit) ≡ overlay (map signed (take count (drop from (wordsOf (now (bytes .entry)))))) (now (corners .entry)) ⌝ }
-{
-    let mut i = 0;
-    while i < count {
-        corners[i] = table_words::signed_word(word_at(bytes, from + i));
-        i += 1;
-    }
-}
-
 // Reads a stored table into the lent starts and corners. Refuses with 7, 2, 22, 21, in this order, before the first store.
 pub fn read_table(bytes: &[u8], starts: &mut [u32], corners: &mut [i32]) -> Counts
     ensures told { λ r. ⌜ r ≡ countsRead (now (bytes .entry)) (now (starts .entry)) (now (corners .entry)) ⌝ }
@@ -156,8 +131,8 @@ pub fn read_table(bytes: &[u8], starts: &mut [u32], corners: &mut [i32]) -> Coun
     let parts = word_at(bytes, 0);
     let count = word_at(bytes, 1);
     let first = parts as usize;
-    read_starts(bytes, first + 1, starts);
-    read_corners(bytes, first + 3, 2 * (count as usize), corners);
+    table_words::read_words(bytes, 2, first + 1, starts);
+    table_words::read_numbers(bytes, first + 3, 2 * (count as usize), corners);
     Counts {
         fault: fault,
         parts: parts,

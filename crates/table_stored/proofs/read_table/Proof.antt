@@ -25,28 +25,28 @@ word-at-requires-2 c κs = let b = c .before in omega (arith, sized _ (accepted 
 cast-first : tie.Need-cast-first
 cast-first c = search needs
 
-add-read-starts : tie.Need-add-read-starts
-add-read-starts c = search needs
+add-read-words : tie.Need-add-read-words
+add-read-words c = search needs
 
-read-starts-requires : tie.Need-read-starts-requires
-read-starts-requires c κs =
+read-words-requires : tie.Need-read-words-requires
+read-words-requires c κs =
     let n = c .before in
     let p = n .before in
     let f = p .before in
     let r = room _ _ _ _ _ (sym (f .before .read-fault .ensures) ∙ f .if1 .left) (p .word-at .ensures) (n .word-at2 .ensures) in
     (r .starts-lie, r .starts-fit)
 
-add-read-corners : tie.Need-add-read-corners
-add-read-corners c = search needs
+add-read-numbers : tie.Need-add-read-numbers
+add-read-numbers c = search needs
 
-cast-read-corners : tie.Need-cast-read-corners
-cast-read-corners c = search needs
+cast-read-numbers : tie.Need-cast-read-numbers
+cast-read-numbers c = search needs
 
-mul-read-corners : tie.Need-mul-read-corners
-mul-read-corners c = search needs
+mul-read-numbers : tie.Need-mul-read-numbers
+mul-read-numbers c = search needs
 
-read-corners-requires : tie.Need-read-corners-requires
-read-corners-requires c κs =
+read-numbers-requires : tie.Need-read-numbers-requires
+read-numbers-requires c κs =
     let n = c .before .before .before .before .before in
     let p = n .before in
     let f = p .before in
@@ -67,7 +67,7 @@ returns-2 c =
     let p = n .before in
     let f = p .before in
     let s = f .before .before .before .before .args in
-    let r = accepted-read (s .bytes .now) (s .starts .now) (s .corners .now) (f .before .read-fault .ensures) (f .if1 .left) (p .word-at .ensures) (n .word-at2 .ensures) (t .read-starts .ensures) (z .read-corners .ensures) in
+    let r = accepted-read (s .bytes .now) (s .starts .now) (s .corners .now) (f .before .read-fault .ensures) (f .if1 .left) (p .word-at .ensures) (n .word-at2 .ensures) (t .read-words .ensures) (z .read-numbers .ensures) in
     (r .0, (r .1, r .2))
 
 pub read-table-spec : {M : Type 1} → statement M
@@ -79,12 +79,12 @@ read-table-spec =
     word-at-requires
     word-at-requires-2
     cast-first
-    add-read-starts
-    read-starts-requires
-    add-read-corners
-    cast-read-corners
-    mul-read-corners
-    read-corners-requires
+    add-read-words
+    read-words-requires
+    add-read-numbers
+    cast-read-numbers
+    mul-read-numbers
+    read-numbers-requires
     same-length
     same-length-2
     returns-2)

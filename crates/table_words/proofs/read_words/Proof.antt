@@ -1,4 +1,4 @@
--- `table_stored::read_starts` meets its contract. The loop's invariant: the first i words stand on the buffer's front. Assumes nothing.
+-- `table_words::read_words` meets its contract. The loop's invariant: the first i words stand on the buffer's front. Assumes nothing.
 use mathlib.Core.Path.{_≡_, refl, sym, _∙_, ap}
 use Prim.Native.Nat.{_+_, _≤_, _<_, _-_}
 use native.Mathlib.Omega.{arith}
@@ -8,15 +8,15 @@ use Rattle.integers.specs.Lists.{overlay}
 use Rattle.integers.proofs.Overlay.{overlay-nil}
 use Rattle.table.specs.Stored.{wordsOf}
 use Rattle.table.proofs.Words.{length-words}
-use Rattle.table_stored.proofs.Reading.{word-more, word-from}
-use Rattle.table_stored.proofs.read_starts.Statement.{statement}
-use Rattle.table_stored.proofs.read_starts.Tie as tie
+use Rattle.table_words.proofs.Copies.{word-more, word-from}
+use Rattle.table_words.proofs.read_words.Statement.{statement}
+use Rattle.table_words.proofs.read_words.Tie as tie
 
 abbrev Inv-loop : tie.InvT-loop
-Inv-loop bytes count starts₀ i₀ starts i = (i ≤ count) × (length starts ≡ length starts₀) × (starts ≡ overlay (take i (drop 2 (wordsOf bytes))) starts₀)
+Inv-loop bytes from count to₀ i₀ to i = (i ≤ count) × (length to ≡ length to₀) × (to ≡ overlay (take i (drop from (wordsOf bytes))) to₀)
 
 abbrev μ-loop : tie.MeasureT-loop
-μ-loop bytes count starts₀ i₀ starts i = count - i
+μ-loop bytes from count to₀ i₀ to i = count - i
 
 loop-holds : tie.Need-loop-holds Inv-loop μ-loop
 loop-holds c = (omega arith, refl, sym (overlay-nil _))
@@ -27,11 +27,11 @@ add-word-at c = search needs
 word-at-requires : tie.Need-word-at-requires Inv-loop μ-loop
 word-at-requires c κs = search needs
 
-mul-starts : tie.Need-mul-starts Inv-loop μ-loop
-mul-starts c = search needs
+mul-to : tie.Need-mul-to Inv-loop μ-loop
+mul-to c = search needs
 
-slice-write-starts : tie.Need-slice-write-starts Inv-loop μ-loop
-slice-write-starts c = search needs
+slice-write-to : tie.Need-slice-write-to Inv-loop μ-loop
+slice-write-to c = search needs
 
 add-i : tie.Need-add-i Inv-loop μ-loop
 add-i c = search needs
@@ -43,11 +43,11 @@ loop-again : tie.Need-loop-again Inv-loop μ-loop
 loop-again c =
     let l = c .before .before in
     let s = l .before .before .before .args in
-    let n : l .loop .i < length (drop 2 (wordsOf (s .bytes .now))) = omega (arith, length-drop 2 (wordsOf (s .bytes .now)), length-words (s .bytes .now)) in (
+    let n : l .loop .i < length (drop (s .from) (wordsOf (s .bytes .now))) = omega (arith, length-drop (s .from) (wordsOf (s .bytes .now)), length-words (s .bytes .now)) in (
       omega arith,
       simp length-set (l .loop .inv .1),
-      word-more (drop 2 (wordsOf (s .bytes .now))) (s .starts .now) (l .loop .i) n (omega arith) (l .loop .inv .2)
-          (c .word-at .ensures ∙ word-from (s .bytes .now) 2 (l .loop .i) (l .loop .i + 2) (omega arith)),
+      word-more (drop (s .from) (wordsOf (s .bytes .now))) (s .to .now) (l .loop .i) n (omega arith) (l .loop .inv .2)
+          (c .word-at .ensures ∙ word-from (s .bytes .now) (s .from) (l .loop .i) (s .from + l .loop .i) refl),
     )
 
 same-length : tie.Need-same-length Inv-loop μ-loop
@@ -58,10 +58,10 @@ returns c =
     let l = c .before in
     let s = l .before .before .before .args in
     let e : l .loop .i ≡ s .count = omega arith in
-    l .loop .inv .2 ∙ ap (λ n. overlay (take n (drop 2 (wordsOf (s .bytes .now)))) (s .starts .now)) e
+    l .loop .inv .2 ∙ ap (λ n. overlay (take n (drop (s .from) (wordsOf (s .bytes .now)))) (s .to .now)) e
 
-pub read-starts-spec : {M : Type 1} → statement M
-read-starts-spec =
+pub read-words-spec : {M : Type 1} → statement M
+read-words-spec =
     tie.close
     (tie.spec
     Inv-loop
@@ -69,8 +69,8 @@ read-starts-spec =
     loop-holds
     add-word-at
     word-at-requires
-    mul-starts
-    slice-write-starts
+    mul-to
+    slice-write-to
     add-i
     loop-less
     loop-again
