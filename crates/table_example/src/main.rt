@@ -1,5 +1,5 @@
 // The README's example of part tables: stores a table of two parts, prints its bytes, reads it back, and has it refused once a start
-// falls. What it prints is its file `stdout`. Leans on table_stored.
+// falls. What it prints is its file `stdout`. Leans on table_read and table_write.
 // Writes a byte in hexadecimal.
 fn print_byte(b: u8) {
     io::print_hex(1, b as u64, 2);
@@ -28,7 +28,7 @@ fn print_number(name: &[u8], n: u64) {
 fn print_table(bytes: &[u8]) {
     let mut starts = [0u32; 8];
     let mut corners = [0i32; 16];
-    let counts = table_stored::read_table(bytes, &mut starts, &mut corners);
+    let counts = table_read::read_table(bytes, &mut starts, &mut corners);
     print_number(b"read: fault ", counts.fault as u64);
     print_number(b", parts ", counts.parts as u64);
     print_number(b", corners ", counts.corners as u64);
@@ -40,7 +40,7 @@ fn main() {
     let starts = [0u32, 3, 6];
     let corners = [0i32, 4, 0, 0, 4, 0, 0, 4, 4, 0, 10, -2];
     let mut bytes = [0u8; 68];
-    let stored = table_stored::write_table(&starts, &corners, &mut bytes);
+    let stored = table_write::write_table(&starts, &corners, &mut bytes);
     print_number(b"stored: fault ", stored.fault as u64);
     print_number(b", bytes ", stored.length as u64);
     io::write_all(1, b"\n");

@@ -1,6 +1,6 @@
 // Words of 32 bits in lent bytes, little-endian, as a table is stored: one read, many read into a lent slice, one written, and a signed
 // number's word either way. Each equals its definition in table's specs/Stored.antt; `putWords` of specs/Place.antt says what lent bytes
-// hold after words were written at a place. An inner layer of table_stored: callers show that the place lies within the bytes. Leans on table.
+// hold after words were written at a place. An inner layer of table_read and table_write: callers show that the place lies within the bytes. Leans on table.
 ghost use mathlib.Core.Path.{_≡_};
 ghost use mathlib.Core.List.{[], _∷_, map};
 ghost use Prim.Native.Nat.{_+_, _*_, _%_, _≤_};
@@ -8,6 +8,11 @@ ghost use lib.ListN.{length, take, drop};
 ghost use Rattle.integers.specs.Lists.{overlay};
 ghost use Rattle.table.specs.Stored.{wordOf, wordsOf, wordAt, signed, unsigned};
 ghost use Rattle.table_words.specs.Place.{putWords};
+
+// The bytes of a word, and of the two counts that a stored table opens with.
+pub const WORD: usize = 4;
+
+pub const HEADER: usize = 8;
 
 // From 2^31 on a word is a number below 0; the last word is -1.
 const HALF: u32 = 2147483648;

@@ -1,6 +1,6 @@
 // Stored samples of the calls on part tables: whether a record holds what `read_table`, `write_table` or `show_part` answers. A record is
 // a head of eight words, starts, numbers (each a word) and bytes, all little-endian; specs/Sample.antt says what each kind has there.
-// `right` takes any bytes and answers as that definition says. Leans on table_words, table_stored and table_shown.
+// `right` takes any bytes and answers as that definition says. Leans on table_words, table_read, table_write and table_shown.
 ghost use mathlib.Core.Path.{_≡_};
 ghost use Prim.Native.Nat.{_+_, _*_, _≤_};
 ghost use lib.Dec.{eqb};
@@ -9,8 +9,8 @@ ghost use Rattle.integers.specs.Test.{eqZ};
 ghost use Rattle.table.specs.Stored.{wordAt};
 ghost use Rattle.vectors_table.specs.Sample.{sameBy, areCounts, isStored, readRight, writeRight, showRight, shownRight, answerRight, recordBroken, recordRight, rightOf};
 use table::Counts;
-use table_stored::Stored;
 use table_words::word_at;
+use table_write::Stored;
 
 // The bytes of a record's head, which every record has.
 pub const HEAD: usize = 32;
@@ -116,7 +116,7 @@ fn read_right(
 ) -> bool
     ensures { λ r. ⌜ r ≡ readRight (now (bytes .entry)) (now («lent_starts» .entry)) (now («lent_numbers» .entry)) fault parts corners (now (starts .entry)) (now (numbers .entry)) ⌝ }
 {
-    let told = table_stored::read_table(bytes, lent_starts, lent_numbers);
+    let told = table_read::read_table(bytes, lent_starts, lent_numbers);
     if !are_counts(told, fault, parts, corners) {
         return false;
     }
@@ -137,7 +137,7 @@ fn write_right(
 ) -> bool
     ensures { λ r. ⌜ r ≡ writeRight (now (starts .entry)) (now (numbers .entry)) (now («lent_bytes» .entry)) fault count (now (bytes .entry)) ⌝ }
 {
-    let told = table_stored::write_table(starts, numbers, lent_bytes);
+    let told = table_write::write_table(starts, numbers, lent_bytes);
     if !is_stored(told, fault, count) {
         return false;
     }

@@ -1,4 +1,4 @@
--- `table_stored::write_starts` meets its contract. The loop's invariant: the first i starts stand from word 2 on. Assumes nothing.
+-- `table_write::write_starts` meets its contract. The loop's invariant: the first i starts stand from word 2 on. Assumes nothing.
 use mathlib.Core.Path.{_≡_, refl, sym}
 use Prim.Native.Nat.{_+_, _≤_, _-_}
 use native.Mathlib.Nat.{add-comm}
@@ -7,9 +7,9 @@ use borrow.Author.Needs.{needs}
 use lib.ListN.{length, take}
 use Rattle.table_words.specs.Place.{putWords}
 use Rattle.table_words.proofs.Places.{put-none}
-use Rattle.table_stored.proofs.Writing.{put-more, put-length, put-all}
-use Rattle.table_stored.proofs.write_starts.Statement.{statement}
-use Rattle.table_stored.proofs.write_starts.Tie as tie
+use Rattle.table_write.proofs.Writing.{put-more, put-length, put-all}
+use Rattle.table_write.proofs.write_starts.Statement.{statement}
+use Rattle.table_write.proofs.write_starts.Tie as tie
 
 abbrev Inv-loop : tie.InvT-loop
 Inv-loop starts bytes₀ i₀ bytes i = (i ≤ length starts) × (length bytes ≡ length bytes₀) × (bytes ≡ putWords 2 (take i starts) bytes₀)

@@ -1,11 +1,11 @@
--- `table_stored::stored_broken` meets its contract: the code's tests are the definition's. Assumes nothing.
+-- `table_read::stored_broken` meets its contract: the code's tests are the definition's. Assumes nothing.
 use mathlib.Core.Path.{sym, _∙_}
 use native.Mathlib.Omega.{arith}
 use borrow.Author.Needs.{needs}
 use Rattle.table.proofs.StoredForm.{sized}
-use Rattle.table_stored.proofs.Reading.{broken-length, many-parts, many-corners, from-starts}
-use Rattle.table_stored.proofs.stored_broken.Statement.{statement}
-use Rattle.table_stored.proofs.stored_broken.Tie as tie
+use Rattle.table_read.proofs.Reading.{broken-length, many-parts, many-corners, from-starts}
+use Rattle.table_read.proofs.stored_broken.Statement.{statement}
+use Rattle.table_read.proofs.stored_broken.Tie as tie
 
 length-broken-requires : tie.Need-length-broken-requires
 length-broken-requires c κs = search needs

@@ -1,4 +1,4 @@
--- `table_stored::read_fault` meets its contract: the code's tests are the definition's, in its order. Assumes nothing.
+-- `table_read::read_fault` meets its contract: the code's tests are the definition's, in its order. Assumes nothing.
 use mathlib.Core.Path.{_≡_, sym, _∙_, ap}
 use mathlib.Core.Bool.{Bool}
 use mathlib.Core.List.{List, map}
@@ -9,9 +9,9 @@ use lib.ListN.{drop}
 use Rattle.table.specs.Table.{offRange}
 use Rattle.table.specs.Stored.{wordsOf, wordAt, signed, storedCorners}
 use Rattle.table.proofs.StoredForm.{sized, whole-bytes}
-use Rattle.table_stored.proofs.Reading.{fault-7, fault-2, fault-22, fault-21, no-fault-read}
-use Rattle.table_stored.proofs.read_fault.Statement.{statement}
-use Rattle.table_stored.proofs.read_fault.Tie as tie
+use Rattle.table_read.proofs.Reading.{fault-7, fault-2, fault-22, fault-21, no-fault-read}
+use Rattle.table_read.proofs.read_fault.Statement.{statement}
+use Rattle.table_read.proofs.read_fault.Tie as tie
 
 -- what `stored_off_range` tells of the numbers
 ranged : (bytes : List ℕ) {p : ℕ} {r : Bool} → p ≡ wordAt bytes 0 → r ≡ offRange (map signed (drop (p + 3) (wordsOf bytes))) → offRange (storedCorners bytes) ≡ r

@@ -21,7 +21,7 @@ use Rattle.table.proofs.StoredForm.{length-stored}
 use Rattle.table.proofs.Answers.{refused-buffer, accepted-buffer}
 use Rattle.table_words.specs.Place.{putWords}
 use Rattle.table_words.proofs.Places.{put-put, put-front, length-put}
-use Rattle.table_stored.specs.Calls.{faultWritten, answerWritten, bytesWritten}
+use Rattle.table_write.specs.Written.{faultWritten, answerWritten, bytesWritten}
 
 -- ---- a word more
 

@@ -1,8 +1,8 @@
--- `table_stored::length_broken` meets its contract: the size of the two counts read. Assumes nothing.
+-- `table_read::length_broken` meets its contract: the size of the two counts read. Assumes nothing.
 use borrow.Author.Needs.{needs}
-use Rattle.table_stored.proofs.Reading.{too-short, by-counts}
-use Rattle.table_stored.proofs.length_broken.Statement.{statement}
-use Rattle.table_stored.proofs.length_broken.Tie as tie
+use Rattle.table_read.proofs.Reading.{too-short, by-counts}
+use Rattle.table_read.proofs.length_broken.Statement.{statement}
+use Rattle.table_read.proofs.length_broken.Tie as tie
 
 returns : tie.Need-returns
 returns c = too-short _ (c .if1 .taken)

@@ -1,11 +1,11 @@
--- `table_stored::write_fault` meets its contract: the code's tests are the definition's, in its order. Assumes nothing.
+-- `table_write::write_fault` meets its contract: the code's tests are the definition's, in its order. Assumes nothing.
 use mathlib.Core.Path.{sym, _∙_}
 use native.Mathlib.Omega.{arith}
 use borrow.Author.Needs.{needs}
 use Rattle.table.proofs.Rules.{sound}
-use Rattle.table_stored.proofs.Writing.{fault-7, fault-2, fault-21, no-fault-write}
-use Rattle.table_stored.proofs.write_fault.Statement.{statement}
-use Rattle.table_stored.proofs.write_fault.Tie as tie
+use Rattle.table_write.proofs.Writing.{fault-7, fault-2, fault-21, no-fault-write}
+use Rattle.table_write.proofs.write_fault.Statement.{statement}
+use Rattle.table_write.proofs.write_fault.Tie as tie
 
 rules-broken-requires : tie.Need-rules-broken-requires
 rules-broken-requires c κs = search needs

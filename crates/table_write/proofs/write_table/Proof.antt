@@ -1,11 +1,11 @@
--- `table_stored::write_table` meets its contract: the fault first, then the counts, the starts, the numbers. Assumes nothing.
+-- `table_write::write_table` meets its contract: the fault first, then the counts, the starts, the numbers. Assumes nothing.
 use mathlib.Core.Path.{refl, sym, _∙_}
 use native.Mathlib.Omega.{arith}
 use borrow.Author.Needs.{needs}
 use Rattle.table.proofs.Rules.{sound}
-use Rattle.table_stored.proofs.Writing.{writes, put-whole-length, put-table, refused-write, accepted-write}
-use Rattle.table_stored.proofs.write_table.Statement.{statement}
-use Rattle.table_stored.proofs.write_table.Tie as tie
+use Rattle.table_write.proofs.Writing.{writes, put-whole-length, put-table, refused-write, accepted-write}
+use Rattle.table_write.proofs.write_table.Statement.{statement}
+use Rattle.table_write.proofs.write_table.Tie as tie
 
 write-fault-requires : tie.Need-write-fault-requires
 write-fault-requires c κs = search needs

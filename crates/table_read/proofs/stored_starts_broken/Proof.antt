@@ -1,4 +1,4 @@
--- `table_stored::stored_starts_broken` meets its contract. The loop's invariant: the answer for all starts is that for those from i on,
+-- `table_read::stored_starts_broken` meets its contract. The loop's invariant: the answer for all starts is that for those from i on,
 -- after `last`. Assumes nothing.
 use mathlib.Core.Path.{_≡_, sym, _∙_}
 use Prim.Native.Nat.{_+_, _≤_, _-_}
@@ -8,9 +8,9 @@ use lib.ListN.{drop}
 use Rattle.table.specs.Table.{stepsBroken, startsBroken}
 use Rattle.table.specs.Stored.{storedStarts}
 use Rattle.table.proofs.StoredForm.{sized}
-use Rattle.table_stored.proofs.Reading.{starts-not-0, starts-at-0, next-broken, next-passed, last-start}
-use Rattle.table_stored.proofs.stored_starts_broken.Statement.{statement}
-use Rattle.table_stored.proofs.stored_starts_broken.Tie as tie
+use Rattle.table_read.proofs.Reading.{starts-not-0, starts-at-0, next-broken, next-passed, last-start}
+use Rattle.table_read.proofs.stored_starts_broken.Statement.{statement}
+use Rattle.table_read.proofs.stored_starts_broken.Tie as tie
 
 abbrev Inv-loop : tie.InvT-loop
 Inv-loop bytes parts count last₀ i₀ last i = (i ≤ parts + 1) × (startsBroken count (storedStarts bytes) ≡ stepsBroken count last (drop i (storedStarts bytes)))

@@ -1,11 +1,11 @@
--- `table_stored::read_table` meets its contract: the fault first, then the two copies. Assumes nothing.
+-- `table_read::read_table` meets its contract: the fault first, then the two copies. Assumes nothing.
 use mathlib.Core.Path.{sym, _∙_}
 use native.Mathlib.Omega.{arith}
 use borrow.Author.Needs.{needs}
 use Rattle.table.proofs.StoredForm.{sized, accepted}
-use Rattle.table_stored.proofs.Reading.{room, refused-read, accepted-read}
-use Rattle.table_stored.proofs.read_table.Statement.{statement}
-use Rattle.table_stored.proofs.read_table.Tie as tie
+use Rattle.table_read.proofs.Reading.{room, refused-read, accepted-read}
+use Rattle.table_read.proofs.read_table.Statement.{statement}
+use Rattle.table_read.proofs.read_table.Tie as tie
 
 read-fault-requires : tie.Need-read-fault-requires
 read-fault-requires c κs = search needs

@@ -21,7 +21,7 @@ use Rattle.table.proofs.Rules.{not-from-0, steps-begin, step-broken, step-passe
 use Rattle.table.proofs.Words.{length-words}
 use Rattle.table.proofs.Answers.{refused-counts, refused-buffer, accepted-counts, accepted-buffer}
 use Rattle.table.proofs.StoredForm.{sized, count-starts, count-numbers, numbers-all, stored-parts, stored-starts, stored-corners, accepted}
-use Rattle.table_stored.specs.Calls.{faultRead, countsRead, startsRead, cornersRead}
+use Rattle.table_read.specs.Read.{faultRead, countsRead, startsRead, cornersRead}
 
 -- ---- the length
 

@@ -1,4 +1,4 @@
--- `table_stored::stored_off_range` meets its contract. The loop's invariant: the answer is that for the words from i on. Assumes nothing.
+-- `table_read::stored_off_range` meets its contract. The loop's invariant: the answer is that for the words from i on. Assumes nothing.
 use mathlib.Core.Path.{_≡_, refl, sym, _∙_, ap}
 use mathlib.Core.List.{map}
 use Prim.Native.Nat.{_-_}
@@ -10,9 +10,9 @@ use mir.Syntax.{w32}
 use Rattle.integers.proofs.Bits.{got}
 use Rattle.table.specs.Table.{offRange}
 use Rattle.table.specs.Stored.{wordsOf, signed}
-use Rattle.table_stored.proofs.Reading.{found, passed, none-found}
-use Rattle.table_stored.proofs.stored_off_range.Statement.{statement}
-use Rattle.table_stored.proofs.stored_off_range.Tie as tie
+use Rattle.table_read.proofs.Reading.{found, passed, none-found}
+use Rattle.table_read.proofs.stored_off_range.Statement.{statement}
+use Rattle.table_read.proofs.stored_off_range.Tie as tie
 
 abbrev Inv-loop : tie.InvT-loop
 Inv-loop bytes from words i₀ i = offRange (map signed (drop from (wordsOf bytes))) ≡ offRange (map signed (drop i (wordsOf bytes)))

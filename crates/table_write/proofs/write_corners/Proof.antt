@@ -1,4 +1,4 @@
--- `table_stored::write_corners` meets its contract. The loop's invariant: the first i numbers stand from word `from` on. Assumes nothing.
+-- `table_write::write_corners` meets its contract. The loop's invariant: the first i numbers stand from word `from` on. Assumes nothing.
 use mathlib.Core.Path.{_≡_, refl, sym, _∙_, ap}
 use mathlib.Core.List.{map}
 use Prim.Native.Nat.{_+_, _≤_, _-_}
@@ -11,9 +11,9 @@ use Rattle.integers.proofs.Bits.{got}
 use Rattle.table.specs.Stored.{unsigned}
 use Rattle.table_words.specs.Place.{putWords}
 use Rattle.table_words.proofs.Places.{put-none}
-use Rattle.table_stored.proofs.Writing.{put-more, put-length, put-all}
-use Rattle.table_stored.proofs.write_corners.Statement.{statement}
-use Rattle.table_stored.proofs.write_corners.Tie as tie
+use Rattle.table_write.proofs.Writing.{put-more, put-length, put-all}
+use Rattle.table_write.proofs.write_corners.Statement.{statement}
+use Rattle.table_write.proofs.write_corners.Tie as tie
 
 abbrev Inv-loop : tie.InvT-loop
 Inv-loop corners from bytes₀ i₀ bytes i = (i ≤ length corners) × (length bytes ≡ length bytes₀) × (bytes ≡ putWords from (take i (map unsigned corners)) bytes₀)
