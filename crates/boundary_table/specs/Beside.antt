@@ -9,7 +9,7 @@ use lib.IntN.{ℤ}
 use Rattle.integers.specs.Lists.{overlay}
 use Rattle.table.specs.declared.Counts.{Counts}
 use Rattle.table.specs.Shown.{shownFault, shownPart}
-use Rattle.table_stored.specs.declared.Stored.{Stored}
+use Rattle.table_write.specs.declared.Stored.{Stored}
 use Rattle.boundary_table.specs.declared.ToldCounts.{ToldCounts}
 use Rattle.boundary_table.specs.declared.ToldLength.{ToldLength}
 

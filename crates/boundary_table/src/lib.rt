@@ -1,9 +1,10 @@
 // The part table's calls as the runs beside the judge make them (oracle/beside links this crate as a static library): one thin function
 // over each, with no `requires`. Slices pass as a pointer and a length. The answer and each lent buffer as the call returns equal the
-// definitions of table_stored and table_shown; an exported function returns no slice, so the part shown is copied into a lent buffer
-// (specs/Beside.antt). Leans on table_stored and table_shown.
+// definitions of table_read, table_write and table_shown; an exported function returns no slice, so the part shown is copied into a lent buffer
+// (specs/Beside.antt). Leans on table_read, table_write and table_shown.
 ghost use mathlib.Core.Path.{_≡_};
-ghost use Rattle.table_stored.specs.Calls.{countsRead, startsRead, cornersRead, answerWritten, bytesWritten};
+ghost use Rattle.table_read.specs.Read.{countsRead, startsRead, cornersRead};
+ghost use Rattle.table_write.specs.Written.{answerWritten, bytesWritten};
 ghost use Rattle.boundary_table.specs.Beside.{toldCounts, toldStored, toldShown, copiedPart, copied};
 
 // What `read_table` answers, laid out for C.
@@ -21,7 +22,7 @@ pub struct ToldLength {
     pub length: usize,
 }
 
-// table_stored::read_table.
+// table_read::read_table.
 #[no_mangle]
 pub extern "C" fn beside_read_table(
     bytes: &[u8],
@@ -32,7 +33,7 @@ pub extern "C" fn beside_read_table(
     ensures starts { λ r. ⌜ now (starts .exit) ≡ startsRead (now (bytes .entry)) (now (starts .entry)) (now (corners .entry)) ⌝ }
     ensures corners { λ r. ⌜ now (corners .exit) ≡ cornersRead (now (bytes .entry)) (now (starts .entry)) (now (corners .entry)) ⌝ }
 {
-    let counts = table_stored::read_table(bytes, starts, corners);
+    let counts = table_read::read_table(bytes, starts, corners);
     ToldCounts {
         fault: counts.fault,
         parts: counts.parts,
@@ -40,7 +41,7 @@ pub extern "C" fn beside_read_table(
     }
 }
 
-// table_stored::write_table.
+// table_write::write_table.
 #[no_mangle]
 pub extern "C" fn beside_write_table(
     starts: &[u32],
@@ -50,7 +51,7 @@ pub extern "C" fn beside_write_table(
     ensures told { λ r. ⌜ r ≡ toldStored (answerWritten (now (starts .entry)) (now (corners .entry)) (now (bytes .entry))) ⌝ }
     ensures bytes { λ r. ⌜ now (bytes .exit) ≡ bytesWritten (now (starts .entry)) (now (corners .entry)) (now (bytes .entry)) ⌝ }
 {
-    let stored = table_stored::write_table(starts, corners, bytes);
+    let stored = table_write::write_table(starts, corners, bytes);
     ToldLength {
         fault: stored.fault,
         length: stored.length,

@@ -1,24 +1,18 @@
 // The README's example of joining: the parts of document 01's dart, two triangles that do not join, then the same mesh refused, once for want of
-// a place for the last start and once for a neighbour that is not there. What it prints is its file `stdout`. Leans on convex_join.
-
-// Writes a name and a number.
-fn print_number(name: &[u8], n: u64) {
-    io::write_all(1, name);
-    io::print_decimal(1, n);
-}
+// a place for the last start and once for a neighbour that is not there. What it prints is its file `stdout`. Leans on convex_join and lines.
 
 // Writes a coordinate after a space. Below 0 its bits, read unsigned, are as far below 2^32.
 fn print_coordinate(n: i32) {
     let bits = mesh::unsigned(n) as u64;
     if n < 0 {
-        print_number(b" -", 4294967296 - bits);
+        lines::print_number(b" -", 4294967296 - bits);
         return;
     }
-    print_number(b" ", bits);
+    lines::print_number(b" ", bits);
 }
 
 fn print_start(n: u32) {
-    print_number(b" ", n as u64);
+    lines::print_number(b" ", n as u64);
 }
 
 fn print_starts(starts: &[u32]) {
@@ -44,9 +38,9 @@ fn print_corners(corners: &[i32]) {
 // Joins the mesh into the lent places and writes what the call told and what it left there.
 fn print_parts(mesh: &[[i32; 9]], starts: &mut [u32], corners: &mut [i32]) {
     let counts = convex_join::to_convex_polygons(mesh, starts, corners);
-    print_number(b"joined: fault ", counts.fault as u64);
-    print_number(b", parts ", counts.parts as u64);
-    print_number(b", corners ", counts.corners as u64);
+    lines::print_number(b"joined: fault ", counts.fault as u64);
+    lines::print_number(b", parts ", counts.parts as u64);
+    lines::print_number(b", corners ", counts.corners as u64);
     io::write_all(1, b"\n");
     print_starts(starts);
     print_corners(corners);

@@ -1,6 +1,6 @@
 // Replays a stored sample of joining, from standard input to its end: how many records hold what joining answers, and how
 // many do not. A record says first how many bytes it has; one that says what cannot be, or that the input ends within, is wrong.
-// Leans on vectors_mesh.
+// Leans on vectors_mesh and lines.
 ghost use Prim.Native.Nat.{_+_, _≤_};
 ghost use lib.ListN.{length};
 use table_words::word_at;
@@ -74,15 +74,8 @@ fn replay_all() -> Tally {
     }
 }
 
-// Writes a name, a number and a line's end.
-fn print_line(name: &[u8], n: u64) {
-    io::write_all(1, name);
-    io::print_decimal(1, n);
-    io::write_all(1, b"\n");
-}
-
 fn main() {
     let all = replay_all();
-    print_line(b"right ", all.right);
-    print_line(b"wrong ", all.wrong);
+    lines::print_line(b"right ", all.right);
+    lines::print_line(b"wrong ", all.wrong);
 }

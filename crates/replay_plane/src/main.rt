@@ -1,7 +1,8 @@
 // Replays a stored sample of plane's functions, from standard input to its end: how many records there are, and how many of them do not
-// hold what the boundary answers. A ragged last record counts as wrong. Leans on vectors.
+// hold what the boundary answers. A ragged last record counts as wrong. Leans on vectors and lines.
 ghost use Prim.Native.Nat.{_≤_, _<_};
 ghost use lib.ListN.{length};
+use lines::print_line;
 use vectors::RECORD;
 
 // The bytes of the buffer: 1,260 records.
@@ -76,13 +77,6 @@ fn replay_all() -> Tally {
         cases: cases,
         wrong: wrong,
     }
-}
-
-// Writes a name, a number and a line's end.
-fn print_line(name: &[u8], n: u64) {
-    io::write_all(1, name);
-    io::print_decimal(1, n);
-    io::write_all(1, b"\n");
 }
 
 fn main() {

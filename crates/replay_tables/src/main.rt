@@ -1,8 +1,9 @@
 // Replays a stored sample of the calls on part tables, from standard input to its end: how many records hold what the calls answer, and how
 // many do not. A record says first how many bytes it has; one that says what cannot be, or that the input ends within, is wrong.
-// Leans on vectors_table.
+// Leans on vectors_table, table_words and lines.
 ghost use Prim.Native.Nat.{_+_, _≤_};
 ghost use lib.ListN.{length};
+use lines::print_line;
 use table_words::word_at;
 use vectors_table::HEAD;
 use vectors_table::RECORD;
@@ -72,13 +73,6 @@ fn replay_all() -> Tally {
         right: right,
         wrong: wrong,
     }
-}
-
-// Writes a name, a number and a line's end.
-fn print_line(name: &[u8], n: u64) {
-    io::write_all(1, name);
-    io::print_decimal(1, n);
-    io::write_all(1, b"\n");
 }
 
 fn main() {

@@ -1,7 +1,7 @@
 // The part table that the desks exchange: starts and corners, their rules and limits, bounds. The definitions are in specs/: Table (the
 // lists), Stored (the bytes), Shown (part k of an operand); their laws in proofs/ (proofs/Lib.antt is the index). The functions here
 // answer whether a table breaks a rule, each as its definition says, of any lent slices; the faults' order is their callers'. The crates
-// table_stored and table_shown, and pairs, lean on it. It leans on plane and integers.
+// table_read, table_write and table_shown, and pairs, lean on it. It leans on plane and integers.
 ghost use mathlib.Core.Path.{_≡_};
 ghost use mathlib.Core.Bool.{true, cond};
 ghost use Prim.Native.Nat.{_+_};

@@ -1,4 +1,2 @@
--- Laws that belong to no one function: words read from bytes; words written.
-pub mod Reading
-pub mod Writing
+-- Reading undoes writing, and writing reading.
 pub mod RoundTrip

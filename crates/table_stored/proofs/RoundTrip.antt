@@ -1,4 +1,4 @@
--- The round trips, of what the two calls answer and leave (`specs/Calls.antt`): reading what was written gives the table back
+-- The round trips, of what the two calls answer and leave (`specs/RoundTrip.antt`): reading what was written gives the table back
 -- (`read-back`), and what is accepted in reading, written again, gives the same bytes (`written-again`). Places past the answer, in the
 -- lent bytes, starts and corners, keep what they held. Assumes nothing.
 use mathlib.Core.Path.{_≡_, sym, _∙_, ap}
@@ -13,31 +13,17 @@ use Rattle.integers.specs.Lists.{All, overlay}
 use Rattle.integers.specs.Faults.{firstFault}
 use Rattle.integers.proofs.Order.{by-test}
 use Rattle.integers.proofs.Overlay.{take-overlay, drop-overlay}
-use Rattle.table.specs.Table.{partCount, tableParts, roomKinds}
+use Rattle.table.specs.Table.{tableParts, roomKinds}
 use Rattle.table.specs.Stored.{storedStarts, storedCorners, storedParts, storedOf}
 use Rattle.integers.proofs.Faults.{first-next, first-empty}
 use Rattle.table.proofs.Answers.{accepted-counts, accepted-buffer}
 use Rattle.table.proofs.Rules.{sound, starts-parts, count-parts, count-corners}
 use Rattle.table.proofs.Words.{Byte}
 use Rattle.table.proofs.StoredForm.{sized, count-starts, count-numbers, starts-of-stored, corners-of-stored, read-fault-of-stored, stored-parts, stored-corners, stored-of-read, length-stored, accepted}
-use Rattle.table_stored.specs.Calls.{faultRead, countsRead, startsRead, cornersRead, startsTold, cornersTold, faultWritten, answerWritten, bytesWritten, bytesTold}
-use Rattle.table_stored.proofs.Writing.{writes, no-fault-write}
-
--- ---- the statements
-
--- the bytes that writing s, c on old tells of, read into os and oc
-pub record ReadBack (s : List ℕ) (c : List ℤ) (old os : List ℕ) (oc : List ℤ) : Type 0 where
-  pub counts : countsRead (bytesTold s c old) os oc ≡ record { fault = 0; parts = partCount s; corners = length c / 2 }
-  pub starts : startsRead (bytesTold s c old) os oc ≡ overlay s os
-  pub corners : cornersRead (bytesTold s c old) os oc ≡ overlay c oc
-  pub past : drop (answerWritten s c old .length) (bytesWritten s c old) ≡ drop (answerWritten s c old .length) old
-
--- the table that reading the bytes into os and oc tells of, written on buf
-pub record WrittenAgain (bytes os : List ℕ) (oc : List ℤ) (buf : List ℕ) : Type 0 where
-  pub answer : answerWritten (startsTold bytes os oc) (cornersTold bytes os oc) buf ≡ record { fault = 0; length = length bytes }
-  pub bytes-same : bytesWritten (startsTold bytes os oc) (cornersTold bytes os oc) buf ≡ overlay bytes buf
-  pub past-starts : drop (countsRead bytes os oc .parts + 1) (startsRead bytes os oc) ≡ drop (countsRead bytes os oc .parts + 1) os
-  pub past-corners : drop (2 * countsRead bytes os oc .corners) (cornersRead bytes os oc) ≡ drop (2 * countsRead bytes os oc .corners) oc
+use Rattle.table_read.specs.Read.{faultRead, countsRead, startsRead, cornersRead}
+use Rattle.table_write.specs.Written.{faultWritten, answerWritten, bytesWritten}
+use Rattle.table_write.proofs.Writing.{writes, no-fault-write}
+use Rattle.table_stored.specs.RoundTrip.{startsTold, cornersTold, bytesTold, ReadBack, WrittenAgain}
 
 -- ---- written, then read
 

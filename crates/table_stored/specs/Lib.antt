@@ -1,2 +1,2 @@
--- The two calls' answers, and what they leave in the lent buffers.
-pub mod Calls
+-- Reading undoes writing, and writing reading.
+pub mod RoundTrip

@@ -2,23 +2,21 @@
 -- last word. Assumes nothing.
 use mathlib.Core.Path.{_≡_, refl, sym, _∙_, ap}
 use mathlib.Core.Bool.{true, false}
-use Prim.Native.Nat.{ℕ, suc, _-_, _<_, _≤_}
+use Prim.Native.Nat.{ℕ, suc, _-_, _^_, _<_, _≤_}
 use native.Mathlib.Omega.{arith}
 use borrow.Author.Tests.{le-ltb}
 use lib.Dec.{T}
 use lib.IntN.{ℤ, pos, negsuc, natAbs, _-ℤ_}
 use lib.Signed.{leZ, nonNeg}
-use mir.Syntax.{w32}
-use mir.Val.{Fits, SFits, toZ, ofZ}
+use mir.Syntax.{Width, w32}
+use mir.Val.{Fits, SFits, toZ, ofZ, bits, hbits}
 use Rattle.integers.proofs.Bits.{back, kept}
 use Rattle.integers.proofs.Order.{zarith, sub-parts}
 use Rattle.integers.proofs.Tests.{differ, leZ-false, zneeds}
 
--- a word from half on
-pub signed-high : (n : ℕ) → 2147483648 ≤ n → negsuc (4294967295 - n) ≡ toZ w32 n
-signed-high n h =
-    let e : 4294967295 - n ≡ 4294967296 - suc n = omega arith in
-    rw (le-ltb n 2147483648 h) (ap negsuc e)
+-- bits from half on, of any width
+pub signed-high : (w : Width) (n : ℕ) {m : ℕ} → 2 ^ hbits w ≤ n → m ≡ 2 ^ bits w - suc n → negsuc m ≡ toZ w n
+signed-high w n h e = rw (le-ltb n (2 ^ hbits w) h) (ap negsuc e)
 
 -- ---- a signed number's word
 

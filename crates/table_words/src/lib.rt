@@ -1,12 +1,19 @@
-// Words of 32 bits in lent bytes, little-endian, as a table is stored: one read, one written, and a signed number's word either way. Each
-// equals its definition in table's specs/Stored.antt; `putWords` of specs/Place.antt says what lent bytes hold after words were written
-// at a place. An inner layer of table_stored: callers show that the place lies within the bytes. Leans on table.
+// Words of 32 bits in lent bytes, little-endian, as tables and samples are stored: one read, many read into a lent slice, one written, and
+// a signed number's word either way. Each equals its definition in table's specs/Stored.antt; `putWords` of specs/Place.antt says what
+// lent bytes hold after words were written at a place. An inner layer of table_read, table_write and the samples: callers show that the
+// place lies within the bytes. Leans on table.
 ghost use mathlib.Core.Path.{_≡_};
-ghost use mathlib.Core.List.{[], _∷_};
+ghost use mathlib.Core.List.{[], _∷_, map};
 ghost use Prim.Native.Nat.{_+_, _*_, _%_, _≤_};
-ghost use lib.ListN.{length};
-ghost use Rattle.table.specs.Stored.{wordOf, wordAt, signed, unsigned};
+ghost use lib.ListN.{length, take, drop};
+ghost use Rattle.integers.specs.Lists.{overlay};
+ghost use Rattle.table.specs.Stored.{wordOf, wordsOf, wordAt, signed, unsigned};
 ghost use Rattle.table_words.specs.Place.{putWords};
+
+// The bytes of a word, and of the two counts that a stored table opens with.
+pub const WORD: usize = 4;
+
+pub const HEADER: usize = 8;
 
 // From 2^31 on a word is a number below 0; the last word is -1.
 const HALF: u32 = 2147483648;
@@ -37,6 +44,30 @@ pub fn signed_word(n: u32) -> i32
         return n as i32;
     }
     -1 - (LAST_WORD - n) as i32
+}
+
+// Copies `count` words, from word `from` on, on the front of `to`. Past them it keeps what it held.
+pub fn read_words(bytes: &[u8], from: usize, count: usize, to: &mut [u32])
+    requires { ⌜ (4 * (from + count) ≤ length (now bytes)) × (count ≤ length (now to)) ⌝ }
+    ensures { λ _. ⌜ now (to .exit) ≡ overlay (take count (drop from (wordsOf (now (bytes .entry))))) (now (to .entry)) ⌝ }
+{
+    let mut i = 0;
+    while i < count {
+        to[i] = word_at(bytes, from + i);
+        i += 1;
+    }
+}
+
+// The same, as signed numbers.
+pub fn read_numbers(bytes: &[u8], from: usize, count: usize, to: &mut [i32])
+    requires { ⌜ (4 * (from + count) ≤ length (now bytes)) × (count ≤ length (now to)) ⌝ }
+    ensures { λ _. ⌜ now (to .exit) ≡ overlay (map signed (take count (drop from (wordsOf (now (bytes .entry)))))) (now (to .entry)) ⌝ }
+{
+    let mut i = 0;
+    while i < count {
+        to[i] = signed_word(word_at(bytes, from + i));
+        i += 1;
+    }
 }
 
 // A signed number's word.

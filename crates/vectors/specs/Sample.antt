@@ -1,54 +1,43 @@
--- A stored sample: records of 52 bytes, all numbers little-endian. In order: numbers of bytes; what a record holds; when it is right.
--- Assumes nothing.
+-- A stored sample: records of 52 bytes, which are 13 words, all little-endian. In order: signed numbers of words; what a record holds; when
+-- it is right. Assumes nothing.
 use mathlib.Core.Bool.{Bool, false, cond}
 use mathlib.Core.List.{List}
-use Prim.Native.Nat.{ℕ, _+_, _-_, _*_}
-use lib.Dec.{eqb, ltb}
-use lib.IntN.{ℤ, pos, negsuc}
-use lib.ListN.{length, getD}
+use Prim.Native.Nat.{ℕ, _+_, _*_}
+use lib.Dec.{eqb}
+use lib.IntN.{ℤ}
+use lib.ListN.{length}
+use mir.Syntax.{w64}
+use mir.Val.{toZ}
 use Rattle.integers.specs.Test.{eqZ}
 use Rattle.plane.specs.Plane.{Pt}
+use Rattle.table.specs.Stored.{wordAt, signed}
 use Rattle.boundary_plane.specs.declared.Told.{Told}
 use Rattle.boundary_plane.specs.Beside.{toldCross, toldArea, toldAngle}
 use Rattle.vectors.specs.declared.Case.{Case}
 
--- the number of four bytes, the lowest first
-abbrev pub littleEndian : ℕ → ℕ → ℕ → ℕ → ℕ
-littleEndian a b c d = a + 256 * b + 65536 * c + 16777216 * d
-
--- the number of the four bytes from k on, and of the eight
-unfoldable pub word : List ℕ → ℕ → ℕ
-word s k = littleEndian (getD s k 0) (getD s (k + 1) 0) (getD s (k + 2) 0) (getD s (k + 3) 0)
-
-unfoldable pub double : List ℕ → ℕ → ℕ
-double s k = word s k + 4294967296 * word s (k + 4)
-
--- two's complement: a number from half on counts down from -1
-unfoldable pub signed : ℕ → ℕ → ℤ
-signed half n = cond (ltb n half) (pos n) (negsuc (2 * half - 1 - n))
-
+-- word k as a signed number; words k and k + 1 as one of 64 bits, the low half first
 abbrev pub int : List ℕ → ℕ → ℤ
-int s k = signed 2147483648 (word s k)
+int s k = signed (wordAt s k)
 
 abbrev pub long : List ℕ → ℕ → ℤ
-long s k = signed 9223372036854775808 (double s k)
+long s k = toZ w64 (wordAt s k + 4294967296 * wordAt s (k + 1))
 
 -- which function is asked, at which coordinates, what it has to tell, and the padding
 unfoldable pub caseOf : List ℕ → Case
 caseOf s =
     record {
-      kind = word s 0;
-      ax = int s 4;
-      ay = int s 8;
-      bx = int s 12;
-      by = int s 16;
-      cx = int s 20;
-      cy = int s 24;
-      dx = int s 28;
-      dy = int s 32;
-      fault = word s 36;
-      value = long s 40;
-      padding = word s 48;
+      kind = wordAt s 0;
+      ax = int s 1;
+      ay = int s 2;
+      bx = int s 3;
+      by = int s 4;
+      cx = int s 5;
+      cy = int s 6;
+      dx = int s 7;
+      dy = int s 8;
+      fault = wordAt s 9;
+      value = long s 10;
+      padding = wordAt s 12;
     }
 
 -- the fault and the value are those

@@ -1,11 +1,14 @@
 // Stored samples of the boundary's functions: whether a record of 52 bytes holds what the boundary answers. A record is a u32 kind
 // (0 cross product, 1 doubled area, 2 order of directions), eight i32 coordinates, a u32 fault, an i64 value and a u32 of padding, 0,
-// all little-endian. Leans on boundary_plane.
+// all little-endian: 13 words, as table_words reads them. Leans on boundary_plane and table_words.
 ghost use mathlib.Core.Path.{_≡_};
-ghost use Prim.Native.Nat.{_+_, _≤_};
+ghost use Prim.Native.Nat.{_+_, _*_, _≤_};
 ghost use lib.ListN.{length};
-ghost use Rattle.vectors.specs.Sample.{littleEndian, word, signed, int, long, caseOf, tells, answered, rightOf};
+ghost use mir.Syntax.{w64};
+ghost use mir.Val.{toZ};
+ghost use Rattle.vectors.specs.Sample.{int, long, caseOf, tells, answered, rightOf};
 use boundary_plane::Told;
+use table_words::word_at;
 
 // The bytes of a record.
 pub const RECORD: usize = 52;
@@ -26,26 +29,17 @@ struct Case {
     padding: u32,
 }
 
-// The number of four bytes, the lowest first.
-fn little_endian(a: u8, b: u8, c: u8, d: u8) -> u32
-    ensures { λ r. ⌜ r ≡ littleEndian a b c d ⌝ }
+// Word k as a signed number.
+fn int_at(bytes: &[u8], k: usize) -> i32
+    requires { ⌜ 4 * k + 4 ≤ length (now bytes) ⌝ }
+    ensures { λ r. ⌜ r ≡ int (now (bytes .entry)) k ⌝ }
 {
-    a as u32 + 256 * (b as u32) + 65536 * (c as u32) + 16777216 * (d as u32)
+    table_words::signed_word(word_at(bytes, k))
 }
 
 // The bits of n as a signed number.
-fn signed_word(n: u32) -> i32
-    ensures { λ r. ⌜ r ≡ signed 2147483648 n ⌝ }
-{
-    if n < 2147483648 {
-        return n as i32;
-    }
-    -1 - (4294967295 - n) as i32
-}
-
-// The same of 64 bits.
 fn signed_double(n: u64) -> i64
-    ensures { λ r. ⌜ r ≡ signed 9223372036854775808 n ⌝ }
+    ensures { λ r. ⌜ r ≡ toZ w64 n ⌝ }
 {
     if n < 9223372036854775808 {
         return n as i64;
@@ -53,29 +47,13 @@ fn signed_double(n: u64) -> i64
     -1 - (18446744073709551615 - n) as i64
 }
 
-// The number of the four bytes from at on.
-fn u32_at(bytes: &[u8], at: usize) -> u32
-    requires { ⌜ at + 4 ≤ length (now bytes) ⌝ }
-    ensures { λ r. ⌜ r ≡ word (now (bytes .entry)) at ⌝ }
+// Words k and k + 1 as one signed number, the low half first.
+fn long_at(bytes: &[u8], k: usize) -> i64
+    requires { ⌜ 4 * k + 8 ≤ length (now bytes) ⌝ }
+    ensures { λ r. ⌜ r ≡ long (now (bytes .entry)) k ⌝ }
 {
-    little_endian(bytes[at], bytes[at + 1], bytes[at + 2], bytes[at + 3])
-}
-
-// The same, signed.
-fn i32_at(bytes: &[u8], at: usize) -> i32
-    requires { ⌜ at + 4 ≤ length (now bytes) ⌝ }
-    ensures { λ r. ⌜ r ≡ int (now (bytes .entry)) at ⌝ }
-{
-    signed_word(u32_at(bytes, at))
-}
-
-// The signed number of the eight bytes from at on.
-fn i64_at(bytes: &[u8], at: usize) -> i64
-    requires { ⌜ at + 8 ≤ length (now bytes) ⌝ }
-    ensures { λ r. ⌜ r ≡ long (now (bytes .entry)) at ⌝ }
-{
-    let low = u32_at(bytes, at);
-    let high = u32_at(bytes, at + 4);
+    let low = word_at(bytes, k);
+    let high = word_at(bytes, k + 1);
     signed_double(low as u64 + 4294967296 * (high as u64))
 }
 
@@ -85,18 +63,18 @@ fn case_of(bytes: &[u8]) -> Case
     ensures { λ r. ⌜ r ≡ caseOf (now (bytes .entry)) ⌝ }
 {
     Case {
-        kind: u32_at(bytes, 0),
-        ax: i32_at(bytes, 4),
-        ay: i32_at(bytes, 8),
-        bx: i32_at(bytes, 12),
-        by: i32_at(bytes, 16),
-        cx: i32_at(bytes, 20),
-        cy: i32_at(bytes, 24),
-        dx: i32_at(bytes, 28),
-        dy: i32_at(bytes, 32),
-        fault: u32_at(bytes, 36),
-        value: i64_at(bytes, 40),
-        padding: u32_at(bytes, 48),
+        kind: word_at(bytes, 0),
+        ax: int_at(bytes, 1),
+        ay: int_at(bytes, 2),
+        bx: int_at(bytes, 3),
+        by: int_at(bytes, 4),
+        cx: int_at(bytes, 5),
+        cy: int_at(bytes, 6),
+        dx: int_at(bytes, 7),
+        dy: int_at(bytes, 8),
+        fault: word_at(bytes, 9),
+        value: long_at(bytes, 10),
+        padding: word_at(bytes, 12),
     }
 }
 

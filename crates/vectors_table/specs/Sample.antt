@@ -10,8 +10,9 @@ use Rattle.integers.specs.Test.{eqZ}
 use Rattle.table.specs.declared.Counts.{Counts}
 use Rattle.table.specs.Stored.{wordsOf, wordAt, signed}
 use Rattle.table.specs.Shown.{shownFault, shownPart}
-use Rattle.table_stored.specs.declared.Stored.{Stored}
-use Rattle.table_stored.specs.Calls.{countsRead, startsRead, cornersRead, answerWritten, bytesWritten}
+use Rattle.table_write.specs.declared.Stored.{Stored}
+use Rattle.table_read.specs.Read.{countsRead, startsRead, cornersRead}
+use Rattle.table_write.specs.Written.{answerWritten, bytesWritten}
 
 -- two lists have the same elements, by this test of two
 unfoldable pub sameBy : {A : Type 0} → (A → A → Bool) → List A → List A → Bool

@@ -1,17 +1,16 @@
 // Stored samples of the calls on part tables: whether a record holds what `read_table`, `write_table` or `show_part` answers. A record is
 // a head of eight words, starts, numbers (each a word) and bytes, all little-endian; specs/Sample.antt says what each kind has there.
-// `right` takes any bytes and answers as that definition says. Leans on table_words, table_stored and table_shown.
+// `right` takes any bytes and answers as that definition says. Leans on table_words, table_read, table_write and table_shown.
 ghost use mathlib.Core.Path.{_≡_};
-ghost use mathlib.Core.List.{map};
 ghost use Prim.Native.Nat.{_+_, _*_, _≤_};
 ghost use lib.Dec.{eqb};
-ghost use lib.ListN.{length, take, drop};
+ghost use lib.ListN.{length};
 ghost use Rattle.integers.specs.Test.{eqZ};
-ghost use Rattle.table.specs.Stored.{wordsOf, wordAt, signed};
+ghost use Rattle.table.specs.Stored.{wordAt};
 ghost use Rattle.vectors_table.specs.Sample.{sameBy, areCounts, isStored, readRight, writeRight, showRight, shownRight, answerRight, recordBroken, recordRight, rightOf};
 use table::Counts;
-use table_stored::Stored;
 use table_words::word_at;
+use table_write::Stored;
 
 // The bytes of a record's head, which every record has.
 pub const HEAD: usize = 32;
@@ -82,30 +81,6 @@ fn same_bytes(a: &[u8], b: &[u8]) -> bool
     true
 }
 
-// The words from word `from` on, as many as have room.
-fn take_words(bytes: &[u8], from: usize, out: &mut [u32])
-    requires { ⌜ 4 * (from + length (now out)) ≤ length (now bytes) ⌝ }
-    ensures { λ _. ⌜ now (out .exit) ≡ take (length (now (out .entry))) (drop from (wordsOf (now (bytes .entry)))) ⌝ }
-{
-    let mut i = 0;
-    while i < out.len() {
-        out[i] = word_at(bytes, from + i);
-        i += 1;
-    }
-}
-
-// The same as signed numbers.
-fn take_numbers(bytes: &[u8], from: usize, out: &mut [i32])
-    requires { ⌜ 4 * (from + length (now out)) ≤ length (now bytes) ⌝ }
-    ensures { λ _. ⌜ now (out .exit) ≡ map signed (take (length (now (out .entry))) (drop from (wordsOf (now (bytes .entry))))) ⌝ }
-{
-    let mut i = 0;
-    while i < out.len() {
-        out[i] = table_words::signed_word(word_at(bytes, from + i));
-        i += 1;
-    }
-}
-
 // Whether an answer is this one.
 fn are_counts(told: Counts, fault: u32, parts: u32, corners: u32) -> bool
     ensures { λ r. ⌜ r ≡ areCounts told fault parts corners ⌝ }
@@ -141,7 +116,7 @@ fn read_right(
 ) -> bool
     ensures { λ r. ⌜ r ≡ readRight (now (bytes .entry)) (now («lent_starts» .entry)) (now («lent_numbers» .entry)) fault parts corners (now (starts .entry)) (now (numbers .entry)) ⌝ }
 {
-    let told = table_stored::read_table(bytes, lent_starts, lent_numbers);
+    let told = table_read::read_table(bytes, lent_starts, lent_numbers);
     if !are_counts(told, fault, parts, corners) {
         return false;
     }
@@ -162,7 +137,7 @@ fn write_right(
 ) -> bool
     ensures { λ r. ⌜ r ≡ writeRight (now (starts .entry)) (now (numbers .entry)) (now («lent_bytes» .entry)) fault count (now (bytes .entry)) ⌝ }
 {
-    let told = table_stored::write_table(starts, numbers, lent_bytes);
+    let told = table_write::write_table(starts, numbers, lent_bytes);
     if !is_stored(told, fault, count) {
         return false;
     }
@@ -310,9 +285,11 @@ fn record_right(
     requires { ⌜ (length (now starts) ≡ wordAt (now bytes) 2) × (length (now numbers) ≡ wordAt (now bytes) 3) × (32 + 4 * length (now starts) + 4 * length (now numbers) ≤ length (now bytes)) ⌝ }
     ensures { λ r. ⌜ r ≡ recordRight (now (bytes .entry)) (now («lent_starts» .entry)) (now («lent_numbers» .entry)) (now («lent_bytes» .entry)) ⌝ }
 {
-    take_words(bytes, HEAD / 4, starts);
-    take_numbers(bytes, HEAD / 4 + starts.len(), numbers);
-    let rest = &bytes[HEAD + 4 * starts.len() + 4 * numbers.len()..];
+    let s = starts.len();
+    let m = numbers.len();
+    table_words::read_words(bytes, HEAD / 4, s, starts);
+    table_words::read_numbers(bytes, HEAD / 4 + s, m, numbers);
+    let rest = &bytes[HEAD + 4 * s + 4 * m..];
     answer_right(
         bytes,
         starts,

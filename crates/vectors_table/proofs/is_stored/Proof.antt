@@ -4,7 +4,7 @@ use mathlib.Core.Bool.{false}
 use Prim.Native.Nat.{ℕ}
 use borrow.Author.Tests.{eq-eqb, ne-eqb}
 use lib.Dec.{eqb}
-use Rattle.table_stored.specs.declared.Stored.{Stored}
+use Rattle.table_write.specs.declared.Stored.{Stored}
 use Rattle.vectors_table.specs.Sample.{isStored}
 use Rattle.vectors_table.proofs.is_stored.Statement.{statement}
 use Rattle.vectors_table.proofs.is_stored.Tie as tie

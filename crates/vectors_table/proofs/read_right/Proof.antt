@@ -9,7 +9,7 @@ use lib.Dec.{eqb}
 use lib.IntN.{ℤ}
 use Rattle.integers.specs.Test.{eqZ}
 use Rattle.table.specs.declared.Counts.{Counts}
-use Rattle.table_stored.specs.Calls.{countsRead, startsRead, cornersRead}
+use Rattle.table_read.specs.Read.{countsRead, startsRead, cornersRead}
 use Rattle.vectors_table.specs.Sample.{sameBy, areCounts, readRight}
 use Rattle.vectors_table.proofs.read_right.Statement.{statement}
 use Rattle.vectors_table.proofs.read_right.Tie as tie

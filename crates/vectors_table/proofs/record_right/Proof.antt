@@ -2,36 +2,53 @@
 use mathlib.Core.Path.{_≡_, _∙_}
 use mathlib.Core.Bool.{Bool}
 use mathlib.Core.List.{List, map}
-use Prim.Native.Nat.{ℕ, _+_, _*_, _-_}
+use Prim.Native.Nat.{ℕ, _+_, _*_, _-_, _≤_}
 use native.Mathlib.Omega.{arith}
 use borrow.Author.Needs.{needs}
 use lib.IntN.{ℤ}
-use lib.ListN.{length, take, drop}
+use lib.ListN.{length, take, drop, length-drop, length-map}
+use lib.Seq.{length-take-le}
+use Rattle.integers.specs.Lists.{overlay}
+use Rattle.integers.proofs.Overlay.{overlay-all}
 use Rattle.table.specs.Stored.{wordsOf, wordAt, signed}
+use Rattle.table.proofs.Words.{length-words}
 use Rattle.vectors_table.specs.Sample.{answerRight, recordRight}
 use Rattle.vectors_table.proofs.Pieces.{to-the-end}
 use Rattle.vectors_table.proofs.record_right.Statement.{statement}
 use Rattle.vectors_table.proofs.record_right.Tie as tie
 
--- a, b and c, d are the lengths of the starts and of the numbers, before and after the words were taken
-by-lists : (bytes ls : List ℕ) (lc : List ℤ) (lb : List ℕ) {a b c d : ℕ} {starts : List ℕ} {numbers : List ℤ} {r : Bool}
-    → a ≡ wordAt bytes 2 → b ≡ wordAt bytes 2 → c ≡ wordAt bytes 3 → d ≡ wordAt bytes 3
-    → starts ≡ take a (drop 8 (wordsOf bytes)) → numbers ≡ map signed (take c (drop (8 + b) (wordsOf bytes)))
-    → r ≡ answerRight bytes starts numbers (take (length bytes - (32 + 4 * b + 4 * d)) (drop (32 + 4 * b + 4 * d) bytes)) ls lc lb
+-- words on all of a buffer
+module _ (bytes : List ℕ) (from : ℕ) where
+  many : (m : ℕ) → 4 * (from + m) ≤ length bytes → length (take m (drop from (wordsOf bytes))) ≡ m
+  many m h = length-take-le m (drop from (wordsOf bytes)) (omega (arith, length-drop from (wordsOf bytes), length-words bytes))
+
+  all-words : (old : List ℕ) → 4 * (from + length old) ≤ length bytes → overlay (take (length old) (drop from (wordsOf bytes))) old ≡ take (length old) (drop from (wordsOf bytes))
+  all-words old h = overlay-all _ old (omega (arith, many (length old) h))
+
+  all-numbers : (old : List ℤ) → 4 * (from + length old) ≤ length bytes → overlay (map signed (take (length old) (drop from (wordsOf bytes)))) old ≡ map signed (take (length old) (drop from (wordsOf bytes)))
+  all-numbers old h = overlay-all _ old (omega (arith, many (length old) h, length-map (take (length old) (drop from (wordsOf bytes))) signed))
+
+-- os and oc are what the places for the starts and the numbers held
+by-lists : (bytes os : List ℕ) (oc : List ℤ) (ls : List ℕ) (lc : List ℤ) (lb : List ℕ) {starts : List ℕ} {numbers : List ℤ} {r : Bool}
+    → length os ≡ wordAt bytes 2 → length oc ≡ wordAt bytes 3 → 32 + 4 * length os + 4 * length oc ≤ length bytes
+    → starts ≡ overlay (take (length os) (drop 8 (wordsOf bytes))) os → numbers ≡ overlay (map signed (take (length oc) (drop (8 + length os) (wordsOf bytes)))) oc
+    → r ≡ answerRight bytes starts numbers (take (length bytes - (32 + 4 * length os + 4 * length oc)) (drop (32 + 4 * length os + 4 * length oc) bytes)) ls lc lb
     → r ≡ recordRight bytes ls lc lb
 unfolding recordRight
-by-lists bytes ls lc lb {a} {b} {c} {d} p₁ p₂ q₁ q₂ e f g =
-    g ∙ (λ i. answerRight bytes (e i) (f i) (to-the-end (32 + 4 * b + 4 * d) bytes i) ls lc lb)
-    ∙ (λ i. answerRight bytes (take (p₁ i) (drop 8 (wordsOf bytes))) (map signed (take (q₁ i) (drop (8 + p₂ i) (wordsOf bytes)))) (drop (32 + 4 * p₂ i + 4 * q₂ i) bytes) ls lc lb)
+by-lists bytes os oc ls lc lb p q h e f g =
+    let s = e ∙ all-words bytes 8 os (omega arith) in
+    let z = f ∙ all-numbers bytes (8 + length os) oc (omega arith) in
+    g ∙ (λ i. answerRight bytes (s i) (z i) (to-the-end (32 + 4 * length os + 4 * length oc) bytes i) ls lc lb)
+    ∙ (λ i. answerRight bytes (take (p i) (drop 8 (wordsOf bytes))) (map signed (take (q i) (drop (8 + p i) (wordsOf bytes)))) (drop (32 + 4 * p i + 4 * q i) bytes) ls lc lb)
 
-take-words-requires : tie.Need-take-words-requires
-take-words-requires c κs = search needs
+read-words-requires : tie.Need-read-words-requires
+read-words-requires c κs = search needs
 
-add-take-numbers : tie.Need-add-take-numbers
-add-take-numbers c = search needs
+add-read-numbers : tie.Need-add-read-numbers
+add-read-numbers c = search needs
 
-take-numbers-requires : tie.Need-take-numbers-requires
-take-numbers-requires c κs = search needs
+read-numbers-requires : tie.Need-read-numbers-requires
+read-numbers-requires c κs = search needs
 
 mul-rest : tie.Need-mul-rest
 mul-rest c = search needs
@@ -78,15 +95,15 @@ returns c =
     let n = a .before .before .before .before .before .before .before .before in
     let w = n .before .before .before .before in
     let s = w .before .before .before .before .before .before in
-    by-lists (s .args .bytes .now) _ _ _ (s .pre .0) (omega arith) (s .pre .1) (omega arith) (w .take-words .ensures) (n .take-numbers .ensures) (a .answer-right .ensures)
+    by-lists (s .args .bytes .now) (s .args .starts .now) (s .args .numbers .now) _ _ _ (s .pre .0) (s .pre .1) (s .pre .2) (w .read-words .ensures) (n .read-numbers .ensures) (a .answer-right .ensures)
 
 pub record-right-spec : {M : Type 1} → statement M
 record-right-spec =
     tie.close
     (tie.spec
-    take-words-requires
-    add-take-numbers
-    take-numbers-requires
+    read-words-requires
+    add-read-numbers
+    read-numbers-requires
     mul-rest
     add-rest
     mul-rest-2

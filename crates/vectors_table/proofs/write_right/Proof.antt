@@ -7,8 +7,8 @@ use borrow.Author.Needs.{needs}
 use borrow.Author.Tests.{not-true, not-false}
 use lib.Dec.{eqb}
 use lib.IntN.{ℤ}
-use Rattle.table_stored.specs.declared.Stored.{Stored}
-use Rattle.table_stored.specs.Calls.{answerWritten, bytesWritten}
+use Rattle.table_write.specs.declared.Stored.{Stored}
+use Rattle.table_write.specs.Written.{answerWritten, bytesWritten}
 use Rattle.vectors_table.specs.Sample.{sameBy, isStored, writeRight}
 use Rattle.vectors_table.proofs.write_right.Statement.{statement}
 use Rattle.vectors_table.proofs.write_right.Tie as tie

@@ -1,0 +1,84 @@
+// A part table written in its stored form (document 01: "part count, corner count, starts, corners, each 32 bits, little-endian"):
+// `write_table`, from a table into lent bytes. It takes any starts and corners; the answer and the lent bytes as it returns equal the
+// definitions of specs/Written.antt: a refusal changes nothing, and on success bytes past the answer keep what they held. table_read is
+// the way back. Leans on table (the rules), table_words (words of bytes).
+ghost use mathlib.Core.Path.{_≡_};
+ghost use mathlib.Core.List.{map};
+ghost use Prim.Native.Nat.{_+_, _*_, _≤_};
+ghost use lib.ListN.{length};
+ghost use Rattle.table.specs.Stored.{unsigned, writeFault};
+ghost use Rattle.table_words.specs.Place.{putWords};
+ghost use Rattle.table_write.specs.Written.{answerWritten, bytesWritten};
+use table_words::HEADER;
+use table_words::WORD;
+use table_words::put_word;
+
+// What `write_table` answers: the fault number, 0 for none, and how many bytes were written, 0 where it refused.
+pub struct Stored {
+    pub fault: u32,
+    pub length: usize,
+}
+
+// The fault of writing the table into so many bytes; 0 for none.
+fn write_fault(starts: &[u32], corners: &[i32], room: usize) -> u32
+    ensures { λ r. ⌜ r ≡ writeFault (now (starts .entry)) (now (corners .entry)) room ⌝ }
+{
+    if table::rules_broken(starts, corners) {
+        return table::FAULT_RULES;
+    }
+    if table::off_range(corners) {
+        return table::FAULT_RANGE;
+    }
+    if room < HEADER + WORD * starts.len() + WORD * corners.len() {
+        return table::FAULT_CORNER_ROOM;
+    }
+    0
+}
+
+// Writes the starts as words from word 2 on.
+fn write_starts(starts: &[u32], bytes: &mut [u8])
+    requires { ⌜ 4 * (length (now starts) + 2) ≤ length (now bytes) ⌝ }
+    ensures { λ _. ⌜ now (bytes .exit) ≡ putWords 2 (now (starts .entry)) (now (bytes .entry)) ⌝ }
+{
+    let mut i = 0;
+    while i < starts.len() {
+        put_word(bytes, i + 2, starts[i]);
+        i += 1;
+    }
+}
+
+// Writes the corners' numbers as words from word `from` on.
+fn write_corners(corners: &[i32], from: usize, bytes: &mut [u8])
+    requires { ⌜ 4 * (from + length (now corners)) ≤ length (now bytes) ⌝ }
+    ensures { λ _. ⌜ now (bytes .exit) ≡ putWords from (map unsigned (now (corners .entry))) (now (bytes .entry)) ⌝ }
+{
+    let mut i = 0;
+    while i < corners.len() {
+        let z = corners[i];
+        put_word(bytes, from + i, table_words::unsigned_word(z));
+        i += 1;
+    }
+}
+
+// Writes a table on the front of the lent bytes. Refuses with 7, 2, 21, in this order, before the first store.
+pub fn write_table(starts: &[u32], corners: &[i32], bytes: &mut [u8]) -> Stored
+    ensures told { λ r. ⌜ r ≡ answerWritten (now (starts .entry)) (now (corners .entry)) (now (bytes .entry)) ⌝ }
+    ensures bytes { λ r. ⌜ now (bytes .exit) ≡ bytesWritten (now (starts .entry)) (now (corners .entry)) (now (bytes .entry)) ⌝ }
+{
+    let number = write_fault(starts, corners, bytes.len());
+    if number != 0 {
+        return Stored {
+            fault: number,
+            length: 0,
+        };
+    }
+    let count = corners.len() / 2;
+    put_word(bytes, 0, (starts.len() - 1) as u32);
+    put_word(bytes, 1, count as u32);
+    write_starts(starts, bytes);
+    write_corners(corners, starts.len() + 2, bytes);
+    Stored {
+        fault: number,
+        length: HEADER + WORD * starts.len() + WORD * corners.len(),
+    }
+}
