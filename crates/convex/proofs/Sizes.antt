@@ -66,7 +66,7 @@ turning-few a f (b ∷ l) =
     subst (λ k. length k ≤ length (b ∷ l)) (sym (turning-cons a f b l))
     (by-test (eqZ (turn a b (next f l)) (pos 0)) (λ t. rw t (omega (arith, turning-few b f l))) (λ t. rw t (omega (arith, turning-few b f l))))
 
-straight-few : (l : List Pt) → length (withoutStraight l) ≤ length l
+pub straight-few : (l : List Pt) → length (withoutStraight l) ≤ length l
 unfolding withoutStraight
 straight-few [] = omega arith
 straight-few (p ∷ l) = turning-few (lastOf p l) p (p ∷ l)

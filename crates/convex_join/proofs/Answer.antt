@@ -17,7 +17,9 @@ use Rattle.integers.proofs.Overlay.{overlay-turn}
 use Rattle.plane.specs.Plane.{Pt}
 use Rattle.mesh.specs.Mesh.{Mesh, meshKinds}
 use Rattle.table.specs.declared.Counts.{Counts}
-use Rattle.table.specs.Table.{numbersOf, startsFrom, startsOf, cornersOf, roomKinds, countsOf, written}
+use Rattle.table.specs.Table.{numbersOf, startsOf, cornersOf, roomKinds, countsOf, written}
+use Rattle.table.proofs.Corners.{length-numbers}
+use Rattle.table.proofs.Parts.{length-startsFrom}
 use Rattle.convex.specs.Joining.{parts, partsFault}
 use Rattle.convex_join.specs.declared.Tally.{Tally}
 use Rattle.convex_ring.specs.Buffers.{cornerOf, cornerAt}
@@ -34,11 +36,6 @@ numbers-append : (a b : List Pt) → numbersOf (a ++ b) ≡ numbersOf a ++ numbe
 unfolding numbersOf
 numbers-append [] b = refl
 numbers-append (p ∷ a) b = ap (λ l. p .x ∷ p .y ∷ l) (numbers-append a b)
-
-length-numbers : (l : List Pt) → length (numbersOf l) ≡ 2 * length l
-unfolding numbersOf
-length-numbers [] = refl
-length-numbers (p ∷ l) = omega (arith, length-numbers l)
 
 length-first : (points : List (List ℤ)) (i : ℕ) → i ≤ length points → length (firstPoints i points) ≡ i
 length-first points i h = length-map (take i points) cornerOf ∙ length-take-le i points h
@@ -79,11 +76,6 @@ unfolding firstFault
 append-none [] b p h = refl
 append-none (k ∷ a) b p h = pass (k .1) (k .0) (firstFault a) (firstFault (a ++ b)) (firstFault b) (p .0) (append-none a b (p .1)) h
 
-length-starts : (k : ℕ) (ps : List (List Pt)) → length (startsFrom k ps) ≡ length ps + 1
-unfolding startsFrom
-length-starts k [] = refl
-length-starts k (p ∷ ps) = omega (arith, length-starts (k + length p) ps)
-
 module _ (m : Mesh) (s c : ℕ) where
   pub refused-mesh : {f : ℕ} → f ≡ firstFault (meshKinds m) → (f ≡ 0 → ⊥) → f ≡ partsFault m s c
   unfolding partsFault
@@ -96,7 +88,7 @@ module _ (m : Mesh) (s c : ℕ) where
 
     starts-count : length (startsOf (parts m)) ≡ t .parts + 1
     unfolding startsOf
-    starts-count = length-starts 0 (parts m) ∙ ap (λ n. n + 1) (sym (g .parts))
+    starts-count = omega (arith, length-startsFrom 0 (parts m), g .parts)
 
     pub refused-starts : s < t .parts + 1 → 22 ≡ partsFault m s c
     unfolding firstFault

@@ -10,18 +10,17 @@ use lib.ListN.{length, getD, set, take, drop, length-append, length-set, drop-of
 use lib.Seq.{drop-cons, take-suc-set, length-take-le}
 use lib.IntN.{ℤ, pos}
 use Rattle.integers.specs.Lists.{upTo}
-use Rattle.integers.specs.Test.{eqZ}
 use Rattle.integers.proofs.Counting.{length-upTo, getD-upTo}
 use Rattle.integers.specs.Faults.{firstFault}
-use Rattle.plane.specs.Plane.{Pt, turn, inRange, onGrid}
-use Rattle.plane.specs.Contour.{lastOf}
+use Rattle.plane.specs.Plane.{Pt, inRange, onGrid}
 use Rattle.mesh.specs.Mesh.{Mesh, none, meshKinds}
 use Rattle.mesh.specs.Rows.{rowsMesh}
 use Rattle.mesh.proofs.Rows.{length-rows}
 use Rattle.mesh.proofs.Accepted.{accepted}
 use Rattle.table.specs.Table.{startsFrom, startsOf}
-use Rattle.convex.specs.Joining.{isIn, turning, withoutStraight, parts}
+use Rattle.convex.specs.Joining.{isIn, withoutStraight, parts}
 use Rattle.convex.specs.Zipper.{Zipper, zipped, regionsZ, contourZ, partsZ}
+use Rattle.convex.proofs.Sizes.{straight-few}
 use Rattle.convex.proofs.Zipped.{parts-zipped}
 use Rattle.convex_ring.specs.declared.Progress.{Progress}
 use Rattle.convex_join.specs.declared.Tally.{Tally}
@@ -54,23 +53,6 @@ starts-more : (ps : List (List Pt)) (p : List Pt) → startsOf (ps ++ (p ∷ [])
 unfolding startsOf
 starts-more ps p = starts-from-more 0 ps p ∙ ap (λ n. startsFrom 0 ps ++ (n ∷ [])) (omega arith)
 
--- ---- no more corners than the contour has
-
-kept-le : (t : Bool) (b : Pt) (r l : List Pt) → length r ≤ length l → length (cond t r (b ∷ r)) ≤ suc (length l)
-kept-le true b r l h = omega arith
-kept-le false b r l h = omega arith
-
-turning-le : (a f : Pt) (l : List Pt) → length (turning a f l) ≤ length l
-unfolding turning
-turning-le a f [] = omega arith
-turning-le a f (b ∷ []) = kept-le (eqZ (turn a b f) (pos 0)) b [] [] (omega arith)
-turning-le a f (b ∷ c ∷ l) = kept-le (eqZ (turn a b c) (pos 0)) b (turning b f (c ∷ l)) (c ∷ l) (turning-le b f (c ∷ l))
-
-straight-le : (l : List Pt) → length (withoutStraight l) ≤ length l
-unfolding withoutStraight
-straight-le [] = omega arith
-straight-le (p ∷ l) = turning-le (lastOf p l) p (p ∷ l)
-
 -- ---- a region gathered
 
 module _ (m : Mesh) (k : ℕ) (flags : List Bool) (starts : List ℕ) (points : List (List ℤ)) (t : Tally) (r : Room m flags starts points t) {cs′ : List (List ℤ)} {es′ : List (List ℕ)} {flags′ : List Bool} {p : Progress} (g : Grown m k flags cs′ es′ flags′ p) where
@@ -97,7 +79,7 @@ module _ (m : Mesh) (k : ℕ) (flags : List Bool) (starts : List ℕ) (points : 
 
   module _ {points′ : List (List ℤ)} {n : ℕ} (a : Appended (withoutStraight (contourAt cs′ p)) points (t .corners) points′ n) where
     corners-room : n + 3 * free flags′ ≤ 3 * length m
-    corners-room = omega (arith, a .count, straight-le (contourAt cs′ p), length-contour cs′ p contour-whole, r .corners, g .kept, fewer)
+    corners-room = omega (arith, a .count, straight-few (contourAt cs′ p), length-contour cs′ p contour-whole, r .corners, g .kept, fewer)
 
     pub corners-few : n ≤ 3072
     corners-few = omega (arith, corners-room, few)
