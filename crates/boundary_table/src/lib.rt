@@ -1,6 +1,6 @@
 // The part table's calls as the runs beside the judge make them (oracle/beside links this crate as a static library): one thin function
 // over each, with no `requires`. Slices pass as a pointer and a length. The answer and each lent buffer as the call returns equal the
-// definitions of table_read, table_write and table_shown; an exported function returns no slice, so the part shown is copied into a lent buffer
+// definitions of table_read, table_write and table/specs/Shown.antt; an exported function returns no slice, so the part shown is copied into a lent buffer
 // (specs/Beside.antt). Leans on table_read, table_write and table_shown.
 ghost use mathlib.Core.Path.{_≡_};
 ghost use Rattle.table_read.specs.Read.{countsRead, startsRead, cornersRead};

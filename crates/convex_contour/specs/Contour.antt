@@ -15,7 +15,7 @@ use Rattle.convex_ring.specs.Buffers.{cornerOf, Grid}
 unfoldable pub contourAt : List (List ℤ) → Progress → List Pt
 contourAt cs p = map cornerOf (drop (p .last) cs ++ take (p .last - p .done) (drop (p .done) cs))
 
--- what reading it asks: nothing is pending, and there are some corners
+-- what reading it asks: the done corners run to the end of the buffer, and the last one added stands among them
 pub record Whole (cs : List (List ℤ)) (p : Progress) : Type 0 where
   pub size : length cs ≡ 1026
   pub placed : p .done ≤ p .last

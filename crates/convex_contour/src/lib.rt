@@ -2,7 +2,7 @@
 // (`append_contour`). Leans on convex_ring and plane.
 ghost use mathlib.Core.Path.{_≡_};
 ghost use mathlib.Core.Bool.{not};
-ghost use Prim.Native.Nat.{_+_, _-_, _<_, _≤_};
+ghost use Prim.Native.Nat.{_+_, _<_, _≤_};
 ghost use lib.ListN.{length};
 ghost use lib.IntN.{pos};
 ghost use Rattle.integers.specs.Test.{eqZ};
@@ -62,7 +62,7 @@ fn append_corner(
     count
 }
 
-// A whole region's contour without corners of turn 0 is put after the first count points; answers the new count.
+// A whole region's contour without corners of turn 0 is put after the first `from` points; answers the new count.
 pub fn append_contour(
     corners: &[[i32; 2]],
     p: Progress,

@@ -1,4 +1,5 @@
--- What growing a region leaves in its buffers: after one step (`Stepped`), and after all (`Grown`), the buffers hold the zipper of Zipper.antt. Assumes nothing.
+-- What growing a region leaves in its buffers: after one step (`Stepped`), and after all (`Grown`), the buffers hold the zipper of convex/specs/Zipper.antt; so after
+-- the first triangle (`Started`) and after the loop (`Ran`). Assumes nothing.
 use mathlib.Core.Path.{_≡_}
 use mathlib.Core.Bool.{Bool, true, false, cond}
 use mathlib.Core.List.{List}
@@ -34,7 +35,7 @@ pub record Started (m : Mesh) (k : ℕ) (flags : List Bool) (cs′ : List (List 
   pub kept : p′ .pending + free flags′ + 1026 ≡ 2 + free flags + p′ .done
   pub holds : (seen : List ℕ) → Marked flags seen → Holds cs′ es′ flags′ p′ seen (startZ k (triangleAt m k))
 
--- n steps are enough
+-- nothing is pending any more; as many steps of the zipper as there are pending corners and twice the free triangles, or more, give the same
 pub record Ran (m : Mesh) (cs : List (List ℤ)) (es : List (List ℕ)) (flags : List Bool) (p : Progress) (cs′ : List (List ℤ)) (es′ : List (List ℕ)) (flags′ : List Bool) (p′ : Progress) : Type 0 where
   pub sound : Sound m cs′ es′ flags′ p′
   pub empty : p′ .pending ≡ 0

@@ -1,9 +1,9 @@
 // A region grown from its first triangle until nothing is pending (`grow`, the Rust's inner loop in advanced/convex.rs): its buffers then hold the
 // whole contour, done (specs/Growing.antt). Leans on convex_ring and mesh.
 ghost use mathlib.Core.Path.{_≡_};
-ghost use mathlib.Core.Bool.{true, false};
+ghost use mathlib.Core.Bool.{false};
 ghost use mathlib.Core.List.{_∷_, []};
-ghost use Prim.Native.Nat.{_+_, _-_, _<_, _≤_};
+ghost use Prim.Native.Nat.{_-_, _<_, _≤_};
 ghost use lib.ListN.{length, getD, set};
 ghost use Rattle.plane.specs.Machine.{point};
 ghost use Rattle.mesh.specs.Mesh.{vertex, neighbour, after, before, triangleAt};

@@ -4,7 +4,7 @@
 ghost use mathlib.Core.Path.{_≡_};
 ghost use mathlib.Core.Bool.{false};
 ghost use mathlib.Core.List.{[]};
-ghost use Prim.Native.Nat.{_+_, _-_, _<_, _≤_, _*_, _^_};
+ghost use Prim.Native.Nat.{_+_, _<_, _≤_, _*_, _^_};
 ghost use lib.ListN.{length, getD, set, take};
 ghost use Rattle.integers.specs.Lists.{overlay};
 ghost use Rattle.integers.specs.Faults.{firstFault};

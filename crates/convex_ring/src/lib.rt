@@ -1,15 +1,13 @@
 // A region's contour while it grows, in one buffer: pending corners from the front, each with its outgoing edge, done corners from the back
 // (specs/Buffers.antt; convex/specs/Zipper.antt says why this is the paper's contour). Here it is read: the corners round the edge on top, and
-// whether a point joins there (`joins_over`). Leans on mesh and plane.
+// whether a point joins there (`joins_over`). Leans on plane, table (the limit) and convex's definitions.
 ghost use mathlib.Core.Path.{_≡_};
-ghost use mathlib.Core.Bool.{false};
-ghost use Prim.Native.Nat.{_+_, _-_, _<_};
+ghost use Prim.Native.Nat.{_-_, _<_};
 ghost use lib.ListN.{length, getD, set};
 ghost use Rattle.plane.specs.Plane.{O};
 ghost use Rattle.plane.specs.Machine.{point, OnGrid};
 ghost use Rattle.convex.specs.Joining.{joins};
 ghost use Rattle.convex_ring.specs.Buffers.{cornerAt, pairOf, Grid, Around, around};
-use mesh::NIL_INDEX;
 use plane::IntPoint;
 use table::MAX_CONTOUR;
 

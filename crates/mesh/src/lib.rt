@@ -1,12 +1,10 @@
 // The triangle mesh: how a row of nine numbers is read, and the side that names a neighbour (geom/triangle.rs, index.rs). The definitions of the
 // mesh and its faults are in specs/Mesh.antt, those of rows in specs/Rows.antt. Leans on plane.
 ghost use mathlib.Core.Path.{_≡_};
-ghost use mathlib.Core.Bool.{cond};
-ghost use Prim.Native.Nat.{_<_, _≤_};
-ghost use lib.Dec.{eqb};
+ghost use Prim.Native.Nat.{_<_};
 ghost use lib.ListN.{length};
 ghost use Rattle.plane.specs.Machine.{point, CrossSize};
-ghost use Rattle.mesh.specs.Mesh.{vertex, neighbour, named, after, opposite, triangleAt, triangleArea};
+ghost use Rattle.mesh.specs.Mesh.{vertex, neighbour, after, opposite, triangleAt, triangleArea};
 ghost use Rattle.mesh.specs.Rows.{word, rowTriangle, rowsMesh, RowOnGrid};
 use plane::IntPoint;
 
@@ -15,12 +13,6 @@ pub const NIL_INDEX: usize = 4294967295;
 
 // Document 01's fault 1.
 pub const MAX_TRIANGLES: usize = 1024;
-
-// "each record with three points and three neighbours. Neighbour i lies across from vertex i."
-pub struct IntTriangle {
-    pub vertices: [IntPoint; 3],
-    pub neighbors: [u32; 3],
-}
 
 // A number's 32 bits read unsigned: none, 4,294,967,295, is -1.
 pub fn unsigned(n: i32) -> u32
@@ -94,23 +86,6 @@ pub fn after_of(i: usize) -> usize
         return 2;
     }
     0
-}
-
-// 1 where the two are equal, else 0.
-pub fn same(a: usize, b: usize) -> usize
-    ensures { λ r. ⌜ (r ≡ cond (eqb a b) 1 0) × (r ≤ 1) ⌝ }
-{
-    if a == b {
-        return 1;
-    }
-    0
-}
-
-// How many sides of a row name n.
-pub fn named_of(row: [i32; 9], n: usize) -> usize
-    ensures { λ r. ⌜ r ≡ named (rowTriangle row) n ⌝ }
-{
-    same(neighbor_of(row, 0), n) + same(neighbor_of(row, 1), n) + same(neighbor_of(row, 2), n)
 }
 
 // The doubled area of a row.

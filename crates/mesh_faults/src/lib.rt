@@ -1,5 +1,5 @@
-// The faults of a mesh: `mesh_fault` gives the first of 1, 2, 3, 4, 5, 6 and 11 that holds, as document 01 orders them, for any rows; each is a
-// pass over the whole mesh, and may ask what those before it have shown. Leans on mesh_neighbors.
+// The faults of a mesh: `mesh_fault` gives the first of 1, 2, 3, 4, 5, 6 and 11 that holds, as document 01 orders them, for any rows; 1 is
+// a count, 3, 4 and 5 one pass (mesh_neighbors), 2, 6 and 11 a pass each, which may ask what those before it have shown. Leans on mesh_neighbors and mesh.
 ghost use mathlib.Core.Path.{_≡_};
 ghost use mathlib.Core.Bool.{false};
 ghost use lib.IntN.{pos, _+ℤ_};
