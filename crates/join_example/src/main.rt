@@ -5,14 +5,14 @@
 fn print_coordinate(n: i32) {
     let bits = mesh::unsigned(n) as u64;
     if n < 0 {
-        lines::print_number(b" -", 4294967296 - bits);
+        lines::print(b" -", 4294967296 - bits, b"");
         return;
     }
-    lines::print_number(b" ", bits);
+    lines::print(b" ", bits, b"");
 }
 
 fn print_start(n: u32) {
-    lines::print_number(b" ", n as u64);
+    lines::print(b" ", n as u64, b"");
 }
 
 fn print_starts(starts: &[u32]) {
@@ -38,9 +38,9 @@ fn print_corners(corners: &[i32]) {
 // Joins the mesh into the lent places and writes what the call told and what it left there.
 fn print_parts(mesh: &[[i32; 9]], starts: &mut [u32], corners: &mut [i32]) {
     let counts = convex_join::to_convex_polygons(mesh, starts, corners);
-    lines::print_number(b"joined: fault ", counts.fault as u64);
-    lines::print_number(b", parts ", counts.parts as u64);
-    lines::print_number(b", corners ", counts.corners as u64);
+    lines::print(b"joined: fault ", counts.fault as u64, b"");
+    lines::print(b", parts ", counts.parts as u64, b"");
+    lines::print(b", corners ", counts.corners as u64, b"");
     io::write_all(1, b"\n");
     print_starts(starts);
     print_corners(corners);

@@ -1,14 +1,51 @@
-// Numbers with their names on standard output, for the programs here that tell what they counted. It promises nothing but to return: what
-// each program writes is held to its file `stdout`. Leans on io.
+// A name, a number in decimal and an end, as the programs here print them. `put_text` puts the text on the front of lent bytes and takes any
+// input: what it answers and the bytes as it returns are equations with specs/Text.antt, and where there is no room it answers 0 and changes
+// nothing. `print` writes that text; what is written is in io's hands, and each program's is held to its file `stdout`. Leans on io and
+// integers.
+ghost use mathlib.Core.Path.{_≡_};
+ghost use mathlib.Core.List.{_++_};
+ghost use Prim.Native.Nat.{_+_, _≤_};
+ghost use lib.ListN.{length, take};
+ghost use Rattle.integers.specs.Lists.{overlay};
+ghost use Rattle.lines.specs.Text.{Text};
 
-// Writes a name and a number.
-pub fn print_number(name: &[u8], n: u64) {
-    io::write_all(1, name);
-    io::print_decimal(1, n);
+// Puts the bytes at place `at` of the lent ones.
+fn put_bytes(from: &[u8], out: &mut [u8], at: usize)
+    requires { ⌜ at + length (now from) ≤ length (now out) ⌝ }
+    ensures { λ _. ⌜ now (out .exit) ≡ overlay (take at (now (out .entry)) ++ now (from .entry)) (now (out .entry)) ⌝ }
+{
+    let mut i = 0;
+    while i < from.len() {
+        out[at + i] = from[i];
+        i += 1;
+    }
 }
 
-// The same, and a line's end.
-pub fn print_line(name: &[u8], n: u64) {
-    print_number(name, n);
-    io::write_all(1, b"\n");
+// Puts the name, the number and the end on the front of the lent bytes and answers how many there are, or 0 where they do not fit.
+pub fn put_text(name: &[u8], n: u64, end: &[u8], out: &mut [u8]) -> usize
+    ensures { λ r. ⌜ Text (now (name .entry)) n (now (end .entry)) (now (out .entry)) r (now (out .exit)) ⌝ }
+{
+    let mut digits = [0u8; 20];
+    let places = io::decimal(n, &mut digits);
+    if out.len() < name.len() {
+        return 0;
+    }
+    if out.len() - name.len() < places {
+        return 0;
+    }
+    let after = name.len() + places;
+    if out.len() - after < end.len() {
+        return 0;
+    }
+    put_bytes(name, out, 0);
+    put_bytes(&digits[..places], out, name.len());
+    put_bytes(end, out, after);
+    after + end.len()
+}
+
+// Writes the text on standard output, where it has at most 64 bytes.
+pub fn print(name: &[u8], n: u64, end: &[u8]) {
+    let mut text = [0u8; 64];
+    let size = put_text(name, n, end, &mut text);
+    io::write_all(1, &text[..size]);
 }

@@ -76,6 +76,6 @@ fn replay_all() -> Tally {
 
 fn main() {
     let all = replay_all();
-    lines::print_line(b"right ", all.right);
-    lines::print_line(b"wrong ", all.wrong);
+    lines::print(b"right ", all.right, b"\n");
+    lines::print(b"wrong ", all.wrong, b"\n");
 }

@@ -2,7 +2,6 @@
 // hold what the boundary answers. A ragged last record counts as wrong. Leans on vectors and lines.
 ghost use Prim.Native.Nat.{_≤_, _<_};
 ghost use lib.ListN.{length};
-use lines::print_line;
 use vectors::RECORD;
 
 // The bytes of the buffer: 1,260 records.
@@ -81,6 +80,6 @@ fn replay_all() -> Tally {
 
 fn main() {
     let all = replay_all();
-    print_line(b"cases ", all.cases);
-    print_line(b"wrong ", all.wrong);
+    lines::print(b"cases ", all.cases, b"\n");
+    lines::print(b"wrong ", all.wrong, b"\n");
 }

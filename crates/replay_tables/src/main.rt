@@ -3,7 +3,6 @@
 // Leans on vectors_table, table_words and lines.
 ghost use Prim.Native.Nat.{_+_, _≤_};
 ghost use lib.ListN.{length};
-use lines::print_line;
 use table_words::word_at;
 use vectors_table::HEAD;
 use vectors_table::RECORD;
@@ -77,6 +76,6 @@ fn replay_all() -> Tally {
 
 fn main() {
     let all = replay_all();
-    print_line(b"right ", all.right);
-    print_line(b"wrong ", all.wrong);
+    lines::print(b"right ", all.right, b"\n");
+    lines::print(b"wrong ", all.wrong, b"\n");
 }

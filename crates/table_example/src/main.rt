@@ -1,7 +1,5 @@
 // The README's example of part tables: stores a table of two parts, prints its bytes, reads it back, and has it refused once a start
 // falls. What it prints is its file `stdout`. Leans on table_read, table_write and lines.
-use lines::print_line;
-use lines::print_number;
 
 // Writes a byte in hexadecimal.
 fn print_byte(b: u8) {
@@ -26,9 +24,9 @@ fn print_table(bytes: &[u8]) {
     let mut starts = [0u32; 8];
     let mut corners = [0i32; 16];
     let counts = table_read::read_table(bytes, &mut starts, &mut corners);
-    print_number(b"read: fault ", counts.fault as u64);
-    print_number(b", parts ", counts.parts as u64);
-    print_line(b", corners ", counts.corners as u64);
+    lines::print(b"read: fault ", counts.fault as u64, b"");
+    lines::print(b", parts ", counts.parts as u64, b"");
+    lines::print(b", corners ", counts.corners as u64, b"\n");
 }
 
 // The two parts of document 01's dart. Byte 12 is the lowest of start 1: at 7 the start after it, 6, falls.
@@ -37,8 +35,8 @@ fn main() {
     let corners = [0i32, 4, 0, 0, 4, 0, 0, 4, 4, 0, 10, -2];
     let mut bytes = [0u8; 68];
     let stored = table_write::write_table(&starts, &corners, &mut bytes);
-    print_number(b"stored: fault ", stored.fault as u64);
-    print_line(b", bytes ", stored.length as u64);
+    lines::print(b"stored: fault ", stored.fault as u64, b"");
+    lines::print(b", bytes ", stored.length as u64, b"\n");
     print_bytes(&bytes);
     print_table(&bytes);
     bytes[12] = 7;

@@ -1,0 +1,2 @@
+-- What the contracts cite: a name, a number and an end as text.
+pub mod Text
