@@ -1,6 +1,7 @@
 //! Terms and files of the prover's language.
 
 use crate::topic::{Module, Topic};
+use i_triangle::int::reach::Place;
 use judge::mesh::Triangle;
 use judge::pairs::Operand;
 use judge::table::Table;
@@ -200,6 +201,18 @@ pub fn mesh(mesh: &[Triangle]) -> String {
 /// Starts and corners, as two arguments.
 pub fn table(table: &Table) -> String {
     format!("{} {}", naturals(&table.starts), integers(&table.corners))
+}
+
+/// Where a walk stands, by `at` of `Places`; what is no segment has ends too.
+pub fn place(at: Place, (start, end): (usize, usize)) -> String {
+    format!(
+        "(at {} {} {} {} {} {start} {end})",
+        at.index,
+        at.remaining,
+        at.reverse,
+        at.reflected,
+        at.segment.is_some()
+    )
 }
 
 /// Bounds, by the topic's own `box`.

@@ -6,7 +6,7 @@
 use crate::antt::{self, contour, integer, point};
 use crate::topic::{layers, Case, Topic};
 use i_triangle::int::expose::{one_pair, Operation};
-use i_triangle::int::reach::{self, Place};
+use i_triangle::int::reach;
 use inputs::rng::Rng;
 use inputs::text;
 use inputs::{contours, coordinates};
@@ -157,25 +157,14 @@ fn walks(l: &[Point]) -> Vec<Case> {
             continue;
         }
         if let Some(at) = reach::begin(l, reflected) {
+            let place = antt::place(at, at.segment.unwrap_or((0, 0)));
             cases.push(Case::new(
-                format!("begins {reflected} {} {}", contour(l), place(at)),
+                format!("begins {reflected} {} {place}", contour(l)),
                 format!("begin {reflected} {} is {at:?}", text::contour(l)),
             ));
         }
     }
     cases
-}
-
-fn place(at: Place) -> String {
-    let (start, end) = at.segment.unwrap_or((0, 0));
-    format!(
-        "(at {} {} {} {} {} {start} {end})",
-        at.index,
-        at.remaining,
-        at.reverse,
-        at.reflected,
-        at.segment.is_some()
-    )
 }
 
 fn winds(l: &[Point]) -> Vec<Case> {

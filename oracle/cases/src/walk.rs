@@ -227,12 +227,6 @@ fn pair(rng: &mut Rng, a: &[i32], b: &[i32]) -> Case {
         0 => reach::pair_next(&corners(a), exposed(at_a.at), &corners(b), exposed(at_b.at)),
         _ => (None, exposed(at_a.at), exposed(at_b.at)),
     };
-    let after = |after: reach::Place, given: Given| {
-        term(Given {
-            at: judged(after),
-            ..given
-        })
-    };
     let told = match emitted {
         Some(corner) => format!("(corner {})", point(corner)),
         None => "nothing".into(),
@@ -240,8 +234,8 @@ fn pair(rng: &mut Rng, a: &[i32], b: &[i32]) -> Case {
     Case::new(
         format!(
             "pair-steps {asked} {fault} {told} {} {}",
-            after(after_a, at_a),
-            after(after_b, at_b)
+            antt::place(after_a, at_a.ends),
+            antt::place(after_b, at_b.ends)
         ),
         format!("{said} is {fault} {emitted:?} then {after_a:?} {after_b:?}"),
     )
@@ -299,18 +293,7 @@ fn nowhere() -> Given {
 }
 
 fn term(given: Given) -> String {
-    let Given {
-        at,
-        ends: (start, end),
-    } = given;
-    format!(
-        "(at {} {} {} {} {} {start} {end})",
-        at.index,
-        at.remaining,
-        at.reverse,
-        at.reflected,
-        at.segment.is_some()
-    )
+    antt::place(exposed(given.at), given.ends)
 }
 
 fn exposed(at: Place) -> reach::Place {

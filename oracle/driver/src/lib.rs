@@ -8,6 +8,7 @@
 //!   the latter's answers
 //! - `table`: `read_table`, `write_table`, `show_part`; `table_simpler`: their
 //!   simpler inputs; `table_sample`: the stored sample of their answers
+//! - `sample_bytes`: the bytes of those two samples
 //! - `boundary`: the C functions of the Rattle archive and the list of entry
 //!   points, where it is linked
 //!
@@ -18,6 +19,7 @@ pub mod entry;
 pub mod mesh;
 pub mod mesh_sample;
 pub mod plane;
+mod sample_bytes;
 pub mod table;
 pub mod table_sample;
 mod table_simpler;

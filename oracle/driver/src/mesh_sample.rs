@@ -3,6 +3,7 @@
 //! The same bytes every time.
 
 use crate::mesh::{rows, size, written, Call, Row};
+use crate::sample_bytes;
 use inputs::mesh_damage::{damaged, ORDER};
 use inputs::meshes::{self, Mesh};
 use inputs::rng::Rng;
@@ -178,30 +179,13 @@ fn wrong_records(right: &[Record]) -> Vec<Record> {
 pub fn sample() -> (Vec<u8>, [usize; 2]) {
     let right = right_records();
     let wrong = wrong_records(&right);
-    let mut bytes: Vec<u8> = right.iter().chain(&wrong).flat_map(Record::bytes).collect();
-    let ragged = right[0].bytes();
-    bytes.extend(&ragged[..ragged.len() - 1]);
-    (bytes, [right.len(), wrong.len() + 1])
+    sample_bytes::sample(&right, &wrong, Record::bytes)
 }
 
 #[cfg(test)]
 mod tests {
     use super::*;
-
-    fn word(bytes: &[u8], k: usize) -> u32 {
-        u32::from_le_bytes(bytes[4 * k..4 * k + 4].try_into().unwrap())
-    }
-
-    /// The records as their first words part them.
-    fn parted(mut bytes: &[u8]) -> Vec<&[u8]> {
-        let mut out = Vec::new();
-        while !bytes.is_empty() {
-            let (record, rest) = bytes.split_at((word(bytes, 0) as usize).min(bytes.len()));
-            out.push(record);
-            bytes = rest;
-        }
-        out
-    }
+    use crate::sample_bytes::{parted, word};
 
     #[test]
     fn the_sample_has_every_fault_and_every_room() {

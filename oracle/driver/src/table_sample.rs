@@ -2,6 +2,7 @@
 //! layout): right records of every fault, then wrong ones, the last of them cut
 //! short. The same bytes every time.
 
+use crate::sample_bytes;
 use crate::table::{read_into, show_part, write_into};
 use inputs::rng::Rng;
 use inputs::table_calls::{any_read, any_show, any_write, Read, Show, Write};
@@ -200,30 +201,13 @@ impl Record {
 pub fn sample() -> (Vec<u8>, [usize; 2]) {
     let right = right_records();
     let wrong = wrong_records(&right);
-    let mut bytes: Vec<u8> = right.iter().chain(&wrong).flat_map(Record::bytes).collect();
-    let ragged = right[0].bytes();
-    bytes.extend(&ragged[..ragged.len() - 1]);
-    (bytes, [right.len(), wrong.len() + 1])
+    sample_bytes::sample(&right, &wrong, Record::bytes)
 }
 
 #[cfg(test)]
 mod tests {
     use super::*;
-
-    fn word(bytes: &[u8], k: usize) -> u32 {
-        u32::from_le_bytes(bytes[4 * k..4 * k + 4].try_into().unwrap())
-    }
-
-    /// The records as their first words part them.
-    fn parted(mut bytes: &[u8]) -> Vec<&[u8]> {
-        let mut out = Vec::new();
-        while !bytes.is_empty() {
-            let (record, rest) = bytes.split_at((word(bytes, 0) as usize).min(bytes.len()));
-            out.push(record);
-            bytes = rest;
-        }
-        out
-    }
+    use crate::sample_bytes::{parted, word};
 
     #[test]
     fn the_sample_covers_what_it_should() {
