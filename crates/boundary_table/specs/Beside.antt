@@ -1,4 +1,4 @@
--- What each function of the boundary tells: the calls' own answers, laid out for C, and of the part shown its length and a copy.
+-- What writing and showing tell at the boundary: the answer of the first, laid out for C, and of the part shown its length and a copy.
 -- Assumes nothing.
 use mathlib.Core.Bool.{Bool, cond}
 use mathlib.Core.List.{List}
@@ -7,14 +7,9 @@ use lib.Dec.{ltb}
 use lib.ListN.{length}
 use lib.IntN.{ℤ}
 use Rattle.integers.specs.Lists.{overlay}
-use Rattle.table.specs.declared.Counts.{Counts}
 use Rattle.table.specs.Shown.{shownFault, shownPart}
 use Rattle.table_write.specs.declared.Stored.{Stored}
-use Rattle.boundary_table.specs.declared.ToldCounts.{ToldCounts}
 use Rattle.boundary_table.specs.declared.ToldLength.{ToldLength}
-
-abbrev pub toldCounts : Counts → ToldCounts
-toldCounts c = record { fault = c .fault; parts = c .parts; corners = c .corners }
 
 abbrev pub toldStored : Stored → ToldLength
 toldStored s = record { fault = s .fault; length = s .length }

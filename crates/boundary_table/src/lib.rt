@@ -1,19 +1,13 @@
 // The part table's calls as the runs beside the judge make them (oracle/beside links this crate as a static library): one thin function
 // over each, with no `requires`. Slices pass as a pointer and a length. The answer and each lent buffer as the call returns equal the
-// definitions of table_read, table_write and table/specs/Shown.antt; an exported function returns no slice, so the part shown is copied into a lent buffer
-// (specs/Beside.antt). Leans on table_read, table_write and table_shown.
+// definitions of table_read, table_write and table/specs/Shown.antt. Reading returns the table's `Counts` as they are; what writing and showing
+// answer is laid out for C, and as an exported function returns no slice, the part shown is copied into a lent buffer (specs/Beside.antt).
+// Leans on table_read, table_write and table_shown.
 ghost use mathlib.Core.Path.{_≡_};
 ghost use Rattle.table_read.specs.Read.{countsRead, startsRead, cornersRead};
 ghost use Rattle.table_write.specs.Written.{answerWritten, bytesWritten};
-ghost use Rattle.boundary_table.specs.Beside.{toldCounts, toldStored, toldShown, copiedPart, copied};
-
-// What `read_table` answers, laid out for C.
-#[repr(C)]
-pub struct ToldCounts {
-    pub fault: u32,
-    pub parts: u32,
-    pub corners: u32,
-}
+ghost use Rattle.boundary_table.specs.Beside.{toldStored, toldShown, copiedPart, copied};
+use table::Counts;
 
 // A fault number, 0 for none, and how many bytes were written or how many numbers are shown.
 #[repr(C)]
@@ -24,21 +18,12 @@ pub struct ToldLength {
 
 // table_read::read_table.
 #[no_mangle]
-pub extern "C" fn beside_read_table(
-    bytes: &[u8],
-    starts: &mut [u32],
-    corners: &mut [i32],
-) -> ToldCounts
-    ensures told { λ r. ⌜ r ≡ toldCounts (countsRead (now (bytes .entry)) (now (starts .entry)) (now (corners .entry))) ⌝ }
+pub extern "C" fn beside_read_table(bytes: &[u8], starts: &mut [u32], corners: &mut [i32]) -> Counts
+    ensures told { λ r. ⌜ r ≡ countsRead (now (bytes .entry)) (now (starts .entry)) (now (corners .entry)) ⌝ }
     ensures starts { λ r. ⌜ now (starts .exit) ≡ startsRead (now (bytes .entry)) (now (starts .entry)) (now (corners .entry)) ⌝ }
     ensures corners { λ r. ⌜ now (corners .exit) ≡ cornersRead (now (bytes .entry)) (now (starts .entry)) (now (corners .entry)) ⌝ }
 {
-    let counts = table_read::read_table(bytes, starts, corners);
-    ToldCounts {
-        fault: counts.fault,
-        parts: counts.parts,
-        corners: counts.corners,
-    }
+    table_read::read_table(bytes, starts, corners)
 }
 
 // table_write::write_table.

@@ -1,11 +1,11 @@
 //! The C functions of the Rattle archive, and the list of entry points.
 
 use crate::entry::{run, Report};
-use crate::mesh::{mesh_fault_beside, to_convex_polygons_beside, Counts, Row};
+use crate::mesh::{mesh_fault_beside, to_convex_polygons_beside, Row};
 use crate::plane::{angle_cmp_beside, area_two_beside, cross_product_beside};
 use crate::table::{self, ReadAnswer, ShowAnswer, WriteAnswer};
 use crate::table::{read_table_beside, show_part_beside, write_table_beside};
-use crate::told::Told;
+use crate::told::{Counts, Told};
 use inputs::plane::Four;
 use inputs::table_calls::{Read, Show, Write};
 use judge::shown::Side;
@@ -13,7 +13,7 @@ use judge::Point;
 
 mod archive {
     use super::{Counts, Row, Told};
-    use crate::table::{ToldCounts, ToldLength};
+    use crate::table::ToldLength;
 
     extern "C" {
         pub fn beside_cross_product(
@@ -53,7 +53,7 @@ mod archive {
             starts_length: usize,
             corners: *mut i32,
             corners_length: usize,
-        ) -> ToldCounts;
+        ) -> Counts;
         pub fn beside_write_table(
             starts: *const u32,
             starts_length: usize,

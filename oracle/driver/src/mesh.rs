@@ -2,6 +2,7 @@
 //! to lent starts and corners. Refusals are the judge's, parts the Rust's.
 
 use crate::entry::{simpler_numbers, EntryPoint};
+use crate::told::Counts;
 use cli::answers::{parts, Cut};
 use inputs::mesh_damage::{damaged, ORDER};
 use inputs::meshes::{self, Mesh};
@@ -26,15 +27,6 @@ pub fn rows(mesh: &[Triangle]) -> Vec<Row> {
             [a.0, a.1, b.0, b.1, c.0, c.1, i, j, k]
         })
         .collect()
-}
-
-/// What a call that writes parts hands back: counts are 0 where there is a fault.
-#[repr(C)]
-#[derive(Debug, Clone, Copy, PartialEq, Eq)]
-pub struct Counts {
-    pub fault: u32,
-    pub parts: u32,
-    pub corners: u32,
 }
 
 /// One random mesh in so many of those that an entry point of numbers takes.

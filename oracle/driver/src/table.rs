@@ -5,21 +5,13 @@
 
 use crate::entry::EntryPoint;
 use crate::table_simpler::{simpler_read, simpler_show, simpler_write};
+use crate::told::Counts;
 use inputs::rng::Rng;
 use inputs::table_calls::{reads, shows, writes, Inputs, Read, Show, Write};
 use judge::shown;
 use judge::stored;
 use judge::Fault;
 use std::fmt::Debug;
-
-/// The counts of a table that was read; 0 where it was refused.
-#[repr(C)]
-#[derive(Debug, Clone, Copy, PartialEq, Eq)]
-pub struct ToldCounts {
-    pub fault: u32,
-    pub parts: u32,
-    pub corners: u32,
-}
 
 /// How many bytes were written, or how many numbers are shown; 0 where refused.
 #[repr(C)]
@@ -32,7 +24,7 @@ pub struct ToldLength {
 /// What a call told, and the lent memory after it.
 #[derive(Debug, Clone, PartialEq, Eq)]
 pub struct ReadAnswer {
-    pub told: ToldCounts,
+    pub told: Counts,
     pub starts: Vec<u32>,
     pub corners: Vec<i32>,
 }
@@ -78,7 +70,7 @@ pub fn read_table(input: &Read) -> ReadAnswer {
 /// The same, into what was lent.
 pub fn read_into(input: &Read, starts: Vec<u32>, corners: Vec<i32>) -> ReadAnswer {
     let mut out = ReadAnswer {
-        told: ToldCounts {
+        told: Counts {
             fault: stored::read_fault(&input.bytes, input.lent),
             parts: 0,
             corners: 0,
@@ -383,7 +375,7 @@ mod tests {
             answer
         });
         assert!(
-            small.contains("Rust ReadAnswer { told: ToldCounts { fault: 7,"),
+            small.contains("Rust ReadAnswer { told: Counts { fault: 7,"),
             "{small}"
         );
     }

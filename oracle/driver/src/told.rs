@@ -1,6 +1,7 @@
-//! What the boundary's functions of the plane hand back: a fault number, and a
-//! value that is 0 where there is a fault.
+//! What the boundary's functions hand back: a fault number, and a value or counts
+//! that are 0 where there is a fault.
 
+/// Of a function of the plane.
 #[repr(C)]
 #[derive(Debug, Clone, Copy, PartialEq, Eq)]
 pub struct Told {
@@ -16,4 +17,13 @@ impl Told {
     pub fn accepted(value: i64) -> Self {
         Self { fault: 0, value }
     }
+}
+
+/// Of a call that writes parts to lent starts and corners.
+#[repr(C)]
+#[derive(Debug, Clone, Copy, PartialEq, Eq)]
+pub struct Counts {
+    pub fault: u32,
+    pub parts: u32,
+    pub corners: u32,
 }
