@@ -26,7 +26,7 @@ use Rattle.convex.specs.Joining.{keptBy, turning, withoutStraight}
 use Rattle.convex.specs.Zipper.{Zipper, fromLastZ}
 use Rattle.convex_ring.specs.declared.Progress.{Progress}
 use Rattle.convex_ring.specs.Buffers.{cornerOf, cornerAt, pairOf, Holds}
-use Rattle.convex_contour.specs.Contour.{contourAt, Whole, placeAfter, placeBefore, cornerAfter, keptIf, firstPoints, Appended}
+use Rattle.convex_contour.specs.Contour.{contourAt, Whole, placeAfter, placeBefore, keptIf, firstPoints, Appended}
 use Rattle.convex_ring.proofs.Reading.{length-done}
 
 -- ---- the contour of a zipper
@@ -47,6 +47,10 @@ getD-any : {A : Type 0} (l : List A) (i : ℕ) (d e : A) → i < length l → ge
 getD-any [] i d e h = absurd (omega arith)
 getD-any (x ∷ l) zero d e h = refl
 getD-any (x ∷ l) (suc i) d e h = getD-any l i d e (omega arith)
+
+-- the corner after corner i, round the contour
+abbrev pub cornerAfter : List Pt → ℕ → Pt
+cornerAfter l i = getD l (suc i) (getD l 0 O)
 
 -- where corner i stands; after the last one the first again
 abbrev pub placeAt : Progress → ℕ → ℕ

@@ -2,11 +2,11 @@
 use mathlib.Core.Path.{_≡_}
 use mathlib.Core.Bool.{Bool, cond}
 use mathlib.Core.List.{List, [], _∷_, _++_, map}
-use Prim.Native.Nat.{ℕ, suc, _+_, _-_, _≤_, _<_}
+use Prim.Native.Nat.{ℕ, _+_, _-_, _≤_, _<_}
 use lib.Dec.{eqb, ltb}
-use lib.ListN.{length, getD, take, drop}
+use lib.ListN.{length, take, drop}
 use lib.IntN.{ℤ}
-use Rattle.plane.specs.Plane.{Pt, O}
+use Rattle.plane.specs.Plane.{Pt}
 use Rattle.convex_ring.specs.declared.Progress.{Progress}
 use Rattle.convex_ring.specs.Buffers.{cornerOf, Grid}
 
@@ -29,10 +29,6 @@ placeAfter d i = cond (eqb (i + 1) 1026) d (i + 1)
 
 unfoldable pub placeBefore : ℕ → ℕ → ℕ
 placeBefore d i = cond (ltb d i) (i - 1) 1025
-
--- the corner after corner i, round the contour
-abbrev pub cornerAfter : List Pt → ℕ → Pt
-cornerAfter l i = getD l (suc i) (getD l 0 O)
 
 -- p where it stays
 abbrev pub keptIf : Bool → Pt → List Pt
