@@ -1,23 +1,24 @@
 -- The answer: starts and points copied to the lent buffers, one a turn (`starts-turn`, `points-turn`); the fault of a mesh and of the room
 -- (`refused-mesh`, `refused-starts`, `refused-corners`, `no-fault`); what a refusal and an answer leave (`refused`, `answered`). Assumes nothing.
 use mathlib.Core.Path.{_≡_, refl, sym, _∙_, ap}
-use mathlib.Core.Bool.{Bool, true, false, cond}
 use mathlib.Core.List.{List, [], _∷_, _++_, map, map-append, flatten, append-assoc}
 use Prim.Native.Nat.{ℕ, _+_, _*_, _-_, _/_, _≤_, _<_}
 use native.Mathlib.Numerals.{add-one}
 use native.Mathlib.Omega.{arith}
-use borrow.Author.Tests.{lt-ltb, le-ltb, eq-eqb, ne-eqb}
+use borrow.Author.Tests.{lt-ltb, le-ltb}
 use lib.Dec.{lit<}
 use lib.ListN.{length, getD, set, take, length-append, length-map}
 use lib.Seq.{take-suc, length-take-le}
 use lib.IntN.{ℤ}
-use Rattle.integers.specs.Lists.{All, overlay}
-use Rattle.integers.specs.Faults.{Kind, firstFault}
+use Rattle.integers.specs.Lists.{overlay}
+use Rattle.integers.specs.Faults.{firstFault}
 use Rattle.integers.proofs.Overlay.{overlay-turn}
 use Rattle.plane.specs.Plane.{Pt}
 use Rattle.mesh.specs.Mesh.{Mesh, meshKinds}
 use Rattle.table.specs.declared.Counts.{Counts}
 use Rattle.table.specs.Table.{numbersOf, startsOf, cornersOf, roomKinds, countsOf, written}
+use Rattle.integers.proofs.Faults.{append-some, append-none}
+use Rattle.table.proofs.Answers.{refused-counts, refused-buffer, accepted-counts, accepted-buffer}
 use Rattle.table.proofs.Corners.{length-numbers}
 use Rattle.table.proofs.Parts.{length-startsFrom}
 use Rattle.convex.specs.Joining.{parts, partsFault}
@@ -58,24 +59,6 @@ points-turn points to₀ i h k p e =
 
 -- ---- faults
 
-choose : (t : Bool) (n x y : ℕ) → ((x ≡ 0 → ⊥) → y ≡ x) → (cond t n x ≡ 0 → ⊥) → cond t n y ≡ cond t n x
-choose true n x y f h = refl
-choose false n x y f h = f h
-
-append-some : (a b : List Kind) → (firstFault a ≡ 0 → ⊥) → firstFault (a ++ b) ≡ firstFault a
-unfolding firstFault
-append-some [] b h = absurd (h refl)
-append-some (k ∷ a) b h = choose (k .1) (k .0) (firstFault a) (firstFault (a ++ b)) (append-some a b) h
-
-pass : (t : Bool) (n x y z : ℕ) → 0 < n → (x ≡ 0 → y ≡ z) → cond t n x ≡ 0 → cond t n y ≡ z
-pass true n x y z p f h = absurd (omega arith)
-pass false n x y z p f h = f h
-
-append-none : (a b : List Kind) → All (λ k. 0 < k .0) a → firstFault a ≡ 0 → firstFault (a ++ b) ≡ firstFault b
-unfolding firstFault
-append-none [] b p h = refl
-append-none (k ∷ a) b p h = pass (k .1) (k .0) (firstFault a) (firstFault (a ++ b)) (firstFault b) (p .0) (append-none a b (p .1)) h
-
 module _ (m : Mesh) (s c : ℕ) where
   pub refused-mesh : {f : ℕ} → f ≡ firstFault (meshKinds m) → (f ≡ 0 → ⊥) → f ≡ partsFault m s c
   unfolding partsFault
@@ -107,13 +90,12 @@ module _ (m : Mesh) (s c : ℕ) where
 
 pub refused : {A B : Type 0} (ps : List (List Pt)) (a s : List A) (b c : List B) {f F : ℕ} {r : Counts} → f ≡ F → (f ≡ 0 → ⊥) → r ≡ record { fault = f; parts = 0; corners = 0 } → (r ≡ countsOf F ps) × ((s ≡ written F a s) × (c ≡ written F b c))
 refused ps a s b c {f} {F} e d h =
-    let n = ne-eqb F 0 (λ q. d (e ∙ q)) in
-    (h ∙ ap (λ k. record { fault = k; parts = 0; corners = 0 }) e ∙ rw n, (rw n, rw n))
+    let n : F ≡ 0 → ⊥ = λ q. d (e ∙ q) in
+    (h ∙ ap (λ k. record { fault = k; parts = 0; corners = 0 }) e ∙ sym (refused-counts F n ps), (sym (refused-buffer F n a s), sym (refused-buffer F n b c)))
 
 pub answered : (ps : List (List Pt)) (s : List ℕ) (c : List ℤ) {starts : List ℕ} {points : List (List ℤ)} {t : Tally} {F : ℕ} {s′ : List ℕ} {c′ : List ℤ} → Gathered starts points t ps → 0 ≡ F → s′ ≡ overlay (take (t .parts + 1) starts) s → c′ ≡ overlay (numbersOf (firstPoints (t .corners) points)) c → (_≡_ {A = Counts} (record { fault = 0; parts = t .parts; corners = t .corners }) (countsOf F ps)) × ((s′ ≡ written F (startsOf ps) s) × (c′ ≡ written F (cornersOf ps) c))
 unfolding cornersOf
-answered ps s c {F = F} g e p q =
-    let z = eq-eqb F 0 (sym e) in (
-      (λ i. record { fault = 0; parts = g .parts i; corners = g .corners i }) ∙ rw z,
-      (p ∙ ap (λ l. overlay l s) (g .begins) ∙ rw z, q ∙ ap (λ l. overlay (numbersOf l) c) (g .gathered) ∙ rw z),
-    )
+answered ps s c {F = F} g e p q = (
+  (λ i. record { fault = 0; parts = g .parts i; corners = g .corners i }) ∙ sym (accepted-counts F (sym e) ps),
+  (p ∙ ap (λ l. overlay l s) (g .begins) ∙ sym (accepted-buffer F (sym e) (startsOf ps) s), q ∙ ap (λ l. overlay (numbersOf l) c) (g .gathered) ∙ sym (accepted-buffer F (sym e) (cornersOf ps) c)),
+)

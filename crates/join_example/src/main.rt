@@ -3,7 +3,7 @@
 
 // Writes a coordinate after a space. Below 0 its bits, read unsigned, are as far below 2^32.
 fn print_coordinate(n: i32) {
-    let bits = mesh::unsigned(n) as u64;
+    let bits = integers::unsigned(n) as u64;
     if n < 0 {
         lines::print(b" -", 4294967296 - bits, b"");
         return;

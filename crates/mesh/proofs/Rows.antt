@@ -6,8 +6,9 @@ use Prim.Native.Nat.{ℕ, zero, suc, _+_, _*_, _<_}
 use native.Mathlib.Omega.{arith}
 use lib.ListN.{length, getD, length-map}
 use lib.IntN.{ℤ}
+use Rattle.integers.specs.Word.{unsigned}
 use Rattle.mesh.specs.Mesh.{vertex, neighbour, triangleAt, opposite}
-use Rattle.mesh.specs.Rows.{number, word, rowTriangle, rowsMesh}
+use Rattle.mesh.specs.Rows.{number, rowTriangle, rowsMesh}
 use Rattle.mesh.proofs.Sides.{opposite-side}
 
 pub vertex-row : (row : List ℤ) (i : ℕ) → i < 3 → vertex (rowTriangle row) i ≡ record { x = number row (2 * i); y = number row (2 * i + 1) }
@@ -17,7 +18,7 @@ vertex-row row (suc zero) h = refl
 vertex-row row (suc (suc zero)) h = refl
 vertex-row row (suc (suc (suc i))) h = absurd (omega arith)
 
-pub neighbour-row : (row : List ℤ) (i : ℕ) → i < 3 → neighbour (rowTriangle row) i ≡ word (number row (6 + i))
+pub neighbour-row : (row : List ℤ) (i : ℕ) → i < 3 → neighbour (rowTriangle row) i ≡ unsigned (number row (6 + i))
 unfolding neighbour rowTriangle
 neighbour-row row zero h = refl
 neighbour-row row (suc zero) h = refl

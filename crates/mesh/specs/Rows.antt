@@ -6,26 +6,21 @@ use mathlib.Core.List.{List, map}
 use Prim.Native.Nat.{ℕ}
 use lib.ListN.{getD}
 use lib.IntN.{ℤ, pos}
-use mir.Syntax.{w32}
-use mir.Val.{ofZ}
+use Rattle.integers.specs.Word.{unsigned}
 use Rattle.plane.specs.Plane.{onGrid}
 use Rattle.mesh.specs.Mesh.{Triangle, Mesh, vertex}
 
 abbrev pub number : List ℤ → ℕ → ℤ
 number row k = getD row k (pos 0)
 
--- the 32 bits of a number read unsigned
-abbrev pub word : ℤ → ℕ
-word z = ofZ w32 z
-
 unfoldable pub rowTriangle : List ℤ → Triangle
 rowTriangle row = record {
   v0 = record { x = number row 0; y = number row 1 };
   v1 = record { x = number row 2; y = number row 3 };
   v2 = record { x = number row 4; y = number row 5 };
-  n0 = word (number row 6);
-  n1 = word (number row 7);
-  n2 = word (number row 8);
+  n0 = unsigned (number row 6);
+  n1 = unsigned (number row 7);
+  n2 = unsigned (number row 8);
 }
 
 unfoldable pub rowsMesh : List (List ℤ) → Mesh

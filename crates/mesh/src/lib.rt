@@ -5,7 +5,7 @@ ghost use Prim.Native.Nat.{_<_};
 ghost use lib.ListN.{length};
 ghost use Rattle.plane.specs.Machine.{point, CrossSize};
 ghost use Rattle.mesh.specs.Mesh.{vertex, neighbour, after, opposite, triangleAt, triangleArea};
-ghost use Rattle.mesh.specs.Rows.{word, rowTriangle, rowsMesh, RowOnGrid};
+ghost use Rattle.mesh.specs.Rows.{rowTriangle, rowsMesh, RowOnGrid};
 use plane::IntPoint;
 
 // No neighbour (the Rust's NIL_INDEX; document 01: "None is 4,294,967,295").
@@ -13,16 +13,6 @@ pub const NIL_INDEX: usize = 4294967295;
 
 // Document 01's fault 1.
 pub const MAX_TRIANGLES: usize = 1024;
-
-// A number's 32 bits read unsigned: none, 4,294,967,295, is -1.
-pub fn unsigned(n: i32) -> u32
-    ensures { λ r. ⌜ r ≡ word n ⌝ }
-{
-    if n >= 0 {
-        return n as u32;
-    }
-    4294967295 - ((-1 - n) as u32)
-}
 
 // Vertex i of a row.
 pub fn vertex_of(row: [i32; 9], i: usize) -> IntPoint
@@ -40,7 +30,7 @@ pub fn neighbor_of(row: [i32; 9], i: usize) -> usize
     requires { ⌜ i < 3 ⌝ }
     ensures { λ r. ⌜ r ≡ neighbour (rowTriangle row) i ⌝ }
 {
-    unsigned(row[6 + i]) as usize
+    integers::unsigned(row[6 + i]) as usize
 }
 
 // Vertex i of triangle k, read in place: a row that is copied and then asked for a vertex known only at run time waits for its own store.
@@ -58,7 +48,7 @@ pub fn neighbor_at(mesh: &[[i32; 9]], k: usize, i: usize) -> usize
     requires { ⌜ (k < length (now mesh)) × (i < 3) ⌝ }
     ensures { λ r. ⌜ r ≡ neighbour (triangleAt (rowsMesh (now (mesh .entry))) k) i ⌝ }
 {
-    unsigned(mesh[k][6 + i]) as usize
+    integers::unsigned(mesh[k][6 + i]) as usize
 }
 
 // The side that names n, or 2.

@@ -15,6 +15,7 @@ use lib.IntN.{ℤ}
 use mir.Syntax.{w32}
 use mir.Val.{SFits}
 use mir.ValLaws.{ofZ-fits}
+use Rattle.integers.specs.Word.{unsigned}
 use Rattle.integers.specs.Lists.{All}
 use Rattle.integers.specs.Faults.{firstFault}
 use Rattle.integers.proofs.Tests.{either-false}
@@ -23,7 +24,7 @@ use Rattle.integers.proofs.Elements.{all-map, all-append, all-image, getD-all}
 use Rattle.plane.specs.Plane.{inRange}
 use Rattle.plane.proofs.Size.{in-range-coordinate, coordinate-fits}
 use Rattle.table.specs.Table.{tableBroken, offRange, tableParts, roomKinds, startsOf}
-use Rattle.table.specs.Stored.{wordsOf, wordBytes, signed, unsigned, wordAt, storedStarts, storedCorners, lengthBroken, storedBroken, storedParts, readFault, storedOf}
+use Rattle.table.specs.Stored.{wordsOf, wordBytes, signed, wordAt, storedStarts, storedCorners, lengthBroken, storedBroken, storedParts, readFault, storedOf}
 use Rattle.table.proofs.Rules.{was-taken, sound, starts-parts, count-parts, count-corners}
 use Rattle.table.proofs.Words.{Byte, Word, length-words, length-wordBytes, words-wordBytes, wordBytes-words, words-small, signed-unsigned, unsigned-signed}
 

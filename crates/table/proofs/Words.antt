@@ -10,8 +10,9 @@ use lib.IntN.{ℤ}
 use mir.Syntax.{w32}
 use mir.Val.{SFits}
 use mir.ValLaws.{toZ-ofZ, ofZ-toZ}
+use Rattle.integers.specs.Word.{unsigned}
 use Rattle.integers.specs.Lists.{All}
-use Rattle.table.specs.Stored.{bytesOf, wordOf, wordsOf, wordBytes, signed, unsigned}
+use Rattle.table.specs.Stored.{bytesOf, wordOf, wordsOf, wordBytes, signed}
 
 -- a byte, and a word
 abbrev pub Byte : ℕ → Type 0

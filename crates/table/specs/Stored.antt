@@ -7,7 +7,8 @@ use lib.Dec.{eqb, ltb}
 use lib.ListN.{length, getD, take, drop}
 use lib.IntN.{ℤ}
 use mir.Syntax.{w32}
-use mir.Val.{toZ, ofZ}
+use mir.Val.{toZ}
+use Rattle.integers.specs.Word.{unsigned}
 use Rattle.integers.specs.Faults.{firstFault}
 use Rattle.plane.specs.Plane.{Pt}
 use Rattle.table.specs.Table.{tableBroken, offRange, tableParts, roomKinds}
@@ -32,12 +33,9 @@ wordsOf (a ∷ b ∷ c ∷ d ∷ l) = wordOf a b c d ∷ wordsOf l
 unfoldable pub wordBytes : List ℕ → List ℕ
 wordBytes ws = flatten (map bytesOf ws)
 
--- a word read as a signed number, and a signed number's word
+-- a word read as a signed number; the other way is integers' `unsigned`
 abbrev pub signed : ℕ → ℤ
 signed w = toZ w32 w
-
-abbrev pub unsigned : ℤ → ℕ
-unsigned z = ofZ w32 z
 
 -- ---- reading
 

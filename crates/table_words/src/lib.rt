@@ -7,7 +7,7 @@ ghost use mathlib.Core.List.{[], _∷_, map};
 ghost use Prim.Native.Nat.{_+_, _*_, _%_, _≤_};
 ghost use lib.ListN.{length, take, drop};
 ghost use Rattle.integers.specs.Lists.{overlay};
-ghost use Rattle.table.specs.Stored.{wordOf, wordsOf, wordAt, signed, unsigned};
+ghost use Rattle.table.specs.Stored.{wordOf, wordsOf, wordAt, signed};
 ghost use Rattle.table_words.specs.Place.{putWords};
 
 // The bytes of a word, and of the two counts that a stored table opens with.
@@ -68,16 +68,6 @@ pub fn read_numbers(bytes: &[u8], from: usize, count: usize, to: &mut [i32])
         to[i] = signed_word(word_at(bytes, from + i));
         i += 1;
     }
-}
-
-// A signed number's word.
-pub fn unsigned_word(z: i32) -> u32
-    ensures { λ r. ⌜ r ≡ unsigned z ⌝ }
-{
-    if z >= 0 {
-        return z as u32;
-    }
-    LAST_WORD - (-1 - z) as u32
 }
 
 // The lowest byte of n.

@@ -6,7 +6,8 @@ ghost use mathlib.Core.Path.{_≡_};
 ghost use mathlib.Core.List.{map};
 ghost use Prim.Native.Nat.{_+_, _*_, _≤_};
 ghost use lib.ListN.{length};
-ghost use Rattle.table.specs.Stored.{unsigned, writeFault};
+ghost use Rattle.integers.specs.Word.{unsigned};
+ghost use Rattle.table.specs.Stored.{writeFault};
 ghost use Rattle.table_words.specs.Place.{putWords};
 ghost use Rattle.table_write.specs.Written.{answerWritten, bytesWritten};
 use table_words::HEADER;
@@ -55,7 +56,7 @@ fn write_corners(corners: &[i32], from: usize, bytes: &mut [u8])
     let mut i = 0;
     while i < corners.len() {
         let z = corners[i];
-        put_word(bytes, from + i, table_words::unsigned_word(z));
+        put_word(bytes, from + i, integers::unsigned(z));
         i += 1;
     }
 }

@@ -5,9 +5,10 @@ use mathlib.Core.List.{[]}
 use Prim.Native.Nat.{_+_}
 use lib.ListN.{getD}
 use mir.Syntax.{w32}
+use Rattle.integers.specs.Word.{unsigned}
 use Rattle.integers.proofs.Bits.{kept}
 use Rattle.mesh.specs.Mesh.{neighbour}
-use Rattle.mesh.specs.Rows.{number, word}
+use Rattle.mesh.specs.Rows.{number}
 use Rattle.mesh.proofs.Rows.{neighbour-row, triangle-row}
 use Rattle.mesh.proofs.neighbor_at.Statement.{statement}
 use Rattle.mesh.proofs.neighbor_at.Tie as tie
@@ -40,7 +41,7 @@ returns c =
     let k = s .args .k in
     let i = s .args .i in
     let row = getD rows k [] in
-    c .unsigned .ensures ∙ ap word (kept {w = w32} {z = number row (6 + i)} (search needs)) ∙ sym (neighbour-row row i (s .pre .1)) ∙ ap (λ t. neighbour t i) (sym (triangle-row rows k (s .pre .0)))
+    c .unsigned .ensures ∙ ap unsigned (kept {w = w32} {z = number row (6 + i)} (search needs)) ∙ sym (neighbour-row row i (s .pre .1)) ∙ ap (λ t. neighbour t i) (sym (triangle-row rows k (s .pre .0)))
 
 pub neighbor-at-spec : {M : Type 1} → statement M
 neighbor-at-spec =

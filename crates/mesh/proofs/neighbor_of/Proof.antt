@@ -2,8 +2,9 @@
 use mathlib.Core.Path.{sym, _∙_, ap}
 use Prim.Native.Nat.{_+_}
 use mir.Syntax.{w32}
+use Rattle.integers.specs.Word.{unsigned}
 use Rattle.integers.proofs.Bits.{kept}
-use Rattle.mesh.specs.Rows.{number, word}
+use Rattle.mesh.specs.Rows.{number}
 use Rattle.mesh.proofs.Rows.{neighbour-row}
 use borrow.Author.Needs.{needs}
 use Rattle.mesh.proofs.neighbor_of.Statement.{statement}
@@ -29,7 +30,7 @@ returns c =
     let s = c .before .before in
     let row = s .args .t1 in
     let i = s .args .i in
-    c .unsigned .ensures ∙ ap word (kept {w = w32} {z = number row (6 + i)} (search needs)) ∙ sym (neighbour-row row i (s .pre))
+    c .unsigned .ensures ∙ ap unsigned (kept {w = w32} {z = number row (6 + i)} (search needs)) ∙ sym (neighbour-row row i (s .pre))
 
 pub neighbor-of-spec : {M : Type 1} → statement M
 neighbor-of-spec =

@@ -1,17 +1,19 @@
 -- `mesh_faults::mesh_fault` meets its contract: each kind is told where those before it do not hold. Assumes nothing.
-use mathlib.Core.Path.{_≡_, refl, sym, _∙_, ap}
-use mathlib.Core.Bool.{Bool, true, false, cond}
-use mathlib.Core.List.{List}
+use mathlib.Core.Path.{_≡_, sym, _∙_}
+use mathlib.Core.Bool.{Bool, true, false}
+use mathlib.Core.List.{List, [], _∷_, _++_}
 use Prim.Native.Nat.{ℕ, _≤_, _<_}
 use native.Mathlib.Omega.{arith}
 use borrow.Author.Tests.{lt-ltb, le-ltb}
+use lib.Dec.{lit<}
 use lib.ListN.{length}
 use lib.IntN.{ℤ}
-use Rattle.integers.specs.Faults.{firstFault}
+use Rattle.integers.specs.Faults.{Kind, firstFault}
+use Rattle.integers.proofs.Faults.{first-this, first-next, first-empty, append-some, append-none}
 use Rattle.mesh.specs.Mesh.{Mesh, tooMany, offGrid, strayNeighbour, misnamed, mismatched, flat, tooLarge, meshKinds}
 use Rattle.mesh.specs.Rows.{rowsMesh}
 use Rattle.mesh.proofs.Rows.{length-rows}
-use Rattle.mesh_neighbors.specs.Earliest.{neighbourFault}
+use Rattle.mesh_neighbors.specs.Earliest.{neighbourKinds, neighbourFault}
 use borrow.Author.Needs.{needs}
 use Rattle.mesh_faults.proofs.mesh_fault.Statement.{statement}
 use Rattle.mesh_faults.proofs.mesh_fault.Tie as tie
@@ -24,57 +26,45 @@ few : (rows : List (List ℤ)) → length rows ≤ 1024 → tooMany (rowsMesh ro
 unfolding tooMany
 few rows h = le-ltb 1024 (length (rowsMesh rows)) (omega (arith, length-rows rows))
 
--- the neighbours' fault is told before those after it, or passes on to them
-abbrev three : Bool → Bool → Bool → ℕ → ℕ
-three s n x r = cond s 3 (cond n 4 (cond x 5 r))
-
-told : (s n x : Bool) (r : ℕ) → (three s n x 0 ≡ 0 → ⊥) → three s n x 0 ≡ three s n x r
-told true n x r d = refl
-told false true x r d = refl
-told false false true r d = refl
-told false false false r d = absurd (d refl)
-
-untold : (s n x : Bool) (r : ℕ) → three s n x 0 ≡ 0 → three s n x r ≡ r
-untold true n x r e = absurd (omega (arith, e))
-untold false true x r e = absurd (omega (arith, e))
-untold false false true r e = absurd (omega (arith, e))
-untold false false false r e = refl
-
 module _ (m : Mesh) where
-  abbrev rest : ℕ
-  rest = cond (flat m) 6 (cond (tooLarge m) 11 0)
-
   abbrev answer : ℕ
   answer = firstFault (meshKinds m)
 
+  abbrev neighbours : List Kind
+  neighbours = neighbourKinds (strayNeighbour m) (misnamed m) (mismatched m)
+
+  abbrev rest : List Kind
+  rest = (6, flat m) ∷ (11, tooLarge m) ∷ []
+
   one : tooMany m ≡ true → 1 ≡ answer
-  unfolding firstFault
-  one a = rw a
+  one a = sym (first-this 1 (tooMany m) _ a)
 
   module _ (a : tooMany m ≡ false) where
     two : offGrid m ≡ true → 2 ≡ answer
-    unfolding firstFault
-    two b = rw (a, b)
+    two b = sym (first-next 1 (tooMany m) _ a ∙ first-this 2 (offGrid m) _ b)
 
-    module _ (b : offGrid m ≡ false) where
-      pub neighbour : {f : ℕ} → f ≡ neighbourFault m → (f ≡ 0 → ⊥) → f ≡ answer
-      unfolding firstFault neighbourFault
-      neighbour e d = e ∙ rw (a, b) (told (strayNeighbour m) (misnamed m) (mismatched m) rest (λ q. d (e ∙ q)))
+    module _ (b : offGrid m ≡ false) {f : ℕ} (e : f ≡ neighbourFault m) where
+      left : answer ≡ firstFault (neighbours ++ rest)
+      left = first-next 1 (tooMany m) _ a ∙ first-next 2 (offGrid m) _ b
 
-      module _ {f : ℕ} (e : f ≡ neighbourFault m) (z : f ≡ 0) where
-        past : answer ≡ rest
-        unfolding firstFault neighbourFault
-        past = rw (a, b) (untold (strayNeighbour m) (misnamed m) (mismatched m) rest (sym e ∙ z))
+      neighbour : (f ≡ 0 → ⊥) → f ≡ answer
+      unfolding neighbourFault
+      neighbour d = e ∙ sym (left ∙ append-some neighbours rest (λ q. d (e ∙ q)))
+
+      module _ (z : f ≡ 0) where
+        past : answer ≡ firstFault rest
+        unfolding neighbourFault
+        past = left ∙ append-none neighbours rest (lit< tt, (lit< tt, (lit< tt, tt))) (sym e ∙ z)
 
         six : flat m ≡ true → 6 ≡ answer
-        six g = sym (past ∙ rw g)
+        six g = sym (past ∙ first-this 6 (flat m) _ g)
 
         module _ (g : flat m ≡ false) where
           eleven : tooLarge m ≡ true → 11 ≡ answer
-          eleven h = sym (past ∙ rw (g, h))
+          eleven h = sym (past ∙ first-next 6 (flat m) _ g ∙ first-this 11 (tooLarge m) _ h)
 
           accepted : tooLarge m ≡ false → 0 ≡ answer
-          accepted h = sym (past ∙ rw (g, h))
+          accepted h = sym (past ∙ first-next 6 (flat m) _ g ∙ first-next 11 (tooLarge m) _ h ∙ first-empty)
 
 -- an answer of a pass, and the branch that it took
 read : {r s t : Bool} → r ≡ s → r ≡ t → s ≡ t

@@ -7,8 +7,8 @@ use borrow.Author.Needs.{needs}
 use lib.IntN.{pos}
 use lib.ListN.{length, take, getD, length-map, List·getD-map}
 use mir.Syntax.{w32}
+use Rattle.integers.specs.Word.{unsigned}
 use Rattle.integers.proofs.Bits.{got}
-use Rattle.table.specs.Stored.{unsigned}
 use Rattle.table_words.specs.Place.{putWords}
 use Rattle.table_words.proofs.Places.{put-none}
 use Rattle.table_write.proofs.Writing.{put-more, put-length, put-all}
@@ -33,8 +33,8 @@ shared-slice-copy-out-z c = search needs
 add-put-word : tie.Need-add-put-word Inv-loop μ-loop
 add-put-word c = search needs
 
-unsigned-word-requires : tie.Need-unsigned-word-requires Inv-loop μ-loop
-unsigned-word-requires c κs = search needs
+unsigned-requires : tie.Need-unsigned-requires Inv-loop μ-loop
+unsigned-requires c κs = search needs
 
 put-word-requires : tie.Need-put-word-requires Inv-loop μ-loop
 put-word-requires c κs = search needs
@@ -55,7 +55,7 @@ loop-again c =
     let s = l .before .before in
     let i = l .loop .i in
     let n = length-map (s .args .corners .now) unsigned in
-    let q = u .unsigned-word .ensures ∙ ap unsigned (got w32 (getD (s .args .corners .now) i (pos 0)) (z .z .given)) ∙ sym (List·getD-map unsigned (s .args .corners .now) i (pos 0)) in
+    let q = u .unsigned .ensures ∙ ap unsigned (got w32 (getD (s .args .corners .now) i (pos 0)) (z .z .given)) ∙ sym (List·getD-map unsigned (s .args .corners .now) i (pos 0)) in
     let e = put-more (s .args .from) (map unsigned (s .args .corners .now)) (s .args .bytes .now) i (omega arith) (omega arith) (l .loop .inv .2) refl q (w .put-word .ensures) in
     (omega arith, put-length (s .args .from) (map unsigned (s .args .corners .now)) (s .args .bytes .now) (i + 1) (omega arith) (omega arith) e, e)
 
@@ -77,7 +77,7 @@ write-corners-spec =
     mul-z
     shared-slice-copy-out-z
     add-put-word
-    unsigned-word-requires
+    unsigned-requires
     put-word-requires
     add-i
     loop-less
