@@ -1,0 +1,2 @@
+-- The parts before a split; each strategy's parts are polygons; the statements.
+pub mod Joined
