@@ -88,7 +88,7 @@ bends-along a b [] m h = tt
 bends-along a b (c ∷ l) m h = (pos-is (area-is-turn a b c) (h .0), bends-along b c l m (h .1))
 
 -- the last left out
-bends-front : (a b : Pt) (l : List Pt) (x : Pt) → Bends a b (l ++ (x ∷ [])) → Bends a b l
+pub bends-front : (a b : Pt) (l : List Pt) (x : Pt) → Bends a b (l ++ (x ∷ [])) → Bends a b l
 bends-front a b [] x h = tt
 bends-front a b (c ∷ l) x h = (h .0, bends-front b c l x (h .1))
 
@@ -210,7 +210,7 @@ turns-along a b [] x y h = (pos-is (sym (area-is-turn a b x)) (h .0), (pos-is (s
 turns-along a b (c ∷ l) x y h = (pos-is (sym (area-is-turn a b c)) (h .0), turns-along b c l x y (h .1))
 
 -- round the contour and on over its first edge
-triples-bends : (a b c : Pt) (l : List Pt) → Triples (a ∷ b ∷ c ∷ l) → Bends a b (c ∷ l ++ (a ∷ b ∷ []))
+pub triples-bends : (a b c : Pt) (l : List Pt) → Triples (a ∷ b ∷ c ∷ l) → Bends a b (c ∷ l ++ (a ∷ b ∷ []))
 triples-bends a b c l h = (
   h .0 .0 .0,
   bends-on b c l a b (h .1)

@@ -1,4 +1,5 @@
--- Lists of corners any three of which, in their order, turn left (`Triples`). In order: sorted lists; the corners from another start
+-- Lists of corners any three of which, in their order, turn left (`Triples`). In order: the first and the other elements of
+-- a list (`all-take`, `all-drop`); sorted lists; the corners from another start
 -- (`triples-rotate`); fewer corners (`triples-take`, `triples-drop`, `triples-after`); from neighbours to all (`triples-fan`): where the corners ascend
 -- about a point and each three neighbours turn left, any three do. Assumes nothing.
 use mathlib.Core.Path.{_≡_, sym, subst}
@@ -34,6 +35,17 @@ Bends a b (c ∷ l) = Left a b c × Bends b c l
 
 -- ---- sorted lists
 
+module _ (P : Pt → Type 0) (n : ℕ) (l : List Pt) (h : All P l) where
+  -- in two
+  in-two : All P (take n l) × All P (drop n l)
+  in-two = all-append P (take n l) (drop n l) .0 (subst (All P) (sym (take-append-drop n l)) h)
+
+  pub all-take : All P (take n l)
+  all-take = in-two .0
+
+  pub all-drop : All P (drop n l)
+  all-drop = in-two .1
+
 module _ (R : Pt → Pt → Type 0) where
   -- a weaker relation
   pub sorted-map : (S : Pt → Pt → Type 0) → ((a b : Pt) → R a b → S a b) → (l : List Pt) → Sorted R l → Sorted S l
@@ -50,9 +62,6 @@ module _ (R : Pt → Pt → Type 0) where
   sorted-take zero l h = tt
   sorted-take (suc n) [] h = tt
   sorted-take (suc n) (a ∷ l) h = (all-take (R a) n l (h .0), sorted-take n l (h .1))
-    where
-      all-take : (P : Pt → Type 0) (n : ℕ) (l : List Pt) → All P l → All P (take n l)
-      all-take P n l h = all-append P (take n l) (drop n l) .0 (subst (All P) (sym (take-append-drop n l)) h) .0
 
   -- the others
   pub sorted-drop : (n : ℕ) (l : List Pt) → Sorted R l → Sorted R (drop n l)
