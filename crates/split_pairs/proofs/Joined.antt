@@ -61,7 +61,7 @@ seen-wedges (c ∷ l) h =
     (all-map (neighbours (c ∷ l)) (λ e k. ≤-leZ k) (triples-wedges c l h)))
 
 -- a doubled area above 0 and no more than 2^63 − 1
-fits-word : (z : ℤ) → pos 0 <ℤ z → z ≤ℤ pos 9223372036854775807 → natAbs z < 2 ^ 63
+pub fits-word : (z : ℤ) → pos 0 <ℤ z → z ≤ℤ pos 9223372036854775807 → natAbs z < 2 ^ 63
 fits-word z h k = omega (zarith, abs-parts z)
 
 summable : (l : List Pt) → Polygon l → All (λ p. onGrid p ≡ true) l → length l ≤ 1026 → contourArea l ≤ℤ pos 9223372036854775807 → Summable l
