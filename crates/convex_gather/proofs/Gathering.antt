@@ -8,6 +8,7 @@ use native.Mathlib.Omega.{arith}
 use lib.ListN.{length, set, take, length-append, length-set}
 use lib.Seq.{take-suc-set}
 use lib.IntN.{ℤ}
+use Rattle.integers.proofs.Sums.{flatten-append, length-flatten-append}
 use Rattle.plane.specs.Plane.{Pt}
 use Rattle.table.specs.Table.{startsFrom, startsOf}
 use Rattle.convex_contour.specs.Contour.{firstPoints, Appended}
@@ -18,8 +19,7 @@ use Rattle.convex_gather.specs.Gather.{Gathered, RoomFor, PartsAppended}
 
 flatten-more : {A : Type 0} (ps : List (List A)) (p : List A) → flatten (ps ++ (p ∷ [])) ≡ flatten ps ++ p
 unfolding flatten
-flatten-more [] p = append-nil p
-flatten-more (q ∷ ps) p = ap (λ l. q ++ l) (flatten-more ps p) ∙ sym (append-assoc q (flatten ps) p)
+flatten-more ps p = flatten-append ps (p ∷ []) ∙ ap (λ l. flatten ps ++ l) (append-nil p)
 
 starts-from-more : (k : ℕ) (ps : List (List Pt)) (p : List Pt) → startsFrom k (ps ++ (p ∷ [])) ≡ startsFrom k ps ++ ((k + length (flatten ps ++ p)) ∷ [])
 unfolding startsFrom flatten
@@ -73,14 +73,6 @@ none-appended starts points t = record {
   corners = omega arith;
   gathered = λ ps q. subst (Gathered starts points t) (sym (append-nil ps)) q;
 }
-
-flatten-append : {A : Type 0} (a b : List (List A)) → flatten (a ++ b) ≡ flatten a ++ flatten b
-unfolding flatten
-flatten-append [] b = refl
-flatten-append (p ∷ a) b = ap (λ l. p ++ l) (flatten-append a b) ∙ sym (append-assoc p (flatten a) (flatten b))
-
-pub length-flatten-append : (a b : List (List Pt)) → length (flatten (a ++ b)) ≡ length (flatten a) + length (flatten b)
-length-flatten-append a b = ap length (flatten-append a b) ∙ length-append (flatten a) (flatten b)
 
 pub then-appended : (qs rs : List (List Pt)) {s s′ s″ : List ℕ} {p p′ p″ : List (List ℤ)} {t t′ t″ : Tally} → PartsAppended qs s p t s′ p′ t′ → PartsAppended rs s′ p′ t′ s″ p″ t″ → PartsAppended (qs ++ rs) s p t s″ p″ t″
 then-appended qs rs {s″ = s″} {p″ = p″} {t″ = t″} a b = record {
