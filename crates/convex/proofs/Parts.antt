@@ -1,20 +1,24 @@
--- The parts of an accepted mesh: each is strictly convex and counter-clockwise, so no corner has turn 0 (`parts-convex`); each starts with the last
+-- The parts of an accepted mesh: each is strictly convex and counter-clockwise, so no corner has turn 0 (`parts-convex`) and each
+-- has three corners or more (`convex-three`); each starts with the last
 -- corner added, whose turn is above 0 (`part-first`); each has the doubled area of its region's contour, the sum over the triangles taken
 -- (`part-area`, `part-taken`), and so all have together the mesh's (`parts-area`).
 -- Assumes an accepted mesh where it says so.
 use mathlib.Core.Path.{_≡_, sym, _∙_, ap, subst}
 use mathlib.Core.Bool.{true, cond}
 use mathlib.Core.List.{List, [], _∷_, map, map-map}
-use Prim.Native.Nat.{ℕ, _-_, _<_}
+use Prim.Native.Nat.{ℕ, _-_, _≤_, _<_}
+use native.Mathlib.Omega.{arith}
 use lib.ListN.{length, getD}
-use lib.IntN.{pos}
+use lib.IntN.{ℤ, pos}
 use lib.Signed.{ltZ}
-use Rattle.integers.specs.Lists.{All, sumℤ, sumℕ, rotate, neighbours}
+use Rattle.integers.specs.Lists.{All, sumℤ, sumℕ, rotate, links, neighbours}
 use Rattle.integers.proofs.Elements.{all-map, all-image, map-all}
 use Rattle.integers.proofs.Rotation.{map-rotate}
-use Rattle.integers.proofs.Tests.{<-ltZ}
-use Rattle.plane.specs.Plane.{Pt, O, cross, angleCmp, isLess}
+use Rattle.integers.proofs.Ring.{con, _:≡_, pt, ring}
+use Rattle.integers.proofs.Tests.{<-ltZ, zneeds}
+use Rattle.plane.specs.Plane.{Pt, O, _-ᵖ_, cross, angleCmp, isLess}
 use Rattle.plane.specs.Contour.{edges, contourArea}
+use Rattle.plane.proofs.Terms.{_-E_, crossE}
 use Rattle.plane.proofs.Contours.{contour-rotate}
 use Rattle.mesh.specs.Mesh.{Mesh, triangleAt, triangleArea, meshArea}
 use Rattle.mesh.proofs.Accepted.{Accepted}
@@ -29,6 +33,23 @@ use Rattle.convex.proofs.Straight.{Strict, straight-first, straight-are
 pub record StrictlyConvex (l : List Pt) : Type 0 where
   pub left : All (λ t. ltZ (pos 0) (cross (t .0) (t .1)) ≡ true) (neighbours (edges l))
   pub once : sumℕ (map (λ t. cond (isLess (angleCmp (t .1) (t .0))) 1 0) (neighbours (edges l))) ≡ 1
+
+flat : (z : ℤ) → z ≡ pos 0 → ltZ (pos 0) z ≡ true → ⊥
+flat z e h = omega (zneeds, e, h)
+
+-- fewer than three corners turn nowhere: of one edge, and of an edge and its way back, the cross is 0
+pub convex-three : (l : List Pt) → StrictlyConvex l → 3 ≤ length l
+unfolding edges neighbours links sumℕ
+convex-three [] s = absurd (omega (arith, s .once))
+convex-three (a ∷ []) s = absurd (flat (cross (a -ᵖ a) (a -ᵖ a)) (one a) (s .left .0))
+  where
+    one : (a : Pt) → cross (a -ᵖ a) (a -ᵖ a) ≡ pos 0
+    one = ring (pt ∷ []) (λ a. crossE (a -E a) (a -E a) :≡ con (pos 0)) tt
+convex-three (a ∷ b ∷ []) s = absurd (flat (cross (b -ᵖ a) (a -ᵖ b)) (two a b) (s .left .0))
+  where
+    two : (a b : Pt) → cross (b -ᵖ a) (a -ᵖ b) ≡ pos 0
+    two = ring (pt ∷ pt ∷ []) (λ a b. crossE (b -E a) (a -E b) :≡ con (pos 0)) tt
+convex-three (a ∷ b ∷ c ∷ l) s = omega arith
 
 of-strict : (l : List Pt) → Strict (edges l) → StrictlyConvex l
 of-strict l s = record { left = all-map (neighbours (edges l)) (λ t h. <-ltZ h) (s .left); once = s .once }

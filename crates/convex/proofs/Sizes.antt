@@ -1,6 +1,6 @@
 -- How many corners: a region of t triangles has t + 2 corners, at each step of the zipper too (`sized-step`, for the room that the work needs), and
 -- its part no more (`part-size`, `parts-short`); the regions are no more than the triangles (`regions-few`), and all parts' corners no more than three
--- times as many (`parts-size`). Within the part table's limits: 1,024 + 2 = 1,026 corners a contour, 3 · 1,024 ≤ 8,192 corners, 1,024 ≤ 2,048 parts.
+-- times as many (`parts-size`), or two for each part and one for each triangle (`parts-corners`). Within the part table's limits: 1,024 + 2 = 1,026 corners a contour, 3 · 1,024 ≤ 8,192 corners, 1,024 ≤ 2,048 parts.
 -- Assumes an accepted mesh where it says so.
 use mathlib.Core.Path.{_≡_, sym, _∙_, ap, subst}
 use mathlib.Core.Bool.{false}
@@ -122,6 +122,11 @@ module _ (m : Mesh) (ok : Accepted m) where
   pub parts-size : length (flatten (parts m)) ≤ 3 * length m
   unfolding parts
   parts-size = omega (arith, few (regions m) counted .1, length-once (regions-once m ok), regions-few)
+
+  -- Σ (t + 2) over the parts
+  pub parts-corners : length (flatten (parts m)) ≤ length m + 2 * length (parts m)
+  unfolding parts
+  parts-corners = omega (arith, few (regions m) counted .1, length-once (regions-once m ok), length-map (regions m) contourOf)
 
   -- one list is no longer than all
   each-few : (R : List Region) → All (λ r. length (r .taken) ≤ length (flatten (map (λ r. r .taken) R))) R

@@ -1,3 +1,2 @@
--- All regions gathered, and the answer.
+-- All regions gathered.
 pub mod Regions
-pub mod Answer

@@ -1,4 +1,4 @@
--- All regions: starts and corners of one part more (`starts-more`, `flatten-more`); a region gathered (`contour-whole`, `contour-room`, `joined`);
+-- All regions: a region gathered (`contour-whole`, `contour-room`, `joined`);
 -- a triangle visited (`visited-skip`, `visited-join`); all of them (`Visiting`: `visiting-start`, `visiting-turn`, `visiting-end`). Assumes nothing.
 use mathlib.Core.Path.{_≡_, refl, sym, _∙_, ap, ap₂, subst}
 use mathlib.Core.Bool.{Bool, true, false, cond}
@@ -23,35 +23,15 @@ use Rattle.convex.specs.Zipper.{Zipper, zipped, regionsZ, contourZ, partsZ}
 use Rattle.convex.proofs.Sizes.{straight-few}
 use Rattle.convex.proofs.Zipped.{parts-zipped}
 use Rattle.convex_ring.specs.declared.Progress.{Progress}
-use Rattle.convex_join.specs.declared.Tally.{Tally}
+use Rattle.convex_gather.specs.declared.Tally.{Tally}
+use Rattle.convex_gather.specs.Gather.{Gathered}
+use Rattle.convex_gather.proofs.Gathering.{part-appended}
 use Rattle.convex_ring.specs.Buffers.{cornerOf, free, Marked, Ready}
 use Rattle.convex_grow.specs.Growing.{Grown}
 use Rattle.convex_contour.specs.Contour.{contourAt, Whole, Appended}
-use Rattle.convex_join.specs.Parts.{Gathered, Room, seenNext, partsNext, Joined, Visited}
+use Rattle.convex_join.specs.Parts.{Room, seenNext, partsNext, Joined, Visited}
 use Rattle.convex_grow.proofs.Growth.{free-le}
 use Rattle.convex_contour.proofs.Contours.{contour-zipper, length-contour}
-
--- ---- one part more
-
-flatten-more : {A : Type 0} (ps : List (List A)) (p : List A) → flatten (ps ++ (p ∷ [])) ≡ flatten ps ++ p
-unfolding flatten
-flatten-more [] p = append-nil p
-flatten-more (q ∷ ps) p = ap (λ l. q ++ l) (flatten-more ps p) ∙ sym (append-assoc q (flatten ps) p)
-
-starts-from-more : (k : ℕ) (ps : List (List Pt)) (p : List Pt) → startsFrom k (ps ++ (p ∷ [])) ≡ startsFrom k ps ++ ((k + length (flatten ps ++ p)) ∷ [])
-unfolding startsFrom flatten
-starts-from-more k [] p = refl
-starts-from-more k (q ∷ ps) p =
-    ap (λ l. k ∷ l)
-    (starts-from-more (k + length q) ps p
-    ∙ ap (λ n. startsFrom (k + length q) ps ++ (n ∷ [])) (longer k q (flatten ps) p))
-  where
-    longer : (k : ℕ) (q l p : List Pt) → k + length q + length (l ++ p) ≡ k + length ((q ++ l) ++ p)
-    longer k q l p = omega (arith, length-append q (l ++ p), ap length (append-assoc q l p))
-
-starts-more : (ps : List (List Pt)) (p : List Pt) → startsOf (ps ++ (p ∷ [])) ≡ startsOf ps ++ (length (flatten ps ++ p) ∷ [])
-unfolding startsOf
-starts-more ps p = starts-from-more 0 ps p ∙ ap (λ n. startsFrom 0 ps ++ (n ∷ [])) (omega arith)
 
 -- ---- a region gathered
 
@@ -100,16 +80,7 @@ module _ (m : Mesh) (k : ℕ) (flags : List Bool) (starts : List ℕ) (points : 
         gathered : (seen : List ℕ) (ps : List (List Pt)) → Marked flags seen → Gathered starts points t ps → Gathered starts′ points′ (record { parts = t .parts + 1; corners = n }) (ps ++ (contourZ (zipped m seen k) ∷ []))
         gathered seen ps h q =
             let new : withoutStraight (contourAt cs′ p) ≡ contourZ (zipped m seen k) = ap withoutStraight (sym (contour-zipper cs′ es′ flags′ p seen (zipped m seen k) (g .sound .ready .corners) (g .sound .placed) (g .holds seen h))) in
-            let whole : flatten (ps ++ (contourZ (zipped m seen k) ∷ [])) ≡ flatten ps ++ withoutStraight (contourAt cs′ p) = flatten-more ps (contourZ (zipped m seen k)) ∙ ap (λ l. flatten ps ++ l) (sym new) in
-            let count : n ≡ length (flatten ps ++ withoutStraight (contourAt cs′ p)) = omega (arith, a .count, q .corners, length-append (flatten ps) (withoutStraight (contourAt cs′ p))) in
-            record {
-              parts = omega (arith, q .parts, length-append ps (contourZ (zipped m seen k) ∷ []));
-              corners = count ∙ sym (ap length whole);
-              begins =
-                  ap (take (t .parts + 1 + 1)) e ∙ ap (λ i. take i (set starts (t .parts + 1) n)) (add-one (t .parts + 1)) ∙ take-suc-set starts (t .parts + 1) n start-room
-                  ∙ (λ i. q .begins i ++ (count i ∷ [])) ∙ ap (λ l. startsOf ps ++ (length (flatten ps ++ l) ∷ [])) new ∙ sym (starts-more ps (contourZ (zipped m seen k)));
-              gathered = a .written ∙ ap (λ l. l ++ withoutStraight (contourAt cs′ p)) (q .gathered) ∙ sym whole;
-            }
+            subst (λ l. Gathered starts′ points′ (record { parts = t .parts + 1; corners = n }) (ps ++ (l ∷ []))) new (part-appended (withoutStraight (contourAt cs′ p)) starts points t start-room a e .gathered ps q)
 
 -- ---- a triangle visited
 

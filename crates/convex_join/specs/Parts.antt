@@ -10,18 +10,10 @@ use Rattle.mesh.specs.Mesh.{Mesh}
 use Rattle.table.specs.Table.{startsOf}
 use Rattle.convex.specs.Joining.{isIn}
 use Rattle.convex.specs.Zipper.{zipped, contourZ}
-use Rattle.convex_join.specs.declared.Tally.{Tally}
+use Rattle.convex_gather.specs.declared.Tally.{Tally}
+use Rattle.convex_gather.specs.Gather.{Gathered}
 use Rattle.convex_ring.specs.Buffers.{free, Marked, Ready}
 use Rattle.convex_contour.specs.Contour.{firstPoints}
-
--- ---- parts gathered
-
--- the first parts in the buffers are ps
-pub record Gathered (starts : List ℕ) (points : List (List ℤ)) (t : Tally) (ps : List (List Pt)) : Type 0 where
-  pub parts : t .parts ≡ length ps
-  pub corners : t .corners ≡ length (flatten ps)
-  pub begins : take (t .parts + 1) starts ≡ startsOf ps
-  pub gathered : firstPoints (t .corners) points ≡ flatten ps
 
 -- each triangle not taken has a place for a start, and three for corners
 pub record Room (m : Mesh) (flags : List Bool) (starts : List ℕ) (points : List (List ℤ)) (t : Tally) : Type 0 where

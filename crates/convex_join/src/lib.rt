@@ -1,6 +1,6 @@
 // Joining triangles into convex parts (advanced/convex.rs, first half): `to_convex_polygons`, with no `requires`. Its answer and both lent buffers
-// equal `partsCounts`, `partsStarts` and `partsCorners` of convex/specs/Joining.antt. The parts are gathered in local buffers and copied to the
-// lent ones once there is room (specs/Parts.antt). Leans on mesh_faults, convex_grow, convex_contour and table.
+// equal `partsCounts`, `partsStarts` and `partsCorners` of convex/specs/Joining.antt. The parts are gathered in local buffers (`gather`, specs/Parts.antt)
+// and handed out once there is room. Leans on mesh_faults, convex_grow, convex_contour and convex_gather.
 ghost use mathlib.Core.Path.{_≡_};
 ghost use mathlib.Core.Bool.{false};
 ghost use mathlib.Core.List.{[]};
@@ -14,23 +14,11 @@ ghost use Rattle.table.specs.Table.{numbersOf};
 ghost use Rattle.convex.specs.Joining.{parts, partsCounts, partsStarts, partsCorners};
 ghost use Rattle.convex_ring.specs.Buffers.{cornerAt, Marked, Ready};
 ghost use Rattle.convex_contour.specs.Contour.{firstPoints};
-ghost use Rattle.convex_join.specs.Parts.{Gathered, Room, Joined, Visited};
+ghost use Rattle.convex_gather.specs.Gather.{Gathered};
+ghost use Rattle.convex_join.specs.Parts.{Room, Joined, Visited};
+use convex_gather::Tally;
 use mesh::NIL_INDEX;
 use table::Counts;
-
-// How many parts and corners are gathered.
-pub struct Tally {
-    pub parts: usize,
-    pub corners: usize,
-}
-
-// Start i.
-fn put_start(starts: &mut [u32], i: usize, n: usize)
-    requires { ⌜ (i < length (now starts)) × (n < 2 ^ 32) ⌝ }
-    ensures { λ r. ⌜ now (starts .exit) ≡ set (now (starts .entry)) i n ⌝ }
-{
-    starts[i] = n as u32;
-}
 
 // The region that starts with triangle k, which is not taken, is gathered.
 fn append_region(
@@ -49,7 +37,7 @@ fn append_region(
     let p = convex_grow::grow(mesh, corners, edges, taken, k);
     let count = convex_contour::append_contour(corners, p, points, t.corners);
     let parts = t.parts + 1;
-    put_start(starts, parts, count);
+    convex_gather::put_start(starts, parts, count);
     Tally {
         parts: parts,
         corners: count,
@@ -101,7 +89,7 @@ fn visit_all(
 }
 
 // The parts of an accepted mesh, in buffers that hold the parts of any.
-fn gather(mesh: &[[i32; 9]], starts: &mut [u32], points: &mut [[i32; 2]]) -> Tally
+pub fn gather(mesh: &[[i32; 9]], starts: &mut [u32], points: &mut [[i32; 2]]) -> Tally
     requires { ⌜ (firstFault (meshKinds (rowsMesh (now mesh))) ≡ 0) × (length (now starts) ≡ 1025) × (length (now points) ≡ 3072) ⌝ }
     ensures { λ r. ⌜ Gathered (now (starts .exit)) (now (points .exit)) r (parts (rowsMesh (now (mesh .entry)))) × (r .parts ≤ 1024) × (r .corners ≤ 3072) ⌝ }
 {
@@ -109,7 +97,7 @@ fn gather(mesh: &[[i32; 9]], starts: &mut [u32], points: &mut [[i32; 2]]) -> Tal
     let mut edges = [[NIL_INDEX; 2]; 1026];
     let mut taken = [false; 1024];
     let n = mesh.len();
-    put_start(starts, 0, 0);
+    convex_gather::put_start(starts, 0, 0);
     visit_all(
         mesh,
         &mut corners,
@@ -118,53 +106,6 @@ fn gather(mesh: &[[i32; 9]], starts: &mut [u32], points: &mut [[i32; 2]]) -> Tal
         starts,
         points,
     )
-}
-
-// The first n starts, on the front of the lent ones.
-fn copy_starts(from: &[u32], n: usize, to: &mut [u32])
-    requires { ⌜ (n ≤ length (now from)) × (n ≤ length (now to)) ⌝ }
-    ensures { λ r. ⌜ now (to .exit) ≡ overlay (take n (now (from .entry))) (now (to .entry)) ⌝ }
-{
-    let mut i: usize = 0;
-    while i < n {
-        let x = from[i];
-        to[i] = x;
-        i += 1;
-    }
-}
-
-// Point i as two numbers.
-fn put_pair(points: &[[i32; 2]], i: usize, to: &mut [i32])
-    requires { ⌜ (i < length (now points)) × (2 * i + 1 < length (now to)) ⌝ }
-    ensures { λ r. ⌜ now (to .exit) ≡ set (set (now (to .entry)) (2 * i) (cornerAt (now (points .entry)) i .x)) (2 * i + 1) (cornerAt (now (points .entry)) i .y) ⌝ }
-{
-    let c = points[i];
-    let at = 2 * i;
-    to[at] = c[0];
-    to[at + 1] = c[1];
-}
-
-// The first n points as numbers, x and y in turn, on the front of the lent ones.
-fn copy_points(points: &[[i32; 2]], n: usize, to: &mut [i32])
-    requires { ⌜ (n ≤ length (now points)) × (2 * n ≤ length (now to)) ⌝ }
-    ensures { λ r. ⌜ now (to .exit) ≡ overlay (numbersOf (firstPoints n (now (points .entry)))) (now (to .entry)) ⌝ }
-{
-    let mut i: usize = 0;
-    while i < n {
-        put_pair(points, i, to);
-        i += 1;
-    }
-}
-
-// A refusal: its number and zero counts.
-fn refusal(fault: u32) -> Counts
-    ensures { λ r. ⌜ r ≡ record { fault = fault; parts = 0; corners = 0 } ⌝ }
-{
-    Counts {
-        fault: fault,
-        parts: 0,
-        corners: 0,
-    }
 }
 
 // The convex parts of a mesh, joined from its triangles: starts and corners (x, y in turn) on the front of the lent buffers. A refusal (1, 2, 3, 4, 5,
@@ -176,24 +117,10 @@ pub fn to_convex_polygons(mesh: &[[i32; 9]], starts: &mut [u32], corners: &mut [
 {
     let fault = mesh_faults::mesh_fault(mesh);
     if fault != 0 {
-        return refusal(fault);
+        return convex_gather::refusal(fault);
     }
     let mut begins = [0u32; 1025];
     let mut points = [[0i32; 2]; 3072];
     let t = gather(mesh, &mut begins, &mut points);
-    let parts = t.parts;
-    let count = t.corners;
-    if starts.len() < parts + 1 {
-        return refusal(table::FAULT_START_ROOM);
-    }
-    if corners.len() / 2 < count {
-        return refusal(table::FAULT_CORNER_ROOM);
-    }
-    copy_starts(&begins, parts + 1, starts);
-    copy_points(&points, count, corners);
-    Counts {
-        fault: 0,
-        parts: parts as u32,
-        corners: count as u32,
-    }
+    convex_gather::hand_out(&begins, &points, t, starts, corners)
 }

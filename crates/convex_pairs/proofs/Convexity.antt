@@ -10,11 +10,11 @@ use native.Mathlib.Omega.{arith}
 use lib.ListN.{length, take, drop}
 use lib.IntN.{pos}
 use lib.Signed.{_≤ℤ_, _<ℤ_, ≤ℤ-refl}
-use Rattle.integers.specs.Lists.{All, sumℕ, rotate, links, neighbours}
+use Rattle.integers.specs.Lists.{All, rotate, links, neighbours}
 use Rattle.integers.proofs.Ring.{con, _:≡_, _:≡ᵖ_, pt, ring, ringᵖ}
-use Rattle.integers.proofs.Order.{zarith, <-≤}
+use Rattle.integers.proofs.Order.{<-≤}
 use Rattle.integers.proofs.Signs.{pos-add, pos-is, nn-is}
-use Rattle.integers.proofs.Tests.{<-ltZ, ≤-leZ, ltZ-<}
+use Rattle.integers.proofs.Tests.{<-ltZ, ≤-leZ}
 use Rattle.integers.proofs.Elements.{all-map, all-map2}
 use Rattle.integers.proofs.Rotation.{rotate-at, rotate-back}
 use Rattle.plane.specs.Plane.{Pt, O, _+ᵖ_, _-ᵖ_, cross, areaTwo}
@@ -25,7 +25,7 @@ use Rattle.plane.proofs.Contours.{contour-triangle, contour-insert}
 use Rattle.plane.proofs.Directions.{Up, Lt, lt-trans, lt-in-half, lower-up, nz-of-up}
 use Rattle.convex.specs.Joining.{joins}
 use Rattle.convex.proofs.Round.{Round, round-triangle, round-join}
-use Rattle.convex.proofs.Parts.{StrictlyConvex}
+use Rattle.convex.proofs.Parts.{StrictlyConvex, convex-three}
 use Rattle.pair.specs.Walk.{leastAt, cornerAt}
 use Rattle.pair.specs.Premise.{turns, left, descent, roundBy, strictlyConvex}
 use Rattle.pair.specs.Demand.{sumᵖ}
@@ -124,27 +124,13 @@ convex-triples (p ∷ t) h =
     least-triples (cornerAt l s) (drop (suc s) l ++ take s l) (subst (λ r. Convex (edges r)) at c) (subst (λ r. Sorted Lt (edges r)) at (sharp-ascends l h s k least)) in
     subst Triples (rotate-back s l (omega arith)) (triples-rotate (length l - s) (rotate s l) (subst Triples (sym at) w))
 
--- one corner, or two, with no turn above 0
-convex-long : (l : List Pt) → StrictlyConvex l → 3 ≤ length l
-unfolding edges neighbours links sumℕ
-convex-long [] s = absurd (omega (arith, s .once))
-convex-long (a ∷ []) s = absurd (omega (zarith, ltZ-< (pos 0) (cross (a -ᵖ a) (a -ᵖ a)) (s .left .0), none a))
-  where
-    none : (a : Pt) → cross (a -ᵖ a) (a -ᵖ a) ≡ pos 0
-    none = ring (pt ∷ []) (λ a. crossE (a -E a) (a -E a) :≡ con (pos 0)) tt
-convex-long (a ∷ b ∷ []) s = absurd (omega (zarith, ltZ-< (pos 0) (cross (b -ᵖ a) (a -ᵖ b)) (s .left .0), none a b))
-  where
-    none : (a b : Pt) → cross (b -ᵖ a) (a -ᵖ b) ≡ pos 0
-    none = ring (pt ∷ pt ∷ []) (λ a b. crossE (b -E a) (a -E b) :≡ con (pos 0)) tt
-convex-long (a ∷ b ∷ c ∷ l) s = omega arith
-
 -- joining's words and demand 3's are the same tests
 pub convex-test : (l : List Pt) → StrictlyConvex l → strictlyConvex l ≡ true
 unfolding strictlyConvex roundBy left descent
 convex-test l s = rw (pass-all left (turns l) (s .left), count-sum descent (turns l) ∙ s .once)
 
 pub convex-polygon : (l : List Pt) → StrictlyConvex l → Polygon l
-convex-polygon l s = record { long = convex-long l s; triples = convex-triples l (convex-test l s) }
+convex-polygon l s = record { long = convex-three l s; triples = convex-triples l (convex-test l s) }
 
 -- ---- the doubled area
 

@@ -4,3 +4,4 @@ pub mod Sectors
 pub mod Chords
 pub mod Radial
 pub mod Areas
+pub mod Sizes

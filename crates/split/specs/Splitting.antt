@@ -2,18 +2,18 @@
 use mathlib.Core.Path.{_≡_}
 use mathlib.Core.Bool.{Bool, true, false, cond}
 use mathlib.Core.List.{List, [], _∷_, _++_, map, flatten}
-use Prim.Native.Nat.{ℕ, zero, suc, _+_, _*_, _-_, _/_, _%_, max}
+use Prim.Native.Nat.{ℕ, zero, suc, _+_, _*_, _-_, _/_, _%_, _≤_, max}
 use lib.Dec.{eqb, leb, ltb}
 use lib.ListN.{length, getD, take, drop}
 use lib.IntN.{ℤ, pos, negsuc, negℤ, natAbs, _+ℤ_, _*ℤ_}
 use lib.Signed.{ltZ}
-use Rattle.integers.specs.Lists.{sumℤ, neighbours}
+use Rattle.integers.specs.Lists.{All, sumℤ, neighbours}
 use Rattle.integers.specs.Faults.{firstFault}
 use Rattle.plane.specs.Plane.{Pt, O, _+ᵖ_, _-ᵖ_, cross, areaTwo}
 use Rattle.plane.specs.Contour.{contourArea}
 use Rattle.mesh.specs.Mesh.{Mesh, meshKinds, meshArea}
 use Rattle.table.specs.declared.Counts.{Counts}
-use Rattle.table.specs.Table.{roomKinds, countsOf, written, startsOf, cornersOf}
+use Rattle.table.specs.Table.{roomKinds, countsOf, written, startsOf, cornersOf, tableBroken}
 use Rattle.convex.specs.Joining.{parts}
 use Rattle.split.specs.declared.ConvexSplitStrategy.{ConvexSplitStrategy}
 use Rattle.split.specs.declared.ConvexSplitStrategy.the-variants.{EarClipping, Fan, Centroid}
@@ -159,3 +159,20 @@ splitCorners how m mesh s c = written (splitFault how m mesh (length s) (length 
 abbrev pub SplitKeepsArea : Type 0
 SplitKeepsArea =
     (how : ConvexSplitStrategy) (m : ℕ) (mesh : Mesh) → firstFault (meshKinds mesh) ≡ 0 → sumℤ (map contourArea (splitParts how m mesh)) ≡ meshArea mesh
+
+-- ---- how many
+
+-- each part has from 3 corners to the limit
+pub record SplitSized (how : ConvexSplitStrategy) (m : ℕ) (mesh : Mesh) : Type 0 where
+  pub sizes : All (λ p. (3 ≤ length p) × (length p ≤ raised m)) (splitParts how m mesh)
+  pub few-parts : length (splitParts how m mesh) ≤ 2048
+  pub few-corners : length (flatten (splitParts how m mesh)) ≤ 6144
+  pub table : tableBroken (startsOf (splitParts how m mesh)) (cornersOf (splitParts how m mesh)) ≡ false
+
+-- and the answer is a part table within the limits: 7 never refuses it
+abbrev pub SplitTable : Type 0
+SplitTable = (how : ConvexSplitStrategy) (m : ℕ) (mesh : Mesh) → firstFault (meshKinds mesh) ≡ 0 → SplitSized how m mesh
+
+-- "With n corners .., ear clipping and fan make ceil((n−2)/(m−2)) parts"
+abbrev pub SplitCount : Type 0
+SplitCount = (m : ℕ) (l : List Pt) → 3 ≤ length l → (length (earParts m l) ≡ ceilDiv (length l - 2) (m - 2)) × (length (fanParts m l) ≡ ceilDiv (length l - 2) (m - 2))

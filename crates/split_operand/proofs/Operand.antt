@@ -23,6 +23,7 @@ use Rattle.pair.specs.Walk.{windingLeaves}
 use Rattle.split.specs.declared.ConvexSplitStrategy.{ConvexSplitStrategy}
 use Rattle.split.specs.Splitting.{splitParts}
 use Rattle.split.proofs.Areas.{split-areas}
+use Rattle.split.proofs.Sizes.{split-table}
 use Rattle.minkowski.specs.Pairs.{someWindingLeaves}
 use Rattle.split_pairs.proofs.Joined.{areas-fit}
 use Rattle.split_pairs.proofs.Theorem.{split-polygons, split-on-grid}
@@ -57,12 +58,12 @@ none-leaves reflected (p ∷ ps) h = rw (h .0) (none-leaves reflected ps (h .1))
 
 pub split-is-operand : SplitIsOperand
 unfolding cornersOf
-split-is-operand how m mesh b h k =
+split-is-operand how m mesh b h range around =
     let ps : List (List Pt) = splitParts how m mesh in
     record {
-      table = k .table;
-      range = numbers-range (flatten ps) (boundsList b) (all-flatten (λ p. onGrid p ≡ true) ps .1 (split-on-grid how m mesh h)) (k .range);
-      bounds = ap (boundsBroken b) (points-numbers (flatten ps)) ∙ k .around;
+      table = split-table how m mesh h .table;
+      range = numbers-range (flatten ps) (boundsList b) (all-flatten (λ p. onGrid p ≡ true) ps .1 (split-on-grid how m mesh h)) range;
+      bounds = ap (boundsBroken b) (points-numbers (flatten ps)) ∙ around;
       windings = λ reflected. ap (someWindingLeaves reflected) (parts-table ps)
           ∙ none-leaves reflected ps (all-map2 ps (λ l p f. winding-stays reflected l p f) (split-polygons how m mesh h) (split-fits how m mesh h));
     }

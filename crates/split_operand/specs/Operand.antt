@@ -23,15 +23,11 @@ pub record Unfaulted (o : Operand) : Type 0 where
   pub bounds : boundsBroken (o .bounds) (pointsOf (o .corners)) ≡ false
   pub windings : (reflected : Bool) → someWindingLeaves reflected (operandParts o) ≡ false
 
--- what is asked of bounds b for them: in range, and no part outside
-pub record Bounding (how : ConvexSplitStrategy) (m : ℕ) (mesh : Mesh) (b : IntRect) : Type 0 where
-  pub table : tableBroken (startsOf (splitParts how m mesh)) (cornersOf (splitParts how m mesh)) ≡ false
-  pub range : offRange (boundsList b) ≡ false
-  pub around : boundsBroken b (flatten (splitParts how m mesh)) ≡ false
-
+-- with bounds in range that hold their corners
 abbrev pub SplitIsOperand : Type 0
 SplitIsOperand =
-    (how : ConvexSplitStrategy) (m : ℕ) (mesh : Mesh) (b : IntRect) → firstFault (meshKinds mesh) ≡ 0 → Bounding how m mesh b → Unfaulted (splitOperand how m mesh b)
+    (how : ConvexSplitStrategy) (m : ℕ) (mesh : Mesh) (b : IntRect) → firstFault (meshKinds mesh) ≡ 0 → offRange (boundsList b) ≡ false → boundsBroken b (flatten (splitParts how m mesh)) ≡ false →
+    Unfaulted (splitOperand how m mesh b)
 
 -- so of two such operands only the result's bounds (10) and an operand without parts (20) are refused
 abbrev pub SplitPairs : Type 0

@@ -3,9 +3,8 @@
 use mathlib.Core.Path.{_≡_, sym, subst}
 use mathlib.Core.Bool.{true}
 use mathlib.Core.List.{List, [], _∷_, _++_, append-assoc}
-use Prim.Native.Nat.{ℕ, zero, suc, _+_, _-_, _/_, _≤_, _<_}
+use Prim.Native.Nat.{ℕ, zero, suc, _+_, _-_, _≤_, _<_}
 use native.Mathlib.Omega.{arith}
-use native.Mathlib.Nat.{le-div-iff-mul-le}
 use native.Mathlib.Numerals.{add-one}
 use borrow.Author.Tests.{eqb-false}
 use lib.Dec.{eqb}
@@ -24,8 +23,9 @@ use Rattle.plane.proofs.Vectors.{area-cycle}
 use Rattle.pair.proofs.Convex.{Sorted}
 use Rattle.convex_pairs.proofs.Triples.{Left, Triples, Bends, triples-fan}
 use Rattle.convex_pairs.proofs.Convexity.{Polygon, bends-front, triples-bends}
-use Rattle.split.specs.Splitting.{leftOfAll, taking, edgesTaken, groupParts, sectors, shares, centroidParts}
+use Rattle.split.specs.Splitting.{leftOfAll, taking, edgesTaken, groupParts, sectors, ceilDiv, shares, centroidParts}
 use Rattle.split.proofs.Shares.{sum-shares}
+use Rattle.split.proofs.Sizes.{ceil-pos}
 use Rattle.split.proofs.Sectors.{edgesTaken-le}
 
 -- ---- the way from corner to corner, seen from g
@@ -146,8 +146,7 @@ around-contour g c (a ∷ b ∷ l) p h = (
 
 pub centroid-polygons : (m : ℕ) (g c : Pt) (l : List Pt) → 3 ≤ m → Polygon (c ∷ l) → leftOfAll g (neighbours (c ∷ l)) ≡ true → All Polygon (centroidParts m g c (c ∷ l))
 centroid-polygons m g c l h p t =
-    let k : ℕ = (suc (length l) + (m - 2 - 1)) / (m - 2) in
-    let some : 0 < (suc (length l) + (m - 2 - 1)) / (m - 2) = le-div-iff-mul-le {k = m - 2} {x = 1} {y = suc (length l) + (m - 2 - 1)} (omega arith) .1 (omega arith) in
-    let all : sumℕ (shares (suc (length l)) k) ≡ suc (length l) = sum-shares (suc (length l)) k some in
+    let k : ℕ = ceilDiv (suc (length l)) (m - 2) in
+    let all : sumℕ (shares (suc (length l)) k) ≡ suc (length l) = sum-shares (suc (length l)) k (ceil-pos (suc (length l)) (m - 2) (omega arith) (omega arith)) in
     let size : length (c ∷ l ++ (c ∷ [])) ≡ suc (length l) + 1 = length-append (c ∷ l) (c ∷ []) in
     sector-polygons (shares (suc (length l)) k) g (c ∷ l ++ (c ∷ [])) (omega (arith, all, size)) (around-contour g c l p t)

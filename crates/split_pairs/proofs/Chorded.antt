@@ -1,9 +1,8 @@
--- Ear clipping and fan cut a polygon into polygons (`ear-polygons`, `fan-polygons`). In order: groups of at least one; ear clipping; fan. Assumes nothing.
+-- Ear clipping and fan cut a polygon into polygons (`ear-polygons`, `fan-polygons`). In order: the shares; ear clipping; fan. Assumes nothing.
 use mathlib.Core.Path.{_≡_, sym, subst}
 use mathlib.Core.List.{List, [], _∷_, _++_}
-use Prim.Native.Nat.{ℕ, zero, suc, _+_, _*_, _-_, _/_, _≤_, _<_}
+use Prim.Native.Nat.{ℕ, suc, _+_, _-_, _≤_, _<_}
 use native.Mathlib.Omega.{arith}
-use native.Mathlib.Nat.{le-div-iff-mul-le, div-lt-iff-lt-mul}
 use native.Mathlib.Numerals.{add-one}
 use lib.ListN.{length, take, drop, length-append, length-drop, length-take}
 use lib.Seq.{length-take-le, drop-nil}
@@ -11,39 +10,19 @@ use Rattle.integers.specs.Lists.{All, sumℕ}
 use Rattle.plane.specs.Plane.{Pt}
 use Rattle.convex_pairs.proofs.Triples.{Triples, triples-take, triples-after, triples-cycle}
 use Rattle.convex_pairs.proofs.Convexity.{Polygon}
-use Rattle.split.specs.Splitting.{ceilDiv, sharesFrom, shares, triangleShares, clipped, earParts, fanned, fanParts}
+use Rattle.split.specs.Splitting.{ceilDiv, triangleShares, clipped, earParts, fanned, fanParts}
+use Rattle.integers.proofs.Elements.{all-map}
 use Rattle.split.proofs.Shares.{sum-shares}
+use Rattle.split.proofs.Sizes.{ceil-pos, shares-bound}
 
--- ---- groups of at least one
+-- ---- the shares
 
--- a / b of at least b is at least 1
-div-some : (a b : ℕ) → 0 < b → b ≤ a → 0 < a / b
-div-some a b h k = le-div-iff-mul-le {k = b} {x = 1} {y = a} h .1 (omega arith)
-
--- no more groups than things
-shares-some : (n k : ℕ) → 0 < k → k ≤ n → All (λ s. 0 < s) (shares n k)
-unfolding sharesFrom
-shares-some n k h l = from 0 k
-  where
-    from : (i j : ℕ) → All (λ s. 0 < s) (sharesFrom n k i j)
-    from i zero = tt
-    from i (suc j) = (let d : 0 < n / k = div-some n k h l in omega arith, from (suc i) j)
-
--- a ≤ a b
-times-some : (a b : ℕ) → 0 < b → a ≤ a * b
-times-some a zero h = absurd (omega arith)
-times-some a (suc b) h = omega arith
-
--- a / b rounded up is no more than a: a + b − 1 < (a + 1) b
-ceil-few : (a b : ℕ) → 0 < b → ceilDiv a b ≤ a
-ceil-few a b h =
-    let k : (a + (b - 1)) / b < suc a = div-lt-iff-lt-mul {k = b} {x = a + (b - 1)} {y = suc a} h .1 (omega (arith, times-some a b h)) in omega arith
-
--- n corners, more than 2, for a limit of at least 3
+-- n corners, three or more, for a limit of at least 3: a triangle or more in each share, n − 2 in all
 triangle-shares : (n m : ℕ) → 3 ≤ n → 3 ≤ m → All (λ s. 0 < s) (triangleShares n m) × (sumℕ (triangleShares n m) + 2 ≡ n)
-triangle-shares n m h k =
-    let some : 0 < ceilDiv (n - 2) (m - 2) = div-some (n - 2 + (m - 2 - 1)) (m - 2) (omega arith) (omega arith) in
-    (shares-some (n - 2) (ceilDiv (n - 2) (m - 2)) some (ceil-few (n - 2) (m - 2) (omega arith)), omega (arith, sum-shares (n - 2) (ceilDiv (n - 2) (m - 2)) some))
+triangle-shares n m h k = (
+  all-map (triangleShares n m) (λ s b. omega (arith, b .0)) (shares-bound (n - 2) (m - 2) (omega arith) (omega arith)),
+  omega (arith, sum-shares (n - 2) (ceilDiv (n - 2) (m - 2)) (ceil-pos (n - 2) (m - 2) (omega arith) (omega arith))),
+)
 
 -- ---- ear clipping
 

@@ -1,4 +1,4 @@
--- `convex_join::copy_points` meets its contract. Assumes nothing.
+-- `convex_gather::copy_points` meets its contract. Assumes nothing.
 use mathlib.Core.Path.{_≡_, refl, sym, _∙_, ap}
 use Prim.Native.Nat.{_-_, _≤_}
 use native.Mathlib.Omega.{arith}
@@ -7,9 +7,9 @@ use Rattle.integers.specs.Lists.{overlay}
 use Rattle.integers.proofs.Overlay.{overlay-nil}
 use Rattle.table.specs.Table.{numbersOf}
 use Rattle.convex_contour.specs.Contour.{firstPoints}
-use Rattle.convex_join.proofs.Answer.{points-turn}
-use Rattle.convex_join.proofs.copy_points.Statement.{statement}
-use Rattle.convex_join.proofs.copy_points.Tie as tie
+use Rattle.convex_gather.proofs.Answer.{points-turn}
+use Rattle.convex_gather.proofs.copy_points.Statement.{statement}
+use Rattle.convex_gather.proofs.copy_points.Tie as tie
 
 abbrev Inv-loop : tie.InvT-loop
 Inv-loop points n to₀ i₀ to i = (i ≤ n) × (length to ≡ length to₀) × (to ≡ overlay (numbersOf (firstPoints i points)) to₀)

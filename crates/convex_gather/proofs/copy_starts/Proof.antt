@@ -1,4 +1,4 @@
--- `convex_join::copy_starts` meets its contract. Assumes nothing.
+-- `convex_gather::copy_starts` meets its contract. Assumes nothing.
 use mathlib.Core.Path.{_≡_, refl, sym, _∙_, ap}
 use Prim.Native.Nat.{_-_, _≤_, _<_}
 use native.Mathlib.Omega.{arith}
@@ -6,9 +6,9 @@ use borrow.Author.Needs.{needs}
 use lib.ListN.{length, take, length-set}
 use Rattle.integers.specs.Lists.{overlay}
 use Rattle.integers.proofs.Overlay.{overlay-nil}
-use Rattle.convex_join.proofs.Answer.{starts-turn}
-use Rattle.convex_join.proofs.copy_starts.Statement.{statement}
-use Rattle.convex_join.proofs.copy_starts.Tie as tie
+use Rattle.convex_gather.proofs.Answer.{starts-turn}
+use Rattle.convex_gather.proofs.copy_starts.Statement.{statement}
+use Rattle.convex_gather.proofs.copy_starts.Tie as tie
 
 abbrev Inv-loop : tie.InvT-loop
 Inv-loop from n to₀ i₀ to i = (i ≤ n) × (length to ≡ length to₀) × (to ≡ overlay (take i from) to₀)

@@ -1,0 +1,3 @@
+-- Parts gathered, and handed out.
+pub mod Gathering
+pub mod Answer

@@ -1,0 +1,69 @@
+-- `convex_gather::hand_out` meets its contract: each refusal and the answer, by the laws of Answer. Assumes nothing.
+use borrow.Author.Needs.{needs}
+use Rattle.convex_gather.proofs.Answer.{starts-refused, corners-refused, handed}
+use Rattle.convex_gather.proofs.hand_out.Statement.{statement}
+use Rattle.convex_gather.proofs.hand_out.Tie as tie
+
+add-if1 : tie.Need-add-if1
+add-if1 c = search needs
+
+refusal-requires : tie.Need-refusal-requires
+refusal-requires c κs = search needs
+
+returns : tie.Need-returns
+returns c =
+    let g = c .before .before .before .before .args in
+    starts-refused (g .begins .now) (g .points .now) (g .t) (g .starts .now) (g .corners .now) (c .before .if1 .taken) (c .refusal .ensures)
+
+refusal-requires-2 : tie.Need-refusal-requires-2
+refusal-requires-2 c κs = search needs
+
+returns-2 : tie.Need-returns-2
+returns-2 c =
+    let g = c .before .before .before .before .before .args in
+    corners-refused (g .begins .now) (g .points .now) (g .t) (g .starts .now) (g .corners .now) (c .before .before .if1 .left) (c .before .if2 .taken) (c .refusal2 .ensures)
+
+add-copy-starts : tie.Need-add-copy-starts
+add-copy-starts c = search needs
+
+copy-starts-requires : tie.Need-copy-starts-requires
+copy-starts-requires c κs = search needs
+
+copy-points-requires : tie.Need-copy-points-requires
+copy-points-requires c κs = search needs
+
+cast-t16 : tie.Need-cast-t16
+cast-t16 c = search needs
+
+cast-t17 : tie.Need-cast-t17
+cast-t17 c = search needs
+
+same-length : tie.Need-same-length
+same-length c = search needs
+
+same-length-2 : tie.Need-same-length-2
+same-length-2 c = search needs
+
+returns-3 : tie.Need-returns-3
+returns-3 c =
+    let s = c .before .before .before .before .before .before .before .before .before .before .before in
+    let g = s .args in
+    handed (g .begins .now) (g .points .now) (g .t) (g .starts .now) (g .corners .now) (c .before .before .before .before .before .before .before .before .if1 .left) (c .before .before .before .before .before .before .before .if2 .left) (c .before .before .before .before .before .copy-starts .ensures) (c .before .copy-points .ensures)
+
+pub hand-out-spec : {M : Type 1} → statement M
+hand-out-spec =
+    tie.close
+    (tie.spec
+    add-if1
+    refusal-requires
+    returns
+    refusal-requires-2
+    returns-2
+    add-copy-starts
+    copy-starts-requires
+    copy-points-requires
+    cast-t16
+    cast-t17
+    same-length
+    same-length-2
+    returns-3)

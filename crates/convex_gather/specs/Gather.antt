@@ -1,0 +1,53 @@
+-- Work buffers that parts are gathered in, one after another (`Gathered`); parts appended to them (`RoomFor`, `PartsAppended`); the parts handed out
+-- to lent buffers (`HandedOut`). Assumes nothing.
+use mathlib.Core.Path.{_≡_}
+use mathlib.Core.List.{List, [], _∷_, _++_, map, flatten}
+use Prim.Native.Nat.{ℕ, _+_, _≤_, _<_, _^_}
+use lib.ListN.{length, take}
+use lib.IntN.{ℤ}
+use Rattle.integers.specs.Faults.{firstFault}
+use Rattle.plane.specs.Plane.{Pt}
+use Rattle.table.specs.declared.Counts.{Counts}
+use Rattle.table.specs.Table.{startsOf, cornersOf, roomKinds, countsOf, written}
+use Rattle.convex_ring.specs.Buffers.{cornerOf}
+use Rattle.convex_contour.specs.Contour.{firstPoints}
+use Rattle.convex_gather.specs.declared.Tally.{Tally}
+
+-- the corners of a whole buffer
+abbrev pub cornersIn : List (List ℤ) → List Pt
+cornersIn points = map cornerOf points
+
+-- the first parts in the buffers are ps
+pub record Gathered (starts : List ℕ) (points : List (List ℤ)) (t : Tally) (ps : List (List Pt)) : Type 0 where
+  pub parts : t .parts ≡ length ps
+  pub corners : t .corners ≡ length (flatten ps)
+  pub begins : take (t .parts + 1) starts ≡ startsOf ps
+  pub gathered : firstPoints (t .corners) points ≡ flatten ps
+
+-- ---- parts appended
+
+-- there is room for the parts qs after those gathered, and every place has a number of 32 bits
+pub record RoomFor (starts : List ℕ) (points : List (List ℤ)) (t : Tally) (qs : List (List Pt)) : Type 0 where
+  pub for-starts : t .parts + length qs < length starts
+  pub for-points : t .corners + length (flatten qs) ≤ length points
+  pub small : length points < 2 ^ 32
+
+-- the parts qs were appended
+pub record PartsAppended (qs : List (List Pt)) (starts : List ℕ) (points : List (List ℤ)) (t : Tally) (starts′ : List ℕ) (points′ : List (List ℤ)) (t′ : Tally) : Type 0 where
+  pub starts-size : length starts′ ≡ length starts
+  pub points-size : length points′ ≡ length points
+  pub parts : t′ .parts ≡ t .parts + length qs
+  pub corners : t′ .corners ≡ t .corners + length (flatten qs)
+  pub gathered : (ps : List (List Pt)) → Gathered starts points t ps → Gathered starts′ points′ t′ (ps ++ qs)
+
+-- ---- parts handed out to lent starts and corners, which held s and c
+
+-- what a call with the fault number f answers and leaves there
+pub record Answered (f : ℕ) (ps : List (List Pt)) (s : List ℕ) (c : List ℤ) (r : Counts) (s′ : List ℕ) (c′ : List ℤ) : Type 0 where
+  pub counts : r ≡ countsOf f ps
+  pub starts : s′ ≡ written f (startsOf ps) s
+  pub corners : c′ ≡ written f (cornersOf ps) c
+
+-- whatever parts are gathered: 22 and 21 are told of them, or they are written
+pub record HandedOut (starts : List ℕ) (points : List (List ℤ)) (t : Tally) (s : List ℕ) (c : List ℤ) (r : Counts) (s′ : List ℕ) (c′ : List ℤ) : Type 0 where
+  pub answer : (ps : List (List Pt)) → Gathered starts points t ps → Answered (firstFault (roomKinds ps (length s) (length c))) ps s c r s′ c′

@@ -1,0 +1,2 @@
+-- What the contracts cite: parts gathered in work buffers, and handed out.
+pub mod Gather
