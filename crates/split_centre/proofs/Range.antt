@@ -1,0 +1,156 @@
+-- Where the centre lies. In order: the moment of edges between bounds is between twice the bounds by the doubled area (`moment-least`, `moment-most`);
+-- seen from another point the doubled area is the same (`area-seen`); the centre is on the grid (`centre-on-grid`). Assumes nothing.
+use mathlib.Core.Path.{_≡_, refl, sym, _∙_, ap, subst}
+use mathlib.Core.Bool.{Bool, true, false, cond}
+use mathlib.Core.List.{List, [], _∷_, map}
+use Prim.Native.Nat.{ℕ, suc, _+_, _*_, _≤_, _<_}
+use native.Mathlib.Omega.{arith}
+use lib.IntN.{ℤ, pos, negsuc, natAbs, _+ℤ_, _-ℤ_, _*ℤ_}
+use lib.Signed.{_≤ℤ_, _<ℤ_, leZ, ltZ}
+use Rattle.integers.specs.Lists.{All, sumℤ, neighbours}
+use Rattle.integers.proofs.Ring.{con, _:+_, _:-_, _:*_, int, nat}
+use Rattle.integers.proofs.Order.{zarith, add-parts, sub-parts, ≤-trans, sub-of-≤}
+use Rattle.integers.proofs.Arith.{_:≤_, _:<_, _:=_, _:∧_, _⇒_, :⊥, arithℤ}
+use Rattle.integers.proofs.Signs.{nn-mul}
+use Rattle.integers.proofs.Tests.{leZ-≤, ltZ-<, <-leZ, <-ltZ}
+use Rattle.integers.proofs.Sizes.{abs-parts}
+use Rattle.integers.proofs.Elements.{all-map, all-image}
+use Rattle.integers.proofs.Neighbours.{all-neighbours}
+use Rattle.plane.specs.Plane.{Pt, O, inRange, onGrid, _-ᵖ_, negᵖ, cross}
+use Rattle.plane.specs.Contour.{contourArea}
+use Rattle.plane.specs.Machine.{Coordinate}
+use Rattle.plane.proofs.Size.{on-grid-both}
+use Rattle.plane.proofs.Contours.{contour-shift}
+use Rattle.split.specs.Splitting.{rounded, momentX, momentY, seenFrom, centreOf}
+use Rattle.split_centre.specs.Centre.{Summable}
+use Rattle.split_centre.proofs.Rounding.{rounded-most, rounded-least}
+
+-- ---- the sums over edges
+
+abbrev pub areaOf : List (Pt × Pt) → ℤ
+areaOf m = sumℤ (map (λ e. cross (e .0) (e .1)) m)
+
+-- f is a coordinate
+abbrev pub momentOf : (Pt → ℤ) → List (Pt × Pt) → ℤ
+momentOf f m = sumℤ (map (λ e. (f (e .0) +ℤ f (e .1)) *ℤ cross (e .0) (e .1)) m)
+
+abbrev pub Wedges : List (Pt × Pt) → Type 0
+Wedges m = All (λ e. leZ (pos 0) (cross (e .0) (e .1)) ≡ true) m
+
+-- 2 k (w + A) ≤ (a + b) w + M where k ≤ a, k ≤ b, 2 k A ≤ M
+least-turn : (k a b w A M : ℤ) → pos 0 ≤ℤ (w *ℤ (a -ℤ k)) → pos 0 ≤ℤ (w *ℤ (b -ℤ k)) → ((k +ℤ k) *ℤ A) ≤ℤ M → ((k +ℤ k) *ℤ (w +ℤ A)) ≤ℤ ((a +ℤ b) *ℤ w +ℤ M)
+least-turn = arithℤ (int ∷ int ∷ int ∷ int ∷ int ∷ int ∷ []) (λ k a b w A M. con (pos 0) :≤ w :* (a :- k) ⇒ con (pos 0) :≤ w :* (b :- k) ⇒ (k :+ k) :* A :≤ M ⇒ (k :+ k) :* (w :+ A) :≤ (a :+ b) :* w :+ M) (omega arith)
+
+most-turn : (k a b w A M : ℤ) → pos 0 ≤ℤ (w *ℤ (k -ℤ a)) → pos 0 ≤ℤ (w *ℤ (k -ℤ b)) → M ≤ℤ ((k +ℤ k) *ℤ A) → ((a +ℤ b) *ℤ w +ℤ M) ≤ℤ ((k +ℤ k) *ℤ (w +ℤ A))
+most-turn = arithℤ (int ∷ int ∷ int ∷ int ∷ int ∷ int ∷ []) (λ k a b w A M. con (pos 0) :≤ w :* (k :- a) ⇒ con (pos 0) :≤ w :* (k :- b) ⇒ M :≤ (k :+ k) :* A ⇒ (a :+ b) :* w :+ M :≤ (k :+ k) :* (w :+ A)) (omega arith)
+
+none-least : (k : ℤ) → ((k +ℤ k) *ℤ pos 0) ≤ℤ pos 0
+none-least = arithℤ (int ∷ []) (λ k. (k :+ k) :* con (pos 0) :≤ con (pos 0)) (omega arith)
+
+none-most : (k : ℤ) → pos 0 ≤ℤ ((k +ℤ k) *ℤ pos 0)
+none-most = arithℤ (int ∷ []) (λ k. con (pos 0) :≤ (k :+ k) :* con (pos 0)) (omega arith)
+
+module _ (f : Pt → ℤ) (k : ℤ) where
+  pub moment-least : (m : List (Pt × Pt)) → Wedges m → All (λ e. (k ≤ℤ f (e .0)) × (k ≤ℤ f (e .1))) m → ((k +ℤ k) *ℤ areaOf m) ≤ℤ momentOf f m
+  unfolding sumℤ
+  moment-least [] w h = none-least k
+  moment-least (e ∷ m) w h =
+      let p : pos 0 ≤ℤ cross (e .0) (e .1) = leZ-≤ (pos 0) (cross (e .0) (e .1)) (w .0) in
+      least-turn k (f (e .0)) (f (e .1)) (cross (e .0) (e .1)) (areaOf m) (momentOf f m)
+      (nn-mul p (sub-of-≤ (h .0 .0))) (nn-mul p (sub-of-≤ (h .0 .1))) (moment-least m (w .1) (h .1))
+
+  pub moment-most : (m : List (Pt × Pt)) → Wedges m → All (λ e. (f (e .0) ≤ℤ k) × (f (e .1) ≤ℤ k)) m → momentOf f m ≤ℤ ((k +ℤ k) *ℤ areaOf m)
+  unfolding sumℤ
+  moment-most [] w h = none-most k
+  moment-most (e ∷ m) w h =
+      let p : pos 0 ≤ℤ cross (e .0) (e .1) = leZ-≤ (pos 0) (cross (e .0) (e .1)) (w .0) in
+      most-turn k (f (e .0)) (f (e .1)) (cross (e .0) (e .1)) (areaOf m) (momentOf f m)
+      (nn-mul p (sub-of-≤ (h .0 .0))) (nn-mul p (sub-of-≤ (h .0 .1))) (moment-most m (w .1) (h .1))
+
+-- ---- seen from the first corner
+
+pub area-seen : (c : Pt) (l : List Pt) → contourArea (seenFrom c l) ≡ contourArea l
+area-seen c l = contour-shift (negᵖ c) l
+
+-- 2 k A ≤ M and k ≤ 0 give k 3 A ≤ M
+third-least : (k A M : ℤ) → k ≤ℤ pos 0 → pos 0 <ℤ A → ((k +ℤ k) *ℤ A) ≤ℤ M → (k *ℤ pos (3 * natAbs A)) ≤ℤ M
+third-least k (negsuc a) M h p l = absurd (p .lt)
+third-least k (pos a) M h p l = of k a M (nn-mul {a = pos a} (omega zarith) (sub-of-≤ h)) l
+  where
+    of : (k : ℤ) (a : ℕ) (M : ℤ) → pos 0 ≤ℤ (pos a *ℤ (pos 0 -ℤ k)) → ((k +ℤ k) *ℤ pos a) ≤ℤ M → (k *ℤ (pos 3 *ℤ pos a)) ≤ℤ M
+    of = arithℤ (int ∷ nat ∷ int ∷ []) (λ k a M. con (pos 0) :≤ a :* (con (pos 0) :- k) ⇒ (k :+ k) :* a :≤ M ⇒ k :* (con (pos 3) :* a) :≤ M) (omega arith)
+
+third-most : (k A M : ℤ) → pos 0 ≤ℤ k → pos 0 <ℤ A → M ≤ℤ ((k +ℤ k) *ℤ A) → M ≤ℤ (k *ℤ pos (3 * natAbs A))
+third-most k (negsuc a) M h p l = absurd (p .lt)
+third-most k (pos a) M h p l = of k a M (nn-mul {a = pos a} (omega zarith) h) l
+  where
+    of : (k : ℤ) (a : ℕ) (M : ℤ) → pos 0 ≤ℤ (pos a *ℤ k) → M ≤ℤ ((k +ℤ k) *ℤ pos a) → M ≤ℤ (k *ℤ (pos 3 *ℤ pos a))
+    of = arithℤ (int ∷ nat ∷ int ∷ []) (λ k a M. con (pos 0) :≤ a :* k ⇒ M :≤ (k :+ k) :* a ⇒ M :≤ k :* (con (pos 3) :* a)) (omega arith)
+
+-- how far the limits are from a coordinate
+abbrev pub low : ℤ → ℤ
+low z = negsuc 1073741822 -ℤ z
+
+abbrev pub high : ℤ → ℤ
+high z = pos 1073741823 -ℤ z
+
+between : (z s : ℤ) → Coordinate z → Coordinate s → (low s ≤ℤ (z -ℤ s)) × ((z -ℤ s) ≤ℤ high s)
+between z s h k =
+    (omega (zarith, sub-parts z s, sub-parts (negsuc 1073741822) s, abs-parts z, h .abs), omega (zarith, sub-parts z s, sub-parts (pos 1073741823) s, abs-parts z, h .abs))
+
+in-range : (z : ℤ) → negsuc 1073741822 ≤ℤ z → z ≤ℤ pos 1073741823 → inRange z ≡ true
+unfolding inRange
+in-range z h k = rw (<-leZ {x = z} {y = negsuc 1073741823} (omega zarith)) (<-ltZ {x = z} {y = pos 1073741824} (omega zarith))
+
+low-below : (z : ℤ) → Coordinate z → low z ≤ℤ pos 0
+low-below z h = omega (zarith, sub-parts (negsuc 1073741822) z, abs-parts z, h .abs)
+
+high-above : (z : ℤ) → Coordinate z → pos 0 ≤ℤ high z
+high-above z h = omega (zarith, sub-parts (pos 1073741823) z, abs-parts z, h .abs)
+
+from-offset : (z r : ℤ) → low z ≤ℤ r → r ≤ℤ high z → inRange (z +ℤ r) ≡ true
+from-offset z r h k =
+    in-range (z +ℤ r) (omega (zarith, add-parts z r, sub-parts (negsuc 1073741822) z)) (omega (zarith, add-parts z r, sub-parts (pos 1073741823) z))
+
+-- ---- a coordinate of the centre
+
+-- f is a coordinate, c the first corner, A the doubled area and M the moment of the edges seen from it
+module _ (f : Pt → ℤ) (minus : (a b : Pt) → f (a -ᵖ b) ≡ f a -ℤ f b) (small : (p : Pt) → onGrid p ≡ true → Coordinate (f p)) (c : Pt) (l : List Pt) (h : Summable (c ∷ l)) where
+  abbrev seen : List (Pt × Pt)
+  seen = neighbours (seenFrom c (c ∷ l))
+
+  area-above : pos 0 <ℤ areaOf seen
+  unfolding contourArea
+  area-above = ltZ-< (pos 0) (areaOf seen) (rw area-seen (h .above))
+
+  corners-between : All (λ p. (low (f c) ≤ℤ f p) × (f p ≤ℤ high (f c))) (seenFrom c (c ∷ l))
+  corners-between =
+      all-image (λ p. (low (f c) ≤ℤ f p) × (f p ≤ℤ high (f c))) (λ p. p -ᵖ c) (c ∷ l) .1
+      (all-map (c ∷ l) (λ p g. rw (minus p c) (between (f p) (f c) (small p g) (small c (h .grid .0)))) (h .grid))
+
+  edges-between : All (λ e. ((low (f c) ≤ℤ f (e .0)) × (f (e .0) ≤ℤ high (f c))) × ((low (f c) ≤ℤ f (e .1)) × (f (e .1) ≤ℤ high (f c)))) seen
+  edges-between = all-neighbours (λ p. (low (f c) ≤ℤ f p) × (f p ≤ℤ high (f c))) (seenFrom c (c ∷ l)) corners-between
+
+  pub moment-between : (((low (f c) +ℤ low (f c)) *ℤ areaOf seen) ≤ℤ momentOf f seen) × (momentOf f seen ≤ℤ ((high (f c) +ℤ high (f c)) *ℤ areaOf seen))
+  moment-between = (
+    moment-least f (low (f c)) seen (h .wedges) (all-map seen (λ e b. (b .0 .0, b .1 .0)) edges-between),
+    moment-most f (high (f c)) seen (h .wedges) (all-map seen (λ e b. (b .0 .1, b .1 .1)) edges-between),
+  )
+
+  pub offset-between : (low (f c) ≤ℤ rounded (momentOf f seen) (3 * natAbs (areaOf seen))) × (rounded (momentOf f seen) (3 * natAbs (areaOf seen)) ≤ℤ high (f c))
+  offset-between =
+      let k : Coordinate (f c) = small c (h .grid .0) in
+      let d : 0 < 3 * natAbs (areaOf seen) = omega (zarith, area-above, abs-parts (areaOf seen)) in (
+        rounded-least (momentOf f seen) (low (f c)) (3 * natAbs (areaOf seen)) d
+            (third-least (low (f c)) (areaOf seen) (momentOf f seen) (low-below (f c) k) area-above (moment-between .0)),
+        rounded-most (momentOf f seen) (high (f c)) (3 * natAbs (areaOf seen)) d
+            (third-most (high (f c)) (areaOf seen) (momentOf f seen) (high-above (f c) k) area-above (moment-between .1)),
+      )
+
+  pub coordinate-in-range : inRange (f c +ℤ rounded (momentOf f seen) (3 * natAbs (areaOf seen))) ≡ true
+  coordinate-in-range = from-offset (f c) (rounded (momentOf f seen) (3 * natAbs (areaOf seen))) (offset-between .0) (offset-between .1)
+
+pub centre-on-grid : (c : Pt) (l : List Pt) → Summable (c ∷ l) → onGrid (centreOf c (c ∷ l)) ≡ true
+unfolding onGrid centreOf momentX momentY contourArea
+centre-on-grid c l h =
+    rw (coordinate-in-range (λ p. p .x) (λ a b. refl) (λ p g. on-grid-both p g .0) c l h) (coordinate-in-range (λ p. p .y) (λ a b. refl) (λ p g. on-grid-both p g .1) c l h)
