@@ -56,7 +56,7 @@ le-in-half {a} {b} h e = at (lower a) (lower b) (h .le) e
 -- ---- the corner after the edges a ∷ A, before the edges b ∷ B
 
 -- strictly ordered parts are weakly ordered
-split-le : {M A B : List Pt} → Split Lt M A B → Split Le M A B
+pub split-le : {M A B : List Pt} → Split Lt M A B → Split Le M A B
 split-le {M} {A} {B} s = record { perm = s .perm; link = all-map A (λ a k. all-map B (λ b h. lt-le h) k) (s .link); sorted = sorted-le B (s .sorted) }
 
 module _ {M : List Pt} (c : Convex M) where
