@@ -1,0 +1,2 @@
+-- What the contracts cite: numbers of two words.
+pub mod Words

@@ -1,0 +1,2 @@
+-- What the contracts cite: quotients.
+pub mod Quotients
