@@ -6,12 +6,12 @@ use Prim.Native.Nat.{ℕ, _+_, _≤_, _<_, _^_}
 use native.Mathlib.Numerals.{add-one}
 use native.Mathlib.Omega.{arith}
 use lib.ListN.{length, getD, set, take, drop, length-drop, length-map, length-set, List·getD-map}
-use lib.Seq.{drop-cons, take-suc, take-suc-set, getD-drop, length-take-le}
+use lib.Seq.{take-suc, take-suc-set, getD-drop, length-take-le}
 use lib.IntN.{ℤ}
 use Rattle.plane.specs.Plane.{Pt, O}
 use Rattle.convex_ring.specs.Buffers.{cornerOf, cornerAt}
 use Rattle.convex_contour.specs.Contour.{Appended}
-use Rattle.convex_contour.proofs.Contours.{appended-none, appended-more}
+use Rattle.convex_contour.proofs.Contours.{appended-more}
 use Rattle.convex_gather.specs.declared.Tally.{Tally}
 use Rattle.convex_gather.specs.Gather.{cornersIn, RoomFor, PartsAppended}
 use Rattle.convex_gather.proofs.Gathering.{none-appended, then-appended, part-appended, room-rest}

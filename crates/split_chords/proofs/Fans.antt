@@ -1,11 +1,11 @@
 -- The parts of a fan in turn (`Fanning`: `fanning-start`, `fanning-room`, `fanning-turn`, `fanning-end`). Assumes nothing.
-use mathlib.Core.Path.{_≡_, refl, sym, _∙_, ap}
+use mathlib.Core.Path.{_≡_, sym, _∙_, ap}
 use mathlib.Core.Bool.{cond}
 use mathlib.Core.List.{List, [], _∷_, _++_}
 use Prim.Native.Nat.{ℕ, suc, _+_, _-_, _/_, _%_, _≤_, _<_}
 use native.Mathlib.Omega.{arith}
 use lib.Dec.{ltb}
-use lib.ListN.{length, take, drop, length-map}
+use lib.ListN.{length, drop, length-map}
 use lib.Seq.{drop-drop}
 use lib.IntN.{ℤ}
 use Rattle.integers.specs.Lists.{sumℕ}
