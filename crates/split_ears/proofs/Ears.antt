@@ -15,7 +15,6 @@ use Rattle.plane.specs.Plane.{Pt, O}
 use Rattle.convex_ring.specs.Buffers.{cornerOf, cornerAt}
 use Rattle.convex_gather.specs.declared.Tally.{Tally}
 use Rattle.convex_gather.specs.Gather.{cornersIn, RoomFor, PartsAppended}
-use Rattle.convex_gather.proofs.Gathering.{room-first}
 use Rattle.split.specs.Splitting.{sharesFrom, shares, ceilDiv, triangleShares, clipped, earParts}
 use Rattle.split.proofs.Shares.{sum-shares}
 use Rattle.split_chords.proofs.Appending.{corner-in, Partway, partway-start, partway-room, partway-turn, partway-end}
@@ -80,7 +79,7 @@ module _ (contour : List (List ℤ)) (s₀ : List ℕ) (p₀ : List (List ℤ)) 
           ∙ ap₂ (λ q l. q ∷ clipped (sharesFrom n k (i + 1) (k - (i + 1))) l) ear left-corners
 
       pub clipping-room : RoomFor s₀ p₀ t₀ qs → RoomFor s p t ((cornerAt contour start ∷ cornersAfter contour ring start (m + 1)) ∷ [])
-      clipping-room r = room-first ((cornerAt contour start ∷ cornersAfter contour ring start (m + 1)) ∷ []) (earsFrom contour n k (i + 1) rest) s p t (partway-room qs s₀ p₀ t₀ r (f .partway) next)
+      clipping-room r = partway-room qs s₀ p₀ t₀ ((cornerAt contour start ∷ cornersAfter contour ring start (m + 1)) ∷ []) (earsFrom contour n k (i + 1) rest) r (f .partway) next
 
       module _ {ring′ : List ℕ} {start′ : ℕ} {s′ : List ℕ} {p′ : List (List ℤ)} {t′ : Tally} where
         pub clipping-turn : (ring′ ≡ set ring start (stepped ring start (m + 1))) × PartsAppended ((cornerAt contour start ∷ cornersAfter contour ring start (m + 1)) ∷ []) s p t s′ p′ t′ → start′ ≡ getD ring′ start 0 → Clipping contour qs n k (i + 1) start′ ring′ s₀ p₀ t₀ s′ p′ t′

@@ -17,7 +17,6 @@ use Rattle.plane.specs.Plane.{Pt, O, areaTwo}
 use Rattle.convex_ring.specs.Buffers.{cornerOf, cornerAt}
 use Rattle.convex_gather.specs.declared.Tally.{Tally}
 use Rattle.convex_gather.specs.Gather.{cornersIn, RoomFor, PartsAppended}
-use Rattle.convex_gather.proofs.Gathering.{room-first}
 use Rattle.split.specs.Splitting.{sharesFrom, shares, ceilDiv, taking, edgesTaken, groupParts, sectors, centroidParts}
 use Rattle.split.proofs.Shares.{sum-shares}
 use Rattle.split.proofs.Sectors.{edgesTaken-le, groupParts-enough}
@@ -129,7 +128,7 @@ module _ (contour : List (List ℤ)) (g : Pt) (s₀ : List ℕ) (p₀ : List (Li
       sectoring-within = omega (arith, f .size, sum-next n k i h, e)
 
       pub sectoring-room : RoomFor s₀ p₀ t₀ qs → RoomFor s p t (groupFrom contour g (start + m) start)
-      sectoring-room r = room-first (groupFrom contour g (start + m) start) (sectorsFrom contour g n k (i + 1) (start + m)) s p t (partway-room qs s₀ p₀ t₀ r (f .partway) next)
+      sectoring-room r = partway-room qs s₀ p₀ t₀ (groupFrom contour g (start + m) start) (sectorsFrom contour g n k (i + 1) (start + m)) r (f .partway) next
 
       pub sectoring-turn : {s′ : List ℕ} {p′ : List (List ℤ)} {t′ : Tally} → PartsAppended (groupFrom contour g (start + m) start) s p t s′ p′ t′ → Sectoring contour g qs n k (i + 1) (start + m) s₀ p₀ t₀ s′ p′ t′
       sectoring-turn a = record {

@@ -4,7 +4,6 @@ use mathlib.Core.Path.{refl}
 use mathlib.Core.List.{[], _∷_}
 use Prim.Native.Nat.{_+_, _-_, _≤_}
 use Rattle.plane.specs.Machine.{point}
-use Rattle.convex_gather.proofs.Gathering.{room-first}
 use Rattle.split_chords.proofs.Appending.{Partway, partway-start, partway-room, partway-turn, partway-end}
 use Rattle.split_sectors.specs.Arcs.{arcOf}
 use Rattle.split_sectors.proofs.Turns.{groupFrom, group-none, group-turn, sector-some, sector-within}
@@ -43,8 +42,7 @@ append-sector-requires c κs =
     let end = c .before .before .sector-end .result in
     let a = sector-some (g .contour .now) (point (g .centre)) (g .target) (l .at) h e in
     let b = sector-within (g .contour .now) (point (g .centre)) (g .target) (l .at) h e in
-    let q = partway-room (groupFrom (g .contour .now) (point (g .centre)) (g .target) (g .start)) (g .starts .now) (g .points .now) (g .t) (s .pre .4) (l .inv .1) (group-turn (g .contour .now) (point (g .centre)) (g .target) (l .at) h e) in
-    (omega (arith, h, s .pre .1), omega (arith, a, b, s .pre .1), room-first ((point (g .centre) ∷ arcOf (g .contour .now) (l .at) (end - l .at + 1)) ∷ []) (groupFrom (g .contour .now) (point (g .centre)) (g .target) end) (l .starts) (l .points) (l .tally) q)
+    (omega (arith, h, s .pre .1), omega (arith, a, b, s .pre .1), partway-room (groupFrom (g .contour .now) (point (g .centre)) (g .target) (g .start)) (g .starts .now) (g .points .now) (g .t) ((point (g .centre) ∷ arcOf (g .contour .now) (l .at) (end - l .at + 1)) ∷ []) (groupFrom (g .contour .now) (point (g .centre)) (g .target) end) (s .pre .4) (l .inv .1) (group-turn (g .contour .now) (point (g .centre)) (g .target) (l .at) h e))
 
 loop-less : tie.Need-loop-less Inv-loop μ-loop
 loop-less c =
