@@ -1,6 +1,6 @@
 -- The calls on walks: each answer's number is its fault number (`begun-number`, `pointed-number`, `stepped-number`, `next-number`), a refusal
 -- hands the walk back as it came (`stepped-back`, `next-back`), and an accepted step leaves a walk whose place is again a corner of its
--- contour (`step-placed`), as a walk begun does (`begin-placed`). Assumes nothing.
+-- contour (`step-placed`; `index-inside`, `next-inside`, `advance-placed`), as a walk begun does (`begin-placed`). Assumes nothing.
 use mathlib.Core.Path.{_≡_, refl, sym, _∙_, ap}
 use mathlib.Core.Bool.{Bool, true, false, cond, true≢false}
 use mathlib.Core.List.{List, [], _∷_}
@@ -83,6 +83,11 @@ all-false false true true c h = absurd (true≢false h)
 all-false false true false c h = (refl, λ k. (refl, h))
 all-false false false b c h = (refl, λ k. absurd (true≢false (sym k)))
 
+-- its place is a corner
+pub index-inside : (n : ℕ) (w : Place) → misplaced n w ≡ false → w .index < n
+unfolding misplaced
+index-inside n w h = leb-false n (w .index) (all-false (leb n (w .index)) (w .segment) (leb n (w .start)) (leb n (w .end)) h .0)
+
 -- off a segment its ends don't matter
 flat-next : (n : ℕ) (w : Place) → w .segment ≡ false → w .index < n → nextIndex n w < n
 unfolding nextIndex
@@ -97,7 +102,7 @@ next-inside n w h =
     (λ s. flat-next n w s (leb-false n (w .index) (t .0)))
 
 -- the place stepped to is a corner again, and so are the ends, which stay
-advance-placed : (n : ℕ) (w : Place) → misplaced n w ≡ false → misplaced n (advance n w) ≡ false
+pub advance-placed : (n : ℕ) (w : Place) → misplaced n w ≡ false → misplaced n (advance n w) ≡ false
 unfolding misplaced advance
 advance-placed n w h =
     let t = all-false (leb n (w .index)) (w .segment) (leb n (w .start)) (leb n (w .end)) h in
