@@ -4,9 +4,9 @@
 use mathlib.Core.Path.{_≡_, refl, sym, _∙_, ap}
 use mathlib.Core.Bool.{Bool, true, false, cond, true≢false}
 use mathlib.Core.List.{List, [], _∷_}
-use Prim.Native.Nat.{ℕ, zero, suc, _<_}
+use Prim.Native.Nat.{ℕ, zero, suc, _/_, _%_, _≤_, _<_}
 use native.Mathlib.Omega.{arith}
-use borrow.Author.Tests.{leb-false, lt-leb, ne-eqb}
+use borrow.Author.Tests.{eqb-true, eq-eqb, ltb-false, leb-false, lt-leb, ne-eqb}
 use lib.Dec.{eqb, leb}
 use lib.ListN.{length}
 use lib.IntN.{ℤ}
@@ -17,6 +17,8 @@ use Rattle.plane.specs.Plane.{Pt}
 use Rattle.plane.specs.declared.IntVector.{IntVector}
 use Rattle.plane.specs.declared.IntPoint.{IntPoint}
 use Rattle.table.specs.Table.{pointsOf}
+use Rattle.table.proofs.Corners.{length-points}
+use Rattle.table.proofs.Rules.{was-taken}
 use Rattle.pair.specs.declared.Place.{Place}
 use Rattle.pair.specs.declared.ConvexSum.{ConvexSum}
 use Rattle.pair.specs.Walk.{begin, nextIndex, advance}
@@ -30,7 +32,7 @@ use Rattle.walk.specs.declared.Stepped.{Stepped}
 use Rattle.walk.specs.declared.Stepped.the-variants as stepped
 use Rattle.walk.specs.declared.Next.{Next}
 use Rattle.walk.specs.declared.Next.the-variants as next
-use Rattle.walk.specs.Calls.{misplaced, finished, beginFault, begunOf, pointFault, pointedOf, stepFault, steppedOf, pairStepFault, nextOf, pairSteppedOf, begunNumber, pointedNumber, steppedNumber, steppedPlace, nextNumber, nextPlaces}
+use Rattle.walk.specs.Calls.{lengthBroken, misplaced, finished, beginFault, begunOf, pointFault, pointedOf, stepFault, steppedOf, pairStepFault, nextOf, pairSteppedOf, begunNumber, pointedNumber, steppedNumber, steppedPlace, nextNumber, nextPlaces}
 
 -- ---- numbers
 
@@ -38,6 +40,13 @@ use Rattle.walk.specs.Calls.{misplaced, finished, beginFault, begunOf, p
 choice-number : {A : Type 0} (number : A → ℕ) (f : ℕ) (good bad : A) → number good ≡ 0 → number bad ≡ f → number (cond (eqb f 0) good bad) ≡ f
 choice-number number zero good bad g b = g
 choice-number number (suc f) good bad g b = rw (ne-eqb (suc f) 0 (omega arith), b)
+
+-- the answer where there is no fault, and where there is one
+pub accepts : {A : Type 0} {f : ℕ} (good bad : A) → f ≡ 0 → good ≡ cond (eqb f 0) good bad
+accepts {f = f} good bad e = rw (eq-eqb f 0 e)
+
+pub refuses : {A : Type 0} {f : ℕ} (good bad : A) → (f ≡ 0 → ⊥) → bad ≡ cond (eqb f 0) good bad
+refuses {f = f} good bad e = rw (ne-eqb f 0 e)
 
 pub begun-number : (l : List ℤ) (reflected : Bool) → begunNumber (begunOf l reflected) ≡ beginFault l reflected
 unfolding begunOf
@@ -82,6 +91,16 @@ all-false true s b c h = absurd (true≢false h)
 all-false false true true c h = absurd (true≢false h)
 all-false false true false c h = (refl, λ k. (refl, h))
 all-false false false b c h = (refl, λ k. absurd (true≢false (sym k)))
+
+-- a contour of sound length has few corners
+pub few-corners : (l : List ℤ) → lengthBroken l ≡ false → length (pointsOf l) ≤ 1026
+unfolding lengthBroken
+few-corners l h = omega (arith, length-points l, ltb-false 1026 (length l / 2) (was-taken (eqb (length l % 2) 0) _ h .1))
+
+-- and where it is not empty it has a corner
+pub some-corner : (l : List ℤ) → lengthBroken l ≡ false → (length l ≡ 0 → ⊥) → 0 < length (pointsOf l)
+unfolding lengthBroken
+some-corner l h k = omega (arith, length-points l, eqb-true (length l % 2) 0 (was-taken (eqb (length l % 2) 0) _ h .0), k)
 
 -- its place is a corner
 pub index-inside : (n : ℕ) (w : Place) → misplaced n w ≡ false → w .index < n

@@ -1,4 +1,4 @@
--- Corners on the grid: none is off where no number is (`off-nowhere`), and what a corner that is not off is for the code (`not-off`).
+-- Corners on the grid: none is off where no number is (`off-nowhere`), and what a corner that is not off is for the code (`not-off`, `grid-at`).
 -- Assumes nothing.
 use mathlib.Core.Path.{_≡_, sym, _∙_, ap}
 use mathlib.Core.Bool.{true, false, cond}
@@ -30,3 +30,7 @@ off-nowhere l i e h =
 
 pub not-off : (l : List Pt) (i : ℕ) (p : IntPoint) → offAt l i ≡ false → point p ≡ cornerAt l i → OnGrid p
 not-off l i p h e = let b = on-grid-both (point p) (ap onGrid e ∙ not-false _ h) in record { x-small = b .0; y-small = b .1 }
+
+-- so a corner of a contour on the grid
+pub grid-at : (l : List ℤ) (i : ℕ) (p : IntPoint) → offRange l ≡ false → i < length (pointsOf l) → point p ≡ cornerAt (pointsOf l) i → OnGrid p
+grid-at l i p e h = not-off (pointsOf l) i p (off-nowhere l i e h)
