@@ -19,9 +19,9 @@ use Rattle.pair.specs.Walk.{cornerAt, startAt, endAt, windingTerms, winding, to
 use Rattle.walk.specs.declared.Begun.the-variants.{At, Refused}
 use Rattle.walk.specs.Calls.{lengthBroken, beginFault, begunOf}
 use Rattle.walk.proofs.Answers.{accepts, refuses}
-use Rattle.walk_begin.specs.declared.Wound.the-variants.{Total, Leaves}
-use Rattle.walk_begin.specs.Winding.{windingOf}
-use Rattle.walk_begin.proofs.Windings.{length-terms, wound-total, wound-left}
+use Rattle.walk_winding.specs.declared.Wound.the-variants.{Total, Leaves}
+use Rattle.walk_winding.specs.Winding.{windingOf}
+use Rattle.walk_winding.proofs.Windings.{length-terms, wound-total, wound-left}
 
 -- no corner, no total
 none-leaves : (t : ℤ) (ts : List ℤ) → length ts ≡ 0 → totalLeaves t ts ≡ false

@@ -1,3 +1,2 @@
--- Laws that belong to no one function: the winding's terms and totals; a walk begun, by its faults.
-pub mod Windings
+-- Laws that belong to no one function: a walk begun, by its faults.
 pub mod Begins

@@ -1,87 +1,20 @@
-// A walk begun (`begin`, the Rust's `Walk::new`): its start, its winding with the running total watched (fault 8), and its first place. It takes
-// any contour and refuses with 7, 2, 8, 20, in this order. `begin_checked` is the same of a contour whose length and range are judged
-// already. Leans on walk_extremes and walk_read, plane, table (the range).
+// A walk begun (`begin`, the Rust's `Walk::new`): its start, its winding, its first place. It takes any contour and refuses with 7, 2, 8, 20, in
+// this order. `begin_checked` is the same of a contour whose length and range are judged already. Leans on walk_winding, walk_extremes,
+// walk_read, table (the range).
 ghost use mathlib.Core.Path.{_≡_};
 ghost use mathlib.Core.Bool.{true, false};
-ghost use Prim.Native.Nat.{_+_, _<_, _≤_};
-ghost use lib.ListN.{length, getD};
-ghost use lib.IntN.{pos, _+ℤ_};
+ghost use Prim.Native.Nat.{_<_};
+ghost use lib.ListN.{length};
 ghost use Rattle.plane.specs.Plane.{eqPt};
-ghost use Rattle.plane.specs.Machine.{CrossSize};
 ghost use Rattle.table.specs.Table.{pointsOf, offRange};
-ghost use Rattle.pair.specs.Walk.{cornerAt, endAt, windingTerms, placeBy};
+ghost use Rattle.pair.specs.Walk.{cornerAt, endAt, placeBy};
 ghost use Rattle.walk.specs.Calls.{lengthBroken, begunOf};
 ghost use Rattle.walk.specs.Contracts.{BegunBy};
-ghost use Rattle.walk_begin.specs.Winding.{roundTo, addedOf, windingOf};
 use pair::Place;
 use walk::Begun;
 use walk_read::corner_at;
 use walk_read::corner_count;
-
-// A winding, or that its running total leaves signed 64 bits.
-pub enum Wound {
-    Total(i64),
-    Leaves,
-}
-
-// total + term, tested before it is added.
-fn add_term(total: i64, term: i64) -> Wound
-    requires { ⌜ CrossSize term ⌝ }
-    ensures { λ r. ⌜ r ≡ addedOf (total +ℤ term) ⌝ }
-{
-    if term > 0 {
-        if total > 9223372036854775807 - term {
-            return Wound::Leaves;
-        }
-        return Wound::Total(total + term);
-    }
-    if total < -9223372036854775808 - term {
-        return Wound::Leaves;
-    }
-    Wound::Total(total + term)
-}
-
-// Place i of a contour of n corners, past its end from its first corner on.
-fn round_to(n: usize, i: usize) -> usize
-    requires { ⌜ i < n + n ⌝ }
-    ensures { λ r. ⌜ (r ≡ roundTo n i) × (r < n) ⌝ }
-{
-    if i < n {
-        return i;
-    }
-    i - n
-}
-
-// Term k of the winding seen from corner s: the cross of corners s + k and s + k + 1, round the contour.
-fn term_at(contour: &[i32], s: usize, k: usize) -> i64
-    requires { ⌜ (offRange (now contour) ≡ false) × (s < length (pointsOf (now contour))) × (k < length (pointsOf (now contour))) ⌝ }
-    ensures { λ r. ⌜ (r ≡ getD (windingTerms s (pointsOf (now (contour .entry)))) k (pos 0)) × CrossSize r ⌝ }
-{
-    let n = corner_count(contour);
-    let origin = corner_at(contour, s);
-    let a = corner_at(contour, round_to(n, s + k));
-    let b = corner_at(contour, round_to(n, s + k + 1));
-    plane::cross_product(plane::subtract(a, origin), plane::subtract(b, origin))
-}
-
-// The winding seen from corner s.
-fn winding(contour: &[i32], s: usize) -> Wound
-    requires { ⌜ (offRange (now contour) ≡ false) × (s < length (pointsOf (now contour))) ⌝ }
-    ensures { λ r. ⌜ r ≡ windingOf (pos 0) (windingTerms s (pointsOf (now (contour .entry)))) ⌝ }
-{
-    let n = corner_count(contour);
-    let mut total: i64 = 0;
-    let mut k: usize = 0;
-    while k < n {
-        let sum = add_term(total, term_at(contour, s, k));
-        let Wound::Total(next) = sum else {
-            return Wound::Leaves;
-        };
-        total = next;
-        k += 1;
-    }
-    Wound::Total(total)
-}
+use walk_winding::Wound;
 
 // A walk round a contour of n corners from corner s.
 fn round(s: u16, n: u16, reverse: bool, reflected: bool) -> Place
@@ -143,7 +76,7 @@ pub fn begin_checked(contour: &[i32], reflected: bool) -> Begun
         return Begun::Refused(walk_read::FAULT_EMPTY);
     }
     let s = walk_extremes::start_at(contour, reflected);
-    let sum = winding(contour, s);
+    let sum = walk_winding::winding(contour, s);
     let Wound::Total(total) = sum else {
         return Begun::Refused(walk_read::FAULT_WINDING);
     };

@@ -1,9 +1,9 @@
--- `walk_begin::round_to` meets its contract. Assumes nothing.
+-- `walk_winding::round_to` meets its contract. Assumes nothing.
 use mathlib.Core.Path.{sym}
 use native.Mathlib.Omega.{arith}
-use Rattle.walk_begin.proofs.Windings.{round-near, round-past}
-use Rattle.walk_begin.proofs.round_to.Statement.{statement}
-use Rattle.walk_begin.proofs.round_to.Tie as tie
+use Rattle.walk_winding.proofs.Windings.{round-near, round-past}
+use Rattle.walk_winding.proofs.round_to.Statement.{statement}
+use Rattle.walk_winding.proofs.round_to.Tie as tie
 
 returns : tie.Need-returns
 returns c = (sym (round-near _ _ (c .if1 .taken)), c .if1 .taken)

@@ -1,4 +1,4 @@
--- `walk_begin::term_at` meets its contract: the two corners by their places. Assumes nothing.
+-- `walk_winding::term_at` meets its contract: the two corners by their places. Assumes nothing.
 use mathlib.Core.Path.{_≡_, sym, _∙_, ap, subst}
 use Prim.Native.Nat.{_+_}
 use native.Mathlib.Omega.{arith}
@@ -10,11 +10,11 @@ use Rattle.table.specs.Table.{pointsOf}
 use Rattle.table.proofs.Corners.{length-points}
 use Rattle.pair.specs.Walk.{cornerAt}
 use Rattle.walk_read.proofs.Grid.{grid-at}
-use Rattle.walk_begin.specs.Winding.{roundTo}
-use Rattle.walk_begin.proofs.Windings.{term-is}
+use Rattle.walk_winding.specs.Winding.{roundTo}
+use Rattle.walk_winding.proofs.Windings.{term-is}
 use borrow.Author.Needs.{needs}
-use Rattle.walk_begin.proofs.term_at.Statement.{statement}
-use Rattle.walk_begin.proofs.term_at.Tie as tie
+use Rattle.walk_winding.proofs.term_at.Statement.{statement}
+use Rattle.walk_winding.proofs.term_at.Tie as tie
 
 corner-count-requires : tie.Need-corner-count-requires
 corner-count-requires c κs = search needs

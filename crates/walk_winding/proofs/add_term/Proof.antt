@@ -1,4 +1,4 @@
--- `walk_begin::add_term` meets its contract: t > 2^63 - 1 - k is t + k > 2^63 - 1, and t < -2^63 - k is t + k < -2^63. Assumes nothing.
+-- `walk_winding::add_term` meets its contract: t > 2^63 - 1 - k is t + k > 2^63 - 1, and t < -2^63 - k is t + k < -2^63. Assumes nothing.
 use mathlib.Core.Path.{_≡_, refl, sym, _∙_, ap}
 use mathlib.Core.Bool.{Bool, true, false, cond}
 use lib.IntN.{ℤ, pos, negsuc, _+ℤ_, _-ℤ_}
@@ -11,10 +11,10 @@ use Rattle.integers.proofs.Sizes.{abs-parts, mag-parts}
 use Rattle.integers.proofs.Bits.{kept}
 use Rattle.plane.specs.Machine.{CrossSize}
 use Rattle.pair.specs.Walk.{inWord}
-use Rattle.walk_begin.specs.declared.Wound.the-variants.{Total, Leaves}
-use Rattle.walk_begin.specs.Winding.{addedOf}
-use Rattle.walk_begin.proofs.add_term.Statement.{statement}
-use Rattle.walk_begin.proofs.add_term.Tie as tie
+use Rattle.walk_winding.specs.declared.Wound.the-variants.{Total, Leaves}
+use Rattle.walk_winding.specs.Winding.{addedOf}
+use Rattle.walk_winding.proofs.add_term.Statement.{statement}
+use Rattle.walk_winding.proofs.add_term.Tie as tie
 
 abbrev top : ℤ
 top = pos 9223372036854775807

@@ -1,4 +1,4 @@
--- `walk_begin::winding` meets its contract. The loop's invariant: the winding is that of the total so far and the terms to come. Assumes nothing.
+-- `walk_winding::winding` meets its contract. The loop's invariant: the winding is that of the total so far and the terms to come. Assumes nothing.
 use mathlib.Core.Path.{_≡_, refl, sym, _∙_, ap, subst}
 use Prim.Native.Nat.{_+_, _≤_, _-_}
 use native.Mathlib.Omega.{arith}
@@ -10,11 +10,11 @@ use Rattle.integers.proofs.Bits.{kept, got}
 use Rattle.plane.specs.Machine.{CrossSize}
 use Rattle.table.specs.Table.{pointsOf}
 use Rattle.pair.specs.Walk.{windingTerms}
-use Rattle.walk_begin.specs.Winding.{addedOf, windingOf}
-use Rattle.walk_begin.proofs.Windings.{length-terms, wound-turn, wound-leaves, wound-ends}
+use Rattle.walk_winding.specs.Winding.{addedOf, windingOf}
+use Rattle.walk_winding.proofs.Windings.{length-terms, wound-turn, wound-leaves, wound-ends}
 use borrow.Author.Needs.{needs}
-use Rattle.walk_begin.proofs.winding.Statement.{statement}
-use Rattle.walk_begin.proofs.winding.Tie as tie
+use Rattle.walk_winding.proofs.winding.Statement.{statement}
+use Rattle.walk_winding.proofs.winding.Tie as tie
 
 abbrev Inv-loop : tie.InvT-loop
 Inv-loop contour s n total₀ k₀ total k = (k ≤ n) × (windingOf (pos 0) (windingTerms s (pointsOf contour)) ≡ windingOf (toZ w64 total) (drop k (windingTerms s (pointsOf contour))))

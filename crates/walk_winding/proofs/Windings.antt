@@ -18,8 +18,8 @@ use Rattle.integers.proofs.Rotation.{length-rotate, getD-rotate, getD-rotate-pa
 use Rattle.integers.proofs.Neighbours.{length-neighbours, getD-neighbours, getD-neighbours-last}
 use Rattle.plane.specs.Plane.{Pt, O, _-ᵖ_, cross}
 use Rattle.pair.specs.Walk.{cornerAt, windingTerms, inWord, totalLeaves}
-use Rattle.walk_begin.specs.declared.Wound.the-variants.{Total, Leaves}
-use Rattle.walk_begin.specs.Winding.{roundTo, addedOf, windingOf}
+use Rattle.walk_winding.specs.declared.Wound.the-variants.{Total, Leaves}
+use Rattle.walk_winding.specs.Winding.{roundTo, addedOf, windingOf}
 
 -- ---- places round the contour
 

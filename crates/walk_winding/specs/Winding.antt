@@ -6,8 +6,8 @@ use Prim.Native.Nat.{ℕ, _-_}
 use lib.Dec.{ltb}
 use lib.IntN.{ℤ, _+ℤ_}
 use Rattle.pair.specs.Walk.{inWord}
-use Rattle.walk_begin.specs.declared.Wound.{Wound}
-use Rattle.walk_begin.specs.declared.Wound.the-variants.{Total, Leaves}
+use Rattle.walk_winding.specs.declared.Wound.{Wound}
+use Rattle.walk_winding.specs.declared.Wound.the-variants.{Total, Leaves}
 
 -- place i of a contour of n corners, past its end from its first corner on
 unfoldable pub roundTo : ℕ → ℕ → ℕ
