@@ -1,12 +1,12 @@
 -- The calls on walks: each answer's number is its fault number (`begun-number`, `pointed-number`, `stepped-number`, `next-number`), a refusal
 -- hands the walk back as it came (`stepped-back`, `next-back`), and an accepted step leaves a walk whose place is again a corner of its
--- contour (`step-placed`; `index-inside`, `next-inside`, `advance-placed`), as a walk begun does (`begin-placed`). Assumes nothing.
+-- contour (`step-placed`; `accepted`, `index-inside`, `next-inside`, `advance-placed`), as a walk begun does (`begin-placed`). Assumes nothing.
 use mathlib.Core.Path.{_≡_, refl, sym, _∙_, ap}
 use mathlib.Core.Bool.{Bool, true, false, cond, true≢false}
 use mathlib.Core.List.{List, [], _∷_}
 use Prim.Native.Nat.{ℕ, zero, suc, _/_, _%_, _≤_, _<_}
 use native.Mathlib.Omega.{arith}
-use borrow.Author.Tests.{eqb-true, eq-eqb, ltb-false, leb-false, lt-leb, ne-eqb}
+use borrow.Author.Tests.{eqb-true, eqb-false, eq-eqb, ltb-false, leb-false, lt-leb, ne-eqb}
 use lib.Dec.{eqb, leb}
 use lib.ListN.{length}
 use lib.IntN.{ℤ}
@@ -32,12 +32,12 @@ use Rattle.walk.specs.declared.Stepped.{Stepped}
 use Rattle.walk.specs.declared.Stepped.the-variants as stepped
 use Rattle.walk.specs.declared.Next.{Next}
 use Rattle.walk.specs.declared.Next.the-variants as next
-use Rattle.walk.specs.Calls.{lengthBroken, misplaced, finished, beginFault, begunOf, pointFault, pointedOf, stepFault, steppedOf, pairStepFault, nextOf, pairSteppedOf, begunNumber, pointedNumber, steppedNumber, steppedPlace, nextNumber, nextPlaces}
+use Rattle.walk.specs.Calls.{lengthBroken, misplaced, finished, offAt, beginFault, begunOf, pointFault, pointedOf, stepFault, steppedOf, pairStepFault, nextOf, pairSteppedOf, begunNumber, pointedNumber, steppedNumber, steppedPlace, nextNumber, nextPlaces}
 
 -- ---- numbers
 
 -- an answer chosen by whether the fault is 0 has the fault's number, where each choice has its own
-choice-number : {A : Type 0} (number : A → ℕ) (f : ℕ) (good bad : A) → number good ≡ 0 → number bad ≡ f → number (cond (eqb f 0) good bad) ≡ f
+pub choice-number : {A : Type 0} (number : A → ℕ) (f : ℕ) (good bad : A) → number good ≡ 0 → number bad ≡ f → number (cond (eqb f 0) good bad) ≡ f
 choice-number number zero good bad g b = g
 choice-number number (suc f) good bad g b = rw (ne-eqb (suc f) 0 (omega arith), b)
 
@@ -131,14 +131,28 @@ advance-placed n w h =
     ends true b c f = rw (f refl .0, f refl .1)
     ends false b c f = refl
 
--- where a step is accepted, the walk was in place
-step-accepted : (l : List ℤ) (w : Place) → stepFault l w ≡ 0 → misplaced (length (pointsOf l)) w ≡ false
+-- where a step is accepted, the walk had a step left and was in place, and so was its next place
+pub record Accepted (l : List ℤ) (w : Place) : Type 0 where
+  pub short : lengthBroken l ≡ false
+  pub left : 0 < w .remaining
+  pub placed : misplaced (length (pointsOf l)) w ≡ false
+  pub here : offAt (pointsOf l) (w .index) ≡ false
+  pub there : offAt (pointsOf l) (nextIndex (length (pointsOf l)) w) ≡ false
+
+pub accepted : (l : List ℤ) (w : Place) → stepFault l w ≡ 0 → Accepted l w
 unfolding stepFault
-step-accepted l w h = either-false (finished w) _ (first-none 23 _ _ (omega arith) (first-none 7 _ _ (omega arith) h .1) .0) .1
+accepted l w h =
+    let a = first-none 7 _ _ (omega arith) h in
+    let b = first-none 23 _ _ (omega arith) (a .1) in
+    let c = first-none 2 _ _ (omega arith) (b .1) in
+    let p = either-false (finished w) _ (b .0) in
+    let q = either-false (offAt (pointsOf l) (w .index)) _ (c .0) in
+    let e : w .remaining ≡ 0 → ⊥ = eqb-false (w .remaining) 0 (p .0) in
+    record { short = a .0; left = omega arith; placed = p .1; here = q .0; there = q .1 }
 
 pub step-placed : (l : List ℤ) (w : Place) → stepFault l w ≡ 0 → misplaced (length (pointsOf l)) (steppedPlace (steppedOf l w)) ≡ false
 unfolding steppedOf
-step-placed l w h = rw (h, advance-placed (length (pointsOf l)) w (step-accepted l w h))
+step-placed l w h = rw (h, advance-placed (length (pointsOf l)) w (accepted l w h .placed))
 
 valid-placed : (n : ℕ) (w : Place) → Valid n w → misplaced n w ≡ false
 unfolding misplaced

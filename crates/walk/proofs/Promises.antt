@@ -1,4 +1,5 @@
--- The defined answers keep the promises of specs/Contracts.antt: a walk begun (`begun-by`). Assumes nothing.
+-- The defined answers keep the promises of specs/Contracts.antt: a walk begun (`begun-by`), its point, its edge, its advance, a step
+-- (`pointed-by`, `edged-by`, `advanced-by`, `stepped-by`), a pair begun (`paired-by`). Assumes nothing.
 use mathlib.Core.Path.{_≡_, refl, sym, _∙_, ap}
 use mathlib.Core.Bool.{Bool, true, false, cond, true≢false}
 use mathlib.Core.List.{List, [], _∷_}
@@ -13,9 +14,9 @@ use Rattle.table.specs.Table.{pointsOf}
 use Rattle.pair.specs.declared.Place.{Place}
 use Rattle.pair.specs.Walk.{begin, nextIndex, advance}
 use Rattle.pair.proofs.Places.{begin-by}
-use Rattle.walk.specs.Calls.{misplaced, beginFault, begunOf, begunPlace}
-use Rattle.walk.specs.Contracts.{ifSound, Flat, Strays, BegunBy}
-use Rattle.walk.proofs.Answers.{begun-number}
+use Rattle.walk.specs.Calls.{misplaced, beginFault, begunOf, begunPlace, pointFault, pointedOf, pointedPoint, stepFault, edgedOf, edgedNumber, edgedEdge, advancedOf, advancedNumber, advancedPlace, steppedOf, steppedEdge, steppedPlace, pairBeginFault, pairedOf, pairedNumber, pairedPlaces}
+use Rattle.walk.specs.Contracts.{Flat, Strays, BegunBy, PointedBy, EdgedBy, MovedBy, AdvancedBy, SteppedBy, PairedBy}
+use Rattle.walk.proofs.Answers.{choice-number, accepts, begun-number, pointed-number, stepped-number, advance-placed, accepted}
 
 -- a value of an answer chosen by its fault, where each choice has its own
 choice-value : {A B : Type 0} (value : A → B) (f : ℕ) (good bad : A) → value (cond (eqb f 0) good bad) ≡ cond (eqb f 0) (value good) (value bad)
@@ -42,4 +43,61 @@ begun-by l reflected = record {
   number = begun-number l reflected;
   place = choice-value begunPlace (beginFault l reflected) _ _;
   free = begin-flat reflected (pointsOf l);
+}
+
+pub pointed-by : (l : List ℤ) (w : Place) → PointedBy l w (pointedOf l w)
+unfolding pointedOf
+pointed-by l w = record {
+  answer = refl;
+  number = pointed-number l w;
+  point = choice-value pointedPoint (pointFault l w) _ _;
+}
+
+pub edged-by : (l : List ℤ) (w : Place) → EdgedBy l w (edgedOf l w)
+unfolding edgedOf
+edged-by l w = record {
+  answer = refl;
+  number = choice-number edgedNumber (stepFault l w) _ _ refl refl;
+  edge = choice-value edgedEdge (stepFault l w) _ _;
+  free = strays (length (pointsOf l)) w;
+}
+
+moved-by : (l : List ℤ) (w : Place) {t : Place} → t ≡ cond (eqb (stepFault l w) 0) (advance (length (pointsOf l)) w) w → MovedBy l w t
+unfolding advance
+moved-by l w {t} e = record {
+  place = e;
+  stays = λ h. ap (misplaced (length (pointsOf l))) (went h) ∙ advance-placed (length (pointsOf l)) w (accepted l w h .placed);
+  fewer = λ h. omega (arith, ap (λ p. p .remaining) (went h), accepted l w h .left);
+  free = strays (length (pointsOf l)) w;
+}
+  where
+    went : stepFault l w ≡ 0 → t ≡ advance (length (pointsOf l)) w
+    went h = e ∙ sym (accepts (advance (length (pointsOf l)) w) w h)
+
+pub advanced-by : (l : List ℤ) (w : Place) → AdvancedBy l w (advancedOf l w)
+unfolding advancedOf
+advanced-by l w = record {
+  answer = refl;
+  number = choice-number advancedNumber (stepFault l w) _ _ refl refl;
+  moves = moved-by l w (choice-value advancedPlace (stepFault l w) _ _);
+}
+
+pub stepped-by : (l : List ℤ) (w : Place) → SteppedBy l w (steppedOf l w)
+unfolding steppedOf
+stepped-by l w = record {
+  answer = refl;
+  number = stepped-number l w;
+  edge = choice-value steppedEdge (stepFault l w) _ _;
+  moves = moved-by l w (choice-value steppedPlace (stepFault l w) _ _);
+}
+
+-- ---- a pair
+
+pub paired-by : (reflected : Bool) (l r : List ℤ) → PairedBy reflected l r (pairedOf reflected l r)
+unfolding pairedOf
+paired-by reflected l r = record {
+  answer = refl;
+  number = choice-number pairedNumber (pairBeginFault reflected l r) _ _ refl refl;
+  places = choice-value pairedPlaces (pairBeginFault reflected l r) _ _;
+  free = (begin-flat false (pointsOf l), begin-flat reflected (pointsOf r));
 }
