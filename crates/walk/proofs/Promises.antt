@@ -19,7 +19,7 @@ use Rattle.walk.specs.Contracts.{Flat, Strays, BegunBy, PointedBy, Edged
 use Rattle.walk.proofs.Answers.{choice-number, accepts, begun-number, pointed-number, stepped-number, advance-placed, accepted}
 
 -- a value of an answer chosen by its fault, where each choice has its own
-choice-value : {A B : Type 0} (value : A → B) (f : ℕ) (good bad : A) → value (cond (eqb f 0) good bad) ≡ cond (eqb f 0) (value good) (value bad)
+pub choice-value : {A B : Type 0} (value : A → B) (f : ℕ) (good bad : A) → value (cond (eqb f 0) good bad) ≡ cond (eqb f 0) (value good) (value bad)
 choice-value value zero good bad = refl
 choice-value value (suc f) good bad = rw (ne-eqb (suc f) 0 (omega arith))
 
