@@ -1,11 +1,9 @@
 -- A digit of a quotient guessed from the upper half of the divisor (`Guess`): the first guess, a guess that is too large made one less, and a guess that is
 -- right. v₁ is v's upper half and v₀ its lower one. Assumes nothing.
-use mathlib.Core.Path.{_≡_, refl, sym, _∙_, ap, subst}
+use mathlib.Core.Path.{_≡_, sym, _∙_, ap, subst}
 use Prim.Native.Nat.{ℕ, zero, suc, _+_, _*_, _-_, _/_, _%_, _^_, _≤_, _<_}
 use native.Mathlib.Omega.{arith}
 use native.Mathlib.Nat.{div-add-mod', mod-lt, mul-le-mul, lt-of-mul-lt-mul-right}
-use mir.Syntax.{w64}
-use mir.Val.{Fits}
 use Rattle.wide_divide.specs.Quotients.{Divided}
 
 abbrev H : ℕ

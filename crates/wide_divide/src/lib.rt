@@ -1,18 +1,16 @@
 // A number of two words divided by one word: whole, with what is left (`divide`), and rounded to nearest (`divide_with_rounding`). Each is the quotient
-// of the numbers in ℕ (specs/Quotients.antt). Leans on wide's definitions.
+// of the numbers in ℕ (specs/Quotients.antt). Leans on wide.
 ghost use mathlib.Core.Path.{_≡_};
-ghost use Prim.Native.Nat.{_+_, _*_, _/_, _%_, _^_, _≤_, _<_};
+ghost use Prim.Native.Nat.{_+_, _*_, _^_, _≤_, _<_};
 ghost use Rattle.wide.specs.Words.{twoWords};
 ghost use Rattle.wide_divide.specs.Quotients.{Divided, Normal, nearest};
+use wide::HALF;
 
 // A quotient and what is left.
 pub struct Quotient {
     pub quotient: u64,
     pub remainder: u64,
 }
-
-// Half a word, from 0: what 32 bits do not hold.
-const HALF: u64 = 4294967296;
 
 // A digit of 32 bits: u * 2^32 + x by v, whose top bit is set. The first guess, by v's upper half alone, is at most two too large (Knuth, The Art of
 // Computer Programming 2, 4.3.1, theorem B).
