@@ -1,5 +1,6 @@
--- Where the centre lies. In order: the moment of edges between bounds is between twice the bounds by the doubled area (`moment-least`, `moment-most`);
--- seen from another point the doubled area is the same (`area-seen`); the centre is on the grid (`centre-on-grid`). Assumes nothing.
+-- Where the centre lies. In order: the moment of edges between bounds is between twice the bounds by the doubled area (`moment-least`, `moment-most`), which
+-- is at least 0 (`area-least`); seen from another point the doubled area is the same (`area-seen`); how large a moment is (`moment-size`); where the
+-- first corner's offset to the centre lies (`offset-between`); the centre is on the grid (`centre-on-grid`). Assumes nothing.
 use mathlib.Core.Path.{_≡_, refl}
 use mathlib.Core.Bool.{true}
 use mathlib.Core.List.{List, [], _∷_, map}
