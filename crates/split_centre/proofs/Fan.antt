@@ -1,17 +1,16 @@
 -- The sums over a contour seen from its first corner: the edges at that corner add nothing, so the wedges are enough (`sum-fan`); the sums so far (`Sofar`) at
 -- the start, after a turn, at the end; that there is room for one wedge more (`sofar-room`). Assumes nothing.
 use mathlib.Core.Path.{_≡_, refl, sym, _∙_, ap, ap₂, subst}
-use mathlib.Core.Bool.{Bool, true, false}
+use mathlib.Core.Bool.{true, false}
 use mathlib.Core.List.{List, [], _∷_, _++_, map, map-append}
-use Prim.Native.Nat.{ℕ, zero, suc, _+_, _*_, _-_, _^_, _≤_, _<_}
+use Prim.Native.Nat.{ℕ, zero, suc, _+_, _-_, _^_, _≤_, _<_}
 use native.Mathlib.Omega.{arith}
-use native.Mathlib.Numerals.{add-one}
 use lib.ListN.{length, getD, take, drop, length-map, length-drop, take-append-drop, List·getD-map}
 use lib.Seq.{take-suc, take-length, drop-cons, getD-drop}
-use lib.IntN.{ℤ, pos, natAbs, _+ℤ_, _-ℤ_, _*ℤ_, +ℤ-idr}
-use lib.Signed.{_≤ℤ_, leZ}
+use lib.IntN.{ℤ, pos, natAbs, _+ℤ_, _-ℤ_, _*ℤ_}
+use lib.Signed.{_≤ℤ_}
 use Rattle.integers.specs.Lists.{All, sumℤ, links, neighbours}
-use Rattle.integers.proofs.Ring.{con, _:+_, _:-_, _:*_, _:≡_, int, ring}
+use Rattle.integers.proofs.Ring.{con, _:+_, _:*_, _:≡_, int, ring}
 use Rattle.integers.proofs.Order.{zarith, add-parts}
 use Rattle.integers.proofs.Sizes.{abs-parts}
 use Rattle.integers.proofs.Sums.{sum-cons, sum-append, sum-snoc}

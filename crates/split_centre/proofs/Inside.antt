@@ -3,7 +3,7 @@
 use mathlib.Core.Path.{_≡_, refl, sym, _∙_, ap}
 use mathlib.Core.Bool.{Bool, true, false, cond}
 use mathlib.Core.List.{List, [], _∷_, _++_}
-use Prim.Native.Nat.{ℕ, suc, _+_, _≤_, _<_}
+use Prim.Native.Nat.{ℕ, _+_, _≤_, _<_}
 use native.Mathlib.Omega.{arith}
 use native.Mathlib.Numerals.{add-one}
 use lib.ListN.{length, getD, drop, drop-of-length-le}
@@ -12,7 +12,7 @@ use lib.IntN.{ℤ, pos}
 use lib.Signed.{leZ, ltZ}
 use Rattle.integers.specs.Lists.{links, neighbours}
 use Rattle.integers.proofs.Tests.{leZ-≤, leZ-<, <-ltZ, ≤-ltZ}
-use Rattle.integers.proofs.Neighbours.{links-cons, neighbours-cons}
+use Rattle.integers.proofs.Neighbours.{neighbours-cons}
 use Rattle.plane.specs.Plane.{Pt, O, areaTwo}
 use Rattle.split.specs.Splitting.{leftOfAll}
 

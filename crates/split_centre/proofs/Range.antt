@@ -1,22 +1,23 @@
--- Where the centre lies. In order: the moment of edges between bounds is between twice the bounds by the doubled area (`moment-least`, `moment-most`);
--- seen from another point the doubled area is the same (`area-seen`); the centre is on the grid (`centre-on-grid`). Assumes nothing.
-use mathlib.Core.Path.{_≡_, refl, sym, _∙_, ap, subst}
-use mathlib.Core.Bool.{Bool, true, false, cond}
+-- Where the centre lies. In order: the moment of edges between bounds is between twice the bounds by the doubled area (`moment-least`, `moment-most`), which
+-- is at least 0 (`area-least`); seen from another point the doubled area is the same (`area-seen`); how large a moment is (`moment-size`); where the
+-- first corner's offset to the centre lies (`offset-between`); the centre is on the grid (`centre-on-grid`). Assumes nothing.
+use mathlib.Core.Path.{_≡_, refl}
+use mathlib.Core.Bool.{true}
 use mathlib.Core.List.{List, [], _∷_, map}
-use Prim.Native.Nat.{ℕ, suc, _+_, _*_, _≤_, _<_}
+use Prim.Native.Nat.{ℕ, _*_, _≤_, _<_}
 use native.Mathlib.Omega.{arith}
 use lib.IntN.{ℤ, pos, negsuc, natAbs, _+ℤ_, _-ℤ_, _*ℤ_}
-use lib.Signed.{_≤ℤ_, _<ℤ_, leZ, ltZ}
+use lib.Signed.{_≤ℤ_, _<ℤ_, leZ}
 use Rattle.integers.specs.Lists.{All, sumℤ, neighbours}
 use Rattle.integers.proofs.Ring.{con, _:+_, _:-_, _:*_, int, nat}
-use Rattle.integers.proofs.Order.{zarith, add-parts, sub-parts, ≤-trans, sub-of-≤}
-use Rattle.integers.proofs.Arith.{_:≤_, _:<_, _:=_, _:∧_, _⇒_, :⊥, arithℤ}
+use Rattle.integers.proofs.Order.{zarith, add-parts, sub-parts, sub-of-≤}
+use Rattle.integers.proofs.Arith.{_:≤_, _⇒_, arithℤ}
 use Rattle.integers.proofs.Signs.{nn-add, nn-mul}
 use Rattle.integers.proofs.Tests.{leZ-≤, ltZ-<, <-leZ, <-ltZ}
 use Rattle.integers.proofs.Sizes.{abs-parts}
 use Rattle.integers.proofs.Elements.{all-map, all-image}
 use Rattle.integers.proofs.Neighbours.{all-neighbours}
-use Rattle.plane.specs.Plane.{Pt, O, inRange, onGrid, _-ᵖ_, negᵖ, cross}
+use Rattle.plane.specs.Plane.{Pt, inRange, onGrid, _-ᵖ_, negᵖ, cross}
 use Rattle.plane.specs.Contour.{contourArea}
 use Rattle.plane.specs.Machine.{Coordinate}
 use Rattle.plane.proofs.Size.{on-grid-both}

@@ -2,15 +2,15 @@
 use mathlib.Core.Path.{_≡_, refl, sym, _∙_, ap}
 use mathlib.Core.Bool.{Bool, true, false, cond}
 use mathlib.Core.List.{List, [], _∷_, map}
-use Prim.Native.Nat.{ℕ, _≤_, _<_}
+use Prim.Native.Nat.{ℕ, _<_}
 use native.Mathlib.Omega.{arith}
 use borrow.Author.Needs.{needs}
 use lib.ListN.{length, length-map}
-use lib.IntN.{ℤ, pos}
+use lib.IntN.{pos}
 use lib.Signed.{ltZ}
 use Rattle.integers.specs.Lists.{neighbours}
 use Rattle.plane.specs.declared.IntPoint.{IntPoint}
-use Rattle.plane.specs.Plane.{Pt, onGrid}
+use Rattle.plane.specs.Plane.{Pt}
 use Rattle.plane.specs.Contour.{contourArea}
 use Rattle.plane.specs.Machine.{point, OnGrid}
 use Rattle.plane.proofs.Size.{on-grid-both}

@@ -1,10 +1,9 @@
 -- `split_centre::centred` meets its contract: the quotient fits 32 bits, and so does where it leads. Assumes nothing.
 use mathlib.Core.Path.{_≡_, _∙_, ap₂}
 use native.Mathlib.Omega.{arith}
-use lib.IntN.{ℤ, natAbs, _+ℤ_}
+use lib.IntN.{ℤ, _+ℤ_}
 use mir.Syntax.{w32, w64}
 use mir.Val.{SFits, toZ, ofZ}
-use Rattle.integers.specs.Size.{Within}
 use Rattle.integers.proofs.Bits.{kept, got, back, cast-fits, add-is}
 use Rattle.plane.specs.Machine.{Coordinate, Extent}
 use Rattle.split_centre.proofs.centred.Statement.{statement}

@@ -1,6 +1,6 @@
 -- `split_centre::polygon_centroid` meets its contract: past the threshold none, otherwise the first corner and each moment over three times the doubled
 -- area, to nearest. Assumes nothing.
-use mathlib.Core.Path.{_≡_, refl, sym, _∙_, ap, ap₂, subst}
+use mathlib.Core.Path.{_≡_, sym, _∙_, ap}
 use mathlib.Core.Bool.{true, false}
 use mathlib.Core.List.{List, map}
 use Prim.Native.Nat.{ℕ, _*_, _≤_, _<_}
@@ -20,7 +20,7 @@ use Rattle.plane.specs.Machine.{point, OnGrid}
 use Rattle.plane.proofs.Size.{coordinate-fits}
 use Rattle.wide.specs.Words.{value}
 use Rattle.convex_ring.specs.Buffers.{cornerOf, cornerAt}
-use Rattle.split.specs.Splitting.{rounded, momentX, momentY, centreOf, seenFrom}
+use Rattle.split.specs.Splitting.{rounded, centreOf}
 use Rattle.split_centre.specs.declared.Sums.{Sums}
 use Rattle.split_centre.specs.declared.Centre.the-variants.{At, Unserved}
 use Rattle.split_centre.specs.Centre.{Summable, Summed, Placed, roundedCentre, centroidFound}

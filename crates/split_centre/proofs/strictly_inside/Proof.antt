@@ -1,18 +1,18 @@
 -- `split_centre::strictly_inside` meets its contract. The loop's invariant: what is asked is whether g is to the left of the edges from a on (`Round`); the
 -- measure is the corners left. Assumes nothing.
-use mathlib.Core.Path.{_≡_, refl, sym, _∙_, ap}
-use mathlib.Core.Bool.{Bool, true, false, cond}
+use mathlib.Core.Path.{_≡_, sym, _∙_, ap}
+use mathlib.Core.Bool.{true, false, cond}
 use mathlib.Core.List.{List, map}
 use Prim.Native.Nat.{ℕ, _+_, _-_, _≤_, _<_}
 use native.Mathlib.Omega.{arith}
-use lib.ListN.{length, getD, length-map}
+use lib.ListN.{length, length-map}
 use lib.IntN.{ℤ, pos}
 use lib.Signed.{leZ, ltZ}
 use mir.Syntax.{w64}
 use Rattle.integers.specs.Lists.{neighbours}
 use Rattle.integers.proofs.Bits.{got}
 use Rattle.plane.specs.declared.IntPoint.{IntPoint}
-use Rattle.plane.specs.Plane.{Pt, O, areaTwo}
+use Rattle.plane.specs.Plane.{areaTwo}
 use Rattle.plane.specs.Machine.{point, OnGrid}
 use Rattle.convex_ring.specs.Buffers.{cornerOf, cornerAt}
 use Rattle.split.specs.Splitting.{leftOfAll}
