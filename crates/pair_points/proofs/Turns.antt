@@ -251,17 +251,35 @@ module _ (a b : List Pt) (i j : ℕ) (t : Turning a) (u : Turning b) (hi : i + 1
       by-two (λ x x' y y'. secondNext (edgesAlong x') (edgeAt b j) ≡ false → mergedOf x y ≡ here x' y)
       (λ A B v w k. merged-first (pointAt a i) (pointAt a (i + 1)) (pointAt b j) (pointAt b (j + 1)) A B v w (test-same (ap isEqual e)) k)
 
+-- the last point
+drop-last : (a : List Pt) (i : ℕ) → i + 1 ≡ length a → drop i a ≡ pointAt a i ∷ []
+drop-last a i e = drop-cons a i O (omega arith) ∙ ap (λ r. pointAt a i ∷ r) (drop-of-length-le a {i = suc i} (omega arith))
+
+-- after a tie, with no edge left, and with one
+pub second-last : (a : List Pt) (i : ℕ) (f : Pt) → i + 1 ≡ length a → secondNext (edgesAlong (drop i a)) f ≡ true
+unfolding secondNext edgesAlong
+second-last a i f e = ap (λ l. secondNext (edgesAlong l) f) (drop-last a i e)
+
+pub second-more : (a : List Pt) (i : ℕ) (f : Pt) → i + 1 < length a → secondNext (edgesAlong (drop i a)) f ≡ isGreater (angleCmp (edgeAt a i) f)
+unfolding secondNext edgesAlong
+second-more a i f h = two-ind a i (λ x y. secondNext (edgesAlong x) f ≡ isGreater (angleCmp (edgeAt a i) f)) h refl
+
+-- the points of one list, moved: one, and none at the last
+pub rest-more : (q : Pt) (a : List Pt) (i : ℕ) → i + 1 < length a → restOf q (drop i a) ≡ (pointAt a i +ᵖ q) ∷ restOf q (drop (i + 1) a)
+unfolding restOf
+rest-more q a i h = two-ind a i (λ x y. restOf q x ≡ (pointAt a i +ᵖ q) ∷ restOf q y) h refl
+
+pub rest-last : (q : Pt) (a : List Pt) (i : ℕ) → i + 1 ≡ length a → restOf q (drop i a) ≡ []
+unfolding restOf
+rest-last q a i e = ap (restOf q) (drop-last a i e)
+
 -- where one list has one point left, the other's points, moved by it
 pub at-rest :
     (a b : List Pt) (i j : ℕ) → Turning a → Turning b → i < length a → j < length b → (i + 1 ≡ length a) ⊎ (j + 1 ≡ length b) →
     mergedOf (drop i a) (drop j b) ≡ restOf (pointAt b j) (drop i a) ++ restOf (pointAt a (length a - 1)) (drop j b)
 at-rest a b i j t u hi hj = ⊎-elim
     (λ e. let k : length a - 1 ≡ i = omega arith in
-    rw (k, last a i e) (rest-second (pointAt a i) (drop j b) (turning-drop j b u) ∙ (unfold restOf in refl)))
-    (λ e. rw (last b j e) (rest-first (pointAt b j) (drop i a) (turning-drop i a t) ∙ sym (none (pointAt b j) (restOf (pointAt b j) (drop i a)))))
-  where
-    last : (a : List Pt) (i : ℕ) → i + 1 ≡ length a → drop i a ≡ pointAt a i ∷ []
-    last a i e = drop-cons a i O (omega arith) ∙ ap (λ r. pointAt a i ∷ r) (drop-of-length-le a {i = suc i} (omega arith))
-
-    none : (q : Pt) (l : List Pt) → l ++ restOf (pointAt a (length a - 1)) (q ∷ []) ≡ l
-    none q l = unfold restOf in append-nil l
+    ap (λ l. mergedOf l (drop j b)) (drop-last a i e) ∙ rest-second (pointAt a i) (drop j b) (turning-drop j b u) ∙ ap (λ n. restOf (pointAt a n) (drop j b)) (sym k)
+    ∙ ap (λ l. l ++ restOf (pointAt a (length a - 1)) (drop j b)) (sym (rest-last (pointAt b j) a i e)))
+    (λ e. ap (mergedOf (drop i a)) (drop-last b j e) ∙ rest-first (pointAt b j) (drop i a) (turning-drop i a t) ∙ sym (append-nil (restOf (pointAt b j) (drop i a)))
+    ∙ ap (λ l. restOf (pointAt b j) (drop i a) ++ l) (sym (rest-last (pointAt a (length a - 1)) b j e)))
