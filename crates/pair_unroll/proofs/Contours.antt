@@ -27,8 +27,27 @@ use Rattle.walk_read.proofs.Grid.{off-nowhere}
 use Rattle.walk_begin.proofs.Begins.{begin-8, begin-at}
 use Rattle.convex_contour.specs.Contour.{Appended}
 use Rattle.convex_contour.proofs.Contours.{appended-none}
-use Rattle.pair_unroll.specs.Unroll.{Ranged, pointsFrom, Walkable, Unrollable}
+use Rattle.pair_unroll.specs.declared.Unrolled.the-variants.{To, Leaves}
+use Rattle.pair_unroll.specs.Unroll.{Ranged, pointsFrom, Walkable, Unrollable, UnrolledTo, UnrolledBy}
 use Rattle.pair_unroll.proofs.Along.{few-points, every-point}
+
+-- ---- what is answered
+
+module _ {reflected : Bool} {l : List Pt} {points : List (List ℤ)} {from : ℕ} {points′ : List (List ℤ)} where
+  pub told-to : {n : ℕ} → UnrolledTo reflected l points from points′ n → UnrolledBy reflected l points from points′ (To n)
+  told-to {n} u = record { to = λ m e. subst (UnrolledTo reflected l points from points′) (same e) u; leaves = λ e. absurd (clash e) }
+    where
+      same : {m : ℕ} → To n ≡ To m → n ≡ m
+      same e = cc
+
+      clash : To n ≡ Leaves → ⊥
+      clash e = let z : _≡_ {A = ℕ} 0 1 = cc in omega arith
+
+  pub told-leaves : windingLeaves reflected l ≡ true → UnrolledBy reflected l points from points′ Leaves
+  told-leaves t = record { to = λ m e. absurd (clash e); leaves = λ e. t }
+    where
+      clash : {m : ℕ} → Leaves ≡ To m → ⊥
+      clash e = let z : _≡_ {A = ℕ} 0 1 = cc in omega arith
 
 -- ---- an empty contour
 
@@ -37,9 +56,9 @@ unfolding windingLeaves windingTerms startAt greatestAt leastAt totalLeaves neig
 none-leaves true = refl
 none-leaves false = refl
 
-pub none-unrolled : (reflected : Bool) (l : List ℤ) (points : List (List ℤ)) (from : ℕ) → length l ≡ 0 → (windingLeaves reflected (pointsOf l) ≡ false) × Appended (unrolled reflected (pointsOf l)) points from points from
+pub none-unrolled : (reflected : Bool) (l : List ℤ) (points : List (List ℤ)) (from : ℕ) → length l ≡ 0 → UnrolledTo reflected (pointsOf l) points from points from
 unfolding pointsOf unrolled
-none-unrolled reflected [] points from h = (none-leaves reflected, appended-none points from)
+none-unrolled reflected [] points from h = record { stays = none-leaves reflected; appended = appended-none points from }
 none-unrolled reflected (x ∷ l) points from h = absurd (omega arith)
 
 -- ---- where the walk begins

@@ -74,7 +74,12 @@ pub record Unrollable (l : List ℤ) (points : List (List ℤ)) (from : ℕ) : T
   pub ranged : offRange l ≡ false
   pub room : from + length (pointsOf l) < length points
 
--- the walk's points were put after the first `from`, up to n; or its winding leaves, and what is there is of no matter
-abbrev pub UnrolledBy : Bool → List Pt → List (List ℤ) → ℕ → List (List ℤ) → Unrolled → Type 0
-UnrolledBy reflected l points from points′ (answer.To n) = (windingLeaves reflected l ≡ false) × Appended (unrolled reflected l) points from points′ n
-UnrolledBy reflected l points from points′ answer.Leaves = windingLeaves reflected l ≡ true
+-- the walk's points were put after the first `from`, up to n
+pub record UnrolledTo (reflected : Bool) (l : List Pt) (points : List (List ℤ)) (from : ℕ) (points′ : List (List ℤ)) (n : ℕ) : Type 0 where
+  pub stays : windingLeaves reflected l ≡ false
+  pub appended : Appended (unrolled reflected l) points from points′ n
+
+-- that, or the winding leaves 64 bits (fault 8), and what is there is of no matter
+pub record UnrolledBy (reflected : Bool) (l : List Pt) (points : List (List ℤ)) (from : ℕ) (points′ : List (List ℤ)) (r : Unrolled) : Type 0 where
+  pub to : (n : ℕ) → r ≡ answer.To n → UnrolledTo reflected l points from points′ n
+  pub leaves : r ≡ answer.Leaves → windingLeaves reflected l ≡ true
