@@ -1,0 +1,2 @@
+-- What putting all pairs leans on.
+pub mod Pairs
