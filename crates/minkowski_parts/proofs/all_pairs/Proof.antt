@@ -4,7 +4,7 @@ use lib.ListN.{length}
 use Rattle.minkowski.specs.Pairs.{resultBounds, pairContours}
 use Rattle.minkowski_faults.specs.Kinds.{operand}
 use Rattle.minkowski_answer.proofs.Answer.{refused}
-use Rattle.minkowski_parts.proofs.Faults.{operands-refused}
+use Rattle.minkowski_work.proofs.Faults.{operands-refused}
 use borrow.Author.Needs.{needs}
 use Rattle.minkowski_parts.proofs.all_pairs.Statement.{statement}
 use Rattle.minkowski_parts.proofs.all_pairs.Tie as tie

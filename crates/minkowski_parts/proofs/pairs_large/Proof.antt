@@ -1,8 +1,8 @@
 -- `minkowski_parts::pairs_large` meets its contract: its buffers hold the points of any operand. Assumes nothing.
 use mathlib.Core.Path.{refl}
 use Rattle.minkowski_faults.specs.Kinds.{operand}
-use Rattle.minkowski_parts.proofs.Faults.{judged}
-use Rattle.minkowski_parts.proofs.Walked.{large}
+use Rattle.minkowski_work.proofs.Faults.{judged}
+use Rattle.minkowski_work.proofs.Walked.{large}
 use borrow.Author.Needs.{needs}
 use Rattle.minkowski_parts.proofs.pairs_large.Statement.{statement}
 use Rattle.minkowski_parts.proofs.pairs_large.Tie as tie

@@ -1,10 +1,10 @@
--- `minkowski_parts::most_corners` meets its contract: no product or sum leaves a word. Assumes nothing.
+-- `minkowski_work::most_corners` meets its contract: no product or sum leaves a word. Assumes nothing.
 use native.Mathlib.Omega.{arith}
 use borrow.Author.Needs.{needs}
 use Rattle.table.proofs.Rules.{sound}
-use Rattle.minkowski_parts.proofs.Counted.{few-left, few-right}
-use Rattle.minkowski_parts.proofs.most_corners.Statement.{statement}
-use Rattle.minkowski_parts.proofs.most_corners.Tie as tie
+use Rattle.minkowski_work.proofs.Counted.{few-left, few-right}
+use Rattle.minkowski_work.proofs.most_corners.Statement.{statement}
+use Rattle.minkowski_work.proofs.most_corners.Tie as tie
 
 sub-l : tie.Need-sub-l
 sub-l c = omega (arith, sound (c .args .left-starts .now) (c .args .left-corners .now) (c .pre .0) .some)

@@ -31,9 +31,9 @@ use Rattle.minkowski_rows.specs.Rows.{walksIn, Walks, mergedAll}
 use Rattle.minkowski_rows.proofs.Pairs.{walks-in, merged-pairs}
 use Rattle.minkowski_count.specs.Counting.{Countable}
 use Rattle.minkowski_answer.specs.Answer.{contoursIn, Unrolleds, PairsAnswered}
-use Rattle.minkowski_parts.specs.Scratch.{Scratch}
-use Rattle.minkowski_parts.proofs.Faults.{Judged}
-use Rattle.minkowski_parts.proofs.Counted.{few-pairs, few-contours, few-left, few-right}
+use Rattle.minkowski_work.specs.Scratch.{Scratch}
+use Rattle.minkowski_work.proofs.Faults.{Judged}
+use Rattle.minkowski_work.proofs.Counted.{few-pairs, few-contours, few-left, few-right}
 
 -- ---- walks gathered are walks read
 

@@ -1,4 +1,4 @@
--- `minkowski_parts::pairs_over` meets its contract: each refusal in its turn, and the answer of `hand_out`, which is that for the operands. Assumes nothing.
+-- `minkowski_work::pairs_over` meets its contract: each refusal in its turn, and the answer of `hand_out`, which is that for the operands. Assumes nothing.
 use mathlib.Core.Path.{_≡_, sym, _∙_, ap}
 use mathlib.Core.Bool.{Bool, false}
 use mathlib.Core.List.{[], _∷_}
@@ -13,10 +13,10 @@ use Rattle.table.proofs.Rules.{sound}
 use Rattle.minkowski.specs.Pairs.{Operand, resultBounds, pairContours}
 use Rattle.minkowski_faults.specs.Kinds.{operand, resultKinds}
 use Rattle.minkowski_answer.proofs.Answer.{refused}
-use Rattle.minkowski_parts.proofs.Faults.{left-leaves, right-leaves, result-refused, room-decides, judged}
-use Rattle.minkowski_parts.proofs.Walked.{unrollable, walked, unrolleds, answered}
-use Rattle.minkowski_parts.proofs.pairs_over.Statement.{statement}
-use Rattle.minkowski_parts.proofs.pairs_over.Tie as tie
+use Rattle.minkowski_work.proofs.Faults.{left-leaves, right-leaves, result-refused, room-decides, judged}
+use Rattle.minkowski_work.proofs.Walked.{unrollable, walked, unrolleds, answered}
+use Rattle.minkowski_work.proofs.pairs_over.Statement.{statement}
+use Rattle.minkowski_work.proofs.pairs_over.Tie as tie
 
 -- the faults of the result by its bounds as they were computed
 result-kinds : (reflected : Bool) (l r : Operand) {b : IntRect} → b ≡ resultBounds reflected (l .bounds) (r .bounds) → firstFault ((10, offRange (boundsList b)) ∷ (20, eqb (partCount (l .starts)) 0) ∷ (20, eqb (partCount (r .starts)) 0) ∷ []) ≡ firstFault (resultKinds reflected l r)
@@ -135,7 +135,7 @@ sub-left c =
     let g = s .args in
     let l = operand (g .left-starts .now) (g .left-corners .now) (g .left-bounds) in
     let r = operand (g .right-starts .now) (g .right-corners .now) (g .right-bounds) in
-    omega (arith, sound (l .starts) (l .corners) (judged l r (s .pre .accepted) .0 .sound) .some)
+    omega (arith, sound (l .starts) (l .corners) (judged l r (s .pre .accepted) .0 .sound) .some, sound (r .starts) (r .corners) (judged l r (s .pre .accepted) .1 .sound) .some)
 
 sub-right : tie.Need-sub-right
 sub-right c =
@@ -143,7 +143,7 @@ sub-right c =
     let g = s .args in
     let l = operand (g .left-starts .now) (g .left-corners .now) (g .left-bounds) in
     let r = operand (g .right-starts .now) (g .right-corners .now) (g .right-bounds) in
-    omega (arith, sound (r .starts) (r .corners) (judged l r (s .pre .accepted) .1 .sound) .some)
+    omega (arith, sound (l .starts) (l .corners) (judged l r (s .pre .accepted) .0 .sound) .some, sound (r .starts) (r .corners) (judged l r (s .pre .accepted) .1 .sound) .some)
 
 hand-out-requires : tie.Need-hand-out-requires
 hand-out-requires c κs =

@@ -1,2 +1,0 @@
--- What the contracts cite: work buffers for two operands.
-pub mod Scratch

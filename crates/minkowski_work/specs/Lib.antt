@@ -1,0 +1,2 @@
+-- What the contracts cite: the answer for two operands, and work buffers for them.
+pub mod Scratch
