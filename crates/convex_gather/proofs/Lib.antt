@@ -1,3 +1,4 @@
--- Parts gathered, and handed out.
+-- Parts gathered, read again, and handed out.
 pub mod Gathering
+pub mod Reading
 pub mod Answer

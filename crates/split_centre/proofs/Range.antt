@@ -1,22 +1,23 @@
--- Where the centre lies. In order: the moment of edges between bounds is between twice the bounds by the doubled area (`moment-least`, `moment-most`);
--- seen from another point the doubled area is the same (`area-seen`); the centre is on the grid (`centre-on-grid`). Assumes nothing.
-use mathlib.Core.Path.{_≡_, refl, sym, _∙_, ap, subst}
-use mathlib.Core.Bool.{Bool, true, false, cond}
+-- Where the centre lies. In order: the moment of edges between bounds is between twice the bounds by the doubled area (`moment-least`, `moment-most`), which
+-- is at least 0 (`area-least`); seen from another point the doubled area is the same (`area-seen`); how large a moment is (`moment-size`); where the
+-- first corner's offset to the centre lies (`offset-between`); the centre is on the grid (`centre-on-grid`). Assumes nothing.
+use mathlib.Core.Path.{_≡_, refl}
+use mathlib.Core.Bool.{true}
 use mathlib.Core.List.{List, [], _∷_, map}
-use Prim.Native.Nat.{ℕ, suc, _+_, _*_, _≤_, _<_}
+use Prim.Native.Nat.{ℕ, _*_, _≤_, _<_}
 use native.Mathlib.Omega.{arith}
 use lib.IntN.{ℤ, pos, negsuc, natAbs, _+ℤ_, _-ℤ_, _*ℤ_}
-use lib.Signed.{_≤ℤ_, _<ℤ_, leZ, ltZ}
+use lib.Signed.{_≤ℤ_, _<ℤ_, leZ}
 use Rattle.integers.specs.Lists.{All, sumℤ, neighbours}
 use Rattle.integers.proofs.Ring.{con, _:+_, _:-_, _:*_, int, nat}
-use Rattle.integers.proofs.Order.{zarith, add-parts, sub-parts, ≤-trans, sub-of-≤}
-use Rattle.integers.proofs.Arith.{_:≤_, _:<_, _:=_, _:∧_, _⇒_, :⊥, arithℤ}
-use Rattle.integers.proofs.Signs.{nn-mul}
+use Rattle.integers.proofs.Order.{zarith, add-parts, sub-parts, sub-of-≤}
+use Rattle.integers.proofs.Arith.{_:≤_, _⇒_, arithℤ}
+use Rattle.integers.proofs.Signs.{nn-add, nn-mul}
 use Rattle.integers.proofs.Tests.{leZ-≤, ltZ-<, <-leZ, <-ltZ}
 use Rattle.integers.proofs.Sizes.{abs-parts}
 use Rattle.integers.proofs.Elements.{all-map, all-image}
 use Rattle.integers.proofs.Neighbours.{all-neighbours}
-use Rattle.plane.specs.Plane.{Pt, O, inRange, onGrid, _-ᵖ_, negᵖ, cross}
+use Rattle.plane.specs.Plane.{Pt, inRange, onGrid, _-ᵖ_, negᵖ, cross}
 use Rattle.plane.specs.Contour.{contourArea}
 use Rattle.plane.specs.Machine.{Coordinate}
 use Rattle.plane.proofs.Size.{on-grid-both}
@@ -67,6 +68,12 @@ module _ (f : Pt → ℤ) (k : ℤ) where
       most-turn k (f (e .0)) (f (e .1)) (cross (e .0) (e .1)) (areaOf m) (momentOf f m)
       (nn-mul p (sub-of-≤ (h .0 .0))) (nn-mul p (sub-of-≤ (h .0 .1))) (moment-most m (w .1) (h .1))
 
+-- 0 ≤ A
+pub area-least : (m : List (Pt × Pt)) → Wedges m → pos 0 ≤ℤ areaOf m
+unfolding sumℤ
+area-least [] w = omega zarith
+area-least (e ∷ m) w = nn-add (leZ-≤ (pos 0) (cross (e .0) (e .1)) (w .0)) (area-least m (w .1))
+
 -- ---- seen from the first corner
 
 pub area-seen : (c : Pt) (l : List Pt) → contourArea (seenFrom c l) ≡ contourArea l
@@ -94,7 +101,11 @@ low z = negsuc 1073741822 -ℤ z
 abbrev pub high : ℤ → ℤ
 high z = pos 1073741823 -ℤ z
 
-between : (z s : ℤ) → Coordinate z → Coordinate s → (low s ≤ℤ (z -ℤ s)) × ((z -ℤ s) ≤ℤ high s)
+-- z is between the limits seen from s
+abbrev pub Between : ℤ → ℤ → Type 0
+Between s z = (low s ≤ℤ z) × (z ≤ℤ high s)
+
+between : (z s : ℤ) → Coordinate z → Coordinate s → Between s (z -ℤ s)
 between z s h k =
     (omega (zarith, sub-parts z s, sub-parts (negsuc 1073741822) s, abs-parts z, h .abs), omega (zarith, sub-parts z s, sub-parts (pos 1073741823) s, abs-parts z, h .abs))
 
@@ -108,6 +119,31 @@ low-below z h = omega (zarith, sub-parts (negsuc 1073741822) z, abs-parts z, h .
 high-above : (z : ℤ) → Coordinate z → pos 0 ≤ℤ high z
 high-above z h = omega (zarith, sub-parts (pos 1073741823) z, abs-parts z, h .abs)
 
+-- |M| ≤ 2 (2^31 - 2) A
+size-of : (k : ℤ) → Coordinate k → (A M : ℤ) → pos 0 ≤ℤ A → ((low k +ℤ low k) *ℤ A) ≤ℤ M → M ≤ℤ ((high k +ℤ high k) *ℤ A) → natAbs M ≤ 4294967292 * natAbs A
+size-of k h (negsuc a) M p l u = absurd (p .le)
+size-of k h (pos a) M p l u =
+    let t : M ≤ℤ pos (4294967292 * a) = most (high k) a M (nn-mul p (sub-of-≤ (high-most k h))) u in
+    let b : (pos 0 -ℤ pos (4294967292 * a)) ≤ℤ M = least (low k) a M (nn-mul p (low-least k h)) l in
+    omega (zarith, t, b, sub-parts (pos 0) (pos (4294967292 * a)), abs-parts M)
+  where
+    high-most : (k : ℤ) → Coordinate k → high k ≤ℤ pos 2147483646
+    high-most k h = omega (zarith, sub-parts (pos 1073741823) k, abs-parts k, h .abs)
+
+    low-least : (k : ℤ) → Coordinate k → pos 0 ≤ℤ (low k +ℤ pos 2147483646)
+    low-least k h = omega (zarith, sub-parts (negsuc 1073741822) k, add-parts (low k) (pos 2147483646), abs-parts k, h .abs)
+
+    most : (h : ℤ) (a : ℕ) (M : ℤ) → pos 0 ≤ℤ (pos a *ℤ (pos 2147483646 -ℤ h)) → M ≤ℤ ((h +ℤ h) *ℤ pos a) → M ≤ℤ (pos 4294967292 *ℤ pos a)
+    most = arithℤ (int ∷ nat ∷ int ∷ []) (λ h a M. con (pos 0) :≤ a :* (con (pos 2147483646) :- h) ⇒ M :≤ (h :+ h) :* a ⇒ M :≤ con (pos 4294967292) :* a) (omega arith)
+
+    least : (h : ℤ) (a : ℕ) (M : ℤ) → pos 0 ≤ℤ (pos a *ℤ (h +ℤ pos 2147483646)) → ((h +ℤ h) *ℤ pos a) ≤ℤ M → (pos 0 -ℤ pos 4294967292 *ℤ pos a) ≤ℤ M
+    least = arithℤ (int ∷ nat ∷ int ∷ []) (λ h a M. con (pos 0) :≤ a :* (h :+ con (pos 2147483646)) ⇒ (h :+ h) :* a :≤ M ⇒ con (pos 0) :- con (pos 4294967292) :* a :≤ M) (omega arith)
+
+-- of edges whose ends are between the limits seen from k
+pub moment-size : (f : Pt → ℤ) (k : ℤ) → Coordinate k → (m : List (Pt × Pt)) → Wedges m → All (λ e. Between k (f (e .0)) × Between k (f (e .1))) m → natAbs (momentOf f m) ≤ 4294967292 * natAbs (areaOf m)
+moment-size f k h m w b =
+    size-of k h (areaOf m) (momentOf f m) (area-least m w) (moment-least f (low k) m w (all-map m (λ e b. (b .0 .0, b .1 .0)) b)) (moment-most f (high k) m w (all-map m (λ e b. (b .0 .1, b .1 .1)) b))
+
 from-offset : (z r : ℤ) → low z ≤ℤ r → r ≤ℤ high z → inRange (z +ℤ r) ≡ true
 from-offset z r h k =
     in-range (z +ℤ r) (omega (zarith, add-parts z r, sub-parts (negsuc 1073741822) z)) (omega (zarith, add-parts z r, sub-parts (pos 1073741823) z))
@@ -119,17 +155,17 @@ module _ (f : Pt → ℤ) (minus : (a b : Pt) → f (a -ᵖ b) ≡ f a -ℤ f b)
   abbrev seen : List (Pt × Pt)
   seen = neighbours (seenFrom c (c ∷ l))
 
-  area-above : pos 0 <ℤ areaOf seen
+  pub area-above : pos 0 <ℤ areaOf seen
   unfolding contourArea
   area-above = ltZ-< (pos 0) (areaOf seen) (rw area-seen (h .above))
 
-  corners-between : All (λ p. (low (f c) ≤ℤ f p) × (f p ≤ℤ high (f c))) (seenFrom c (c ∷ l))
+  corners-between : All (λ p. Between (f c) (f p)) (seenFrom c (c ∷ l))
   corners-between =
-      all-image (λ p. (low (f c) ≤ℤ f p) × (f p ≤ℤ high (f c))) (λ p. p -ᵖ c) (c ∷ l) .1
+      all-image (λ p. Between (f c) (f p)) (λ p. p -ᵖ c) (c ∷ l) .1
       (all-map (c ∷ l) (λ p g. rw (minus p c) (between (f p) (f c) (small p g) (small c (h .grid .0)))) (h .grid))
 
-  edges-between : All (λ e. ((low (f c) ≤ℤ f (e .0)) × (f (e .0) ≤ℤ high (f c))) × ((low (f c) ≤ℤ f (e .1)) × (f (e .1) ≤ℤ high (f c)))) seen
-  edges-between = all-neighbours (λ p. (low (f c) ≤ℤ f p) × (f p ≤ℤ high (f c))) (seenFrom c (c ∷ l)) corners-between
+  pub edges-between : All (λ e. Between (f c) (f (e .0)) × Between (f c) (f (e .1))) seen
+  edges-between = all-neighbours (λ p. Between (f c) (f p)) (seenFrom c (c ∷ l)) corners-between
 
   pub moment-between : (((low (f c) +ℤ low (f c)) *ℤ areaOf seen) ≤ℤ momentOf f seen) × (momentOf f seen ≤ℤ ((high (f c) +ℤ high (f c)) *ℤ areaOf seen))
   moment-between = (

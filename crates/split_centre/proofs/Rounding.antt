@@ -1,18 +1,18 @@
--- Rounding to nearest: of naturals (`nearest-most`, `nearest-least`), of the negative (`rounded-neg`), and that it stays between whole numbers that the
+-- Rounding to nearest: of naturals (`nearest-most`, `nearest-least`), of the negative (`rounded-neg`), of a magnitude with a sign (`rounded-signed`), and that it stays between whole numbers that the
 -- quotient lies between (`rounded-most`, `rounded-least`). Assumes nothing.
 use mathlib.Core.Path.{_≡_, refl, sym, _∙_, ap, subst}
-use Prim.Native.Nat.{ℕ, zero, suc, _+_, _*_, _/_, _≤_, _<_}
+use mathlib.Core.Bool.{Bool, true, false}
+use Prim.Native.Nat.{ℕ, zero, suc, _+_, _*_, _≤_, _<_}
 use native.Mathlib.Omega.{arith}
 use native.Mathlib.Nat.{div-lt-iff-lt-mul, le-div-iff-mul-le, div-eq-of-lt}
-use lib.IntN.{ℤ, pos, negsuc, negℤ, _*ℤ_}
-use lib.Signed.{_≤ℤ_, _<ℤ_}
+use lib.IntN.{ℤ, pos, negsuc, negℤ, natAbs, _*ℤ_}
+use lib.Signed.{_≤ℤ_}
 use Rattle.integers.proofs.Laws.{negℤ-*ℤ}
 use Rattle.integers.proofs.Order.{zarith, neg-parts, mul-parts, neg-mono, ≤-in}
+use Rattle.wide.specs.Words.{signed}
+use Rattle.wide.proofs.Signs.{signed-size}
+use Rattle.wide_divide.specs.Quotients.{nearest}
 use Rattle.split.specs.Splitting.{rounded}
-
--- the quotient rounded, of naturals
-abbrev pub nearest : ℕ → ℕ → ℕ
-nearest n d = (2 * n + d) / (2 * d)
 
 -- n ≤ j d gives 2 n + d < (j + 1) 2 d
 pub nearest-most : (n j d : ℕ) → 0 < d → n ≤ j * d → nearest n d ≤ j
@@ -35,6 +35,15 @@ rounded-neg (negsuc n) d h = twice (nearest (suc n) d)
   where
     twice : (q : ℕ) → pos q ≡ negℤ (negℤ (pos q))
     twice q = omega (zarith, neg-parts (pos q), neg-parts (negℤ (pos q)))
+
+-- of a magnitude with a sign
+pub rounded-signed : (s : Bool) (n d : ℕ) → 0 < d → rounded (signed s n) d ≡ signed s (nearest n d)
+unfolding rounded
+rounded-signed true n d h = rounded-neg (pos n) d h
+rounded-signed false n d h = refl
+
+pub rounded-size : (s : Bool) (n d : ℕ) → 0 < d → natAbs (rounded (signed s n) d) ≡ nearest n d
+rounded-size s n d h = ap natAbs (rounded-signed s n d h) ∙ signed-size s (nearest n d)
 
 pub rounded-most : (m k : ℤ) (d : ℕ) → 0 < d → m ≤ℤ (k *ℤ pos d) → rounded m d ≤ℤ k
 unfolding rounded

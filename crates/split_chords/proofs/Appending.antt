@@ -6,15 +6,15 @@ use Prim.Native.Nat.{ℕ, _+_, _≤_, _<_, _^_}
 use native.Mathlib.Numerals.{add-one}
 use native.Mathlib.Omega.{arith}
 use lib.ListN.{length, getD, set, take, drop, length-drop, length-map, length-set, List·getD-map}
-use lib.Seq.{drop-cons, take-suc, take-suc-set, getD-drop, length-take-le}
+use lib.Seq.{take-suc, take-suc-set, getD-drop, length-take-le}
 use lib.IntN.{ℤ}
 use Rattle.plane.specs.Plane.{Pt, O}
 use Rattle.convex_ring.specs.Buffers.{cornerOf, cornerAt}
 use Rattle.convex_contour.specs.Contour.{Appended}
-use Rattle.convex_contour.proofs.Contours.{appended-none, appended-more}
+use Rattle.convex_contour.proofs.Contours.{appended-more}
 use Rattle.convex_gather.specs.declared.Tally.{Tally}
 use Rattle.convex_gather.specs.Gather.{cornersIn, RoomFor, PartsAppended}
-use Rattle.convex_gather.proofs.Gathering.{none-appended, then-appended, part-appended, room-rest}
+use Rattle.convex_gather.proofs.Gathering.{none-appended, then-appended, part-appended, room-first, room-rest}
 use Rattle.split_chords.specs.Runs.{runOf}
 
 -- ---- a point copied
@@ -81,9 +81,10 @@ module _ (qs : List (List Pt)) (s₀ : List ℕ) (p₀ : List (List ℤ)) (t₀ 
   partway-start e = record { done = []; appended = none-appended s₀ p₀ t₀; whole = e }
 
   module _ {s : List ℕ} {p : List (List ℤ)} {t : Tally} where
-    pub partway-room : {rest rest′ : List (List Pt)} → RoomFor s₀ p₀ t₀ qs → Partway qs rest s₀ p₀ t₀ s p t → rest ≡ rest′ → RoomFor s p t rest′
-    partway-room {rest} r k e =
-        subst (RoomFor s p t) e (room-rest (k .done) rest s₀ p₀ t₀ (subst (RoomFor s₀ p₀ t₀) (sym (k .whole)) r) (k .appended))
+    -- there is room for the parts that come next
+    pub partway-room : (ps rest′ : List (List Pt)) {rest : List (List Pt)} → RoomFor s₀ p₀ t₀ qs → Partway qs rest s₀ p₀ t₀ s p t → rest ≡ ps ++ rest′ → RoomFor s p t ps
+    partway-room ps rest′ {rest} r k e =
+        room-first ps rest′ s p t (subst (RoomFor s p t) e (room-rest (k .done) rest s₀ p₀ t₀ (subst (RoomFor s₀ p₀ t₀) (sym (k .whole)) r) (k .appended)))
 
     pub partway-turn : (ps : List (List Pt)) {rest rest′ : List (List Pt)} {s′ : List ℕ} {p′ : List (List ℤ)} {t′ : Tally} → Partway qs rest s₀ p₀ t₀ s p t → rest ≡ ps ++ rest′ → PartsAppended ps s p t s′ p′ t′ → Partway qs rest′ s₀ p₀ t₀ s′ p′ t′
     partway-turn ps {rest′ = rest′} k e a = record {

@@ -1,11 +1,11 @@
 -- The parts of a fan in turn (`Fanning`: `fanning-start`, `fanning-room`, `fanning-turn`, `fanning-end`). Assumes nothing.
-use mathlib.Core.Path.{_≡_, refl, sym, _∙_, ap}
+use mathlib.Core.Path.{_≡_, sym, _∙_, ap}
 use mathlib.Core.Bool.{cond}
 use mathlib.Core.List.{List, [], _∷_, _++_}
 use Prim.Native.Nat.{ℕ, suc, _+_, _-_, _/_, _%_, _≤_, _<_}
 use native.Mathlib.Omega.{arith}
 use lib.Dec.{ltb}
-use lib.ListN.{length, take, drop, length-map}
+use lib.ListN.{length, drop, length-map}
 use lib.Seq.{drop-drop}
 use lib.IntN.{ℤ}
 use Rattle.integers.specs.Lists.{sumℕ}
@@ -13,7 +13,6 @@ use Rattle.plane.specs.Plane.{Pt}
 use Rattle.convex_ring.specs.Buffers.{cornerOf, cornerAt}
 use Rattle.convex_gather.specs.declared.Tally.{Tally}
 use Rattle.convex_gather.specs.Gather.{cornersIn, RoomFor, PartsAppended}
-use Rattle.convex_gather.proofs.Gathering.{room-first}
 use Rattle.split.specs.Splitting.{sharesFrom, shares, ceilDiv, triangleShares, fanned, fanParts}
 use Rattle.split.proofs.Shares.{sum-shares}
 use Rattle.split_chords.specs.Runs.{runOf}
@@ -54,7 +53,7 @@ module _ (contour : List (List ℤ)) (s₀ : List ℕ) (p₀ : List (List ℤ)) 
       fanning-within = omega (arith, f .size, sum-next n k i h, e)
 
       pub fanning-room : RoomFor s₀ p₀ t₀ qs → RoomFor s p t ((cornerAt contour 0 ∷ runOf contour start (m + 1)) ∷ [])
-      fanning-room r = room-first ((cornerAt contour 0 ∷ runOf contour start (m + 1)) ∷ []) (fanFrom contour n k (i + 1) (start + m)) s p t (partway-room qs s₀ p₀ t₀ r (f .partway) next)
+      fanning-room r = partway-room qs s₀ p₀ t₀ ((cornerAt contour 0 ∷ runOf contour start (m + 1)) ∷ []) (fanFrom contour n k (i + 1) (start + m)) r (f .partway) next
 
       pub fanning-turn : {s′ : List ℕ} {p′ : List (List ℤ)} {t′ : Tally} → PartsAppended ((cornerAt contour 0 ∷ runOf contour start (m + 1)) ∷ []) s p t s′ p′ t′ → Fanning contour qs n k (i + 1) (start + m) s₀ p₀ t₀ s′ p′ t′
       fanning-turn a = record {

@@ -1,12 +1,12 @@
 -- The calls on walks: each answer's number is its fault number (`begun-number`, `pointed-number`, `stepped-number`, `next-number`), a refusal
 -- hands the walk back as it came (`stepped-back`, `next-back`), and an accepted step leaves a walk whose place is again a corner of its
--- contour (`step-placed`), as a walk begun does (`begin-placed`). Assumes nothing.
+-- contour (`step-placed`; `accepted`, `index-inside`, `next-inside`, `advance-placed`), as a walk begun does (`begin-placed`). Assumes nothing.
 use mathlib.Core.Path.{_≡_, refl, sym, _∙_, ap}
 use mathlib.Core.Bool.{Bool, true, false, cond, true≢false}
 use mathlib.Core.List.{List, [], _∷_}
-use Prim.Native.Nat.{ℕ, zero, suc, _<_}
+use Prim.Native.Nat.{ℕ, zero, suc, _/_, _%_, _≤_, _<_}
 use native.Mathlib.Omega.{arith}
-use borrow.Author.Tests.{leb-false, lt-leb, ne-eqb}
+use borrow.Author.Tests.{eqb-true, eqb-false, eq-eqb, ltb-false, leb-false, lt-leb, ne-eqb}
 use lib.Dec.{eqb, leb}
 use lib.ListN.{length}
 use lib.IntN.{ℤ}
@@ -17,6 +17,8 @@ use Rattle.plane.specs.Plane.{Pt}
 use Rattle.plane.specs.declared.IntVector.{IntVector}
 use Rattle.plane.specs.declared.IntPoint.{IntPoint}
 use Rattle.table.specs.Table.{pointsOf}
+use Rattle.table.proofs.Corners.{length-points}
+use Rattle.table.proofs.Rules.{was-taken}
 use Rattle.pair.specs.declared.Place.{Place}
 use Rattle.pair.specs.declared.ConvexSum.{ConvexSum}
 use Rattle.pair.specs.Walk.{begin, nextIndex, advance}
@@ -30,14 +32,21 @@ use Rattle.walk.specs.declared.Stepped.{Stepped}
 use Rattle.walk.specs.declared.Stepped.the-variants as stepped
 use Rattle.walk.specs.declared.Next.{Next}
 use Rattle.walk.specs.declared.Next.the-variants as next
-use Rattle.walk.specs.Calls.{misplaced, finished, beginFault, begunOf, pointFault, pointedOf, stepFault, steppedOf, pairStepFault, nextOf, pairSteppedOf, begunNumber, pointedNumber, steppedNumber, steppedPlace, nextNumber, nextPlaces}
+use Rattle.walk.specs.Calls.{lengthBroken, misplaced, finished, offAt, beginFault, begunOf, pointFault, pointedOf, stepFault, steppedOf, pairStepFault, nextOf, pairSteppedOf, begunNumber, pointedNumber, steppedNumber, steppedPlace, nextNumber, nextPlaces}
 
 -- ---- numbers
 
 -- an answer chosen by whether the fault is 0 has the fault's number, where each choice has its own
-choice-number : {A : Type 0} (number : A → ℕ) (f : ℕ) (good bad : A) → number good ≡ 0 → number bad ≡ f → number (cond (eqb f 0) good bad) ≡ f
+pub choice-number : {A : Type 0} (number : A → ℕ) (f : ℕ) (good bad : A) → number good ≡ 0 → number bad ≡ f → number (cond (eqb f 0) good bad) ≡ f
 choice-number number zero good bad g b = g
 choice-number number (suc f) good bad g b = rw (ne-eqb (suc f) 0 (omega arith), b)
+
+-- the answer where there is no fault, and where there is one
+pub accepts : {A : Type 0} {f : ℕ} (good bad : A) → f ≡ 0 → good ≡ cond (eqb f 0) good bad
+accepts {f = f} good bad e = rw (eq-eqb f 0 e)
+
+pub refuses : {A : Type 0} {f : ℕ} (good bad : A) → (f ≡ 0 → ⊥) → bad ≡ cond (eqb f 0) good bad
+refuses {f = f} good bad e = rw (ne-eqb f 0 e)
 
 pub begun-number : (l : List ℤ) (reflected : Bool) → begunNumber (begunOf l reflected) ≡ beginFault l reflected
 unfolding begunOf
@@ -83,6 +92,21 @@ all-false false true true c h = absurd (true≢false h)
 all-false false true false c h = (refl, λ k. (refl, h))
 all-false false false b c h = (refl, λ k. absurd (true≢false (sym k)))
 
+-- a contour of sound length has few corners
+pub few-corners : (l : List ℤ) → lengthBroken l ≡ false → length (pointsOf l) ≤ 1026
+unfolding lengthBroken
+few-corners l h = omega (arith, length-points l, ltb-false 1026 (length l / 2) (was-taken (eqb (length l % 2) 0) _ h .1))
+
+-- and where it is not empty it has a corner
+pub some-corner : (l : List ℤ) → lengthBroken l ≡ false → (length l ≡ 0 → ⊥) → 0 < length (pointsOf l)
+unfolding lengthBroken
+some-corner l h k = omega (arith, length-points l, eqb-true (length l % 2) 0 (was-taken (eqb (length l % 2) 0) _ h .0), k)
+
+-- its place is a corner
+pub index-inside : (n : ℕ) (w : Place) → misplaced n w ≡ false → w .index < n
+unfolding misplaced
+index-inside n w h = leb-false n (w .index) (all-false (leb n (w .index)) (w .segment) (leb n (w .start)) (leb n (w .end)) h .0)
+
 -- off a segment its ends don't matter
 flat-next : (n : ℕ) (w : Place) → w .segment ≡ false → w .index < n → nextIndex n w < n
 unfolding nextIndex
@@ -97,7 +121,7 @@ next-inside n w h =
     (λ s. flat-next n w s (leb-false n (w .index) (t .0)))
 
 -- the place stepped to is a corner again, and so are the ends, which stay
-advance-placed : (n : ℕ) (w : Place) → misplaced n w ≡ false → misplaced n (advance n w) ≡ false
+pub advance-placed : (n : ℕ) (w : Place) → misplaced n w ≡ false → misplaced n (advance n w) ≡ false
 unfolding misplaced advance
 advance-placed n w h =
     let t = all-false (leb n (w .index)) (w .segment) (leb n (w .start)) (leb n (w .end)) h in
@@ -107,14 +131,28 @@ advance-placed n w h =
     ends true b c f = rw (f refl .0, f refl .1)
     ends false b c f = refl
 
--- where a step is accepted, the walk was in place
-step-accepted : (l : List ℤ) (w : Place) → stepFault l w ≡ 0 → misplaced (length (pointsOf l)) w ≡ false
+-- where a step is accepted, the walk had a step left and was in place, and so was its next place
+pub record Accepted (l : List ℤ) (w : Place) : Type 0 where
+  pub short : lengthBroken l ≡ false
+  pub left : 0 < w .remaining
+  pub placed : misplaced (length (pointsOf l)) w ≡ false
+  pub here : offAt (pointsOf l) (w .index) ≡ false
+  pub there : offAt (pointsOf l) (nextIndex (length (pointsOf l)) w) ≡ false
+
+pub accepted : (l : List ℤ) (w : Place) → stepFault l w ≡ 0 → Accepted l w
 unfolding stepFault
-step-accepted l w h = either-false (finished w) _ (first-none 23 _ _ (omega arith) (first-none 7 _ _ (omega arith) h .1) .0) .1
+accepted l w h =
+    let a = first-none 7 _ _ (omega arith) h in
+    let b = first-none 23 _ _ (omega arith) (a .1) in
+    let c = first-none 2 _ _ (omega arith) (b .1) in
+    let p = either-false (finished w) _ (b .0) in
+    let q = either-false (offAt (pointsOf l) (w .index)) _ (c .0) in
+    let e : w .remaining ≡ 0 → ⊥ = eqb-false (w .remaining) 0 (p .0) in
+    record { short = a .0; left = omega arith; placed = p .1; here = q .0; there = q .1 }
 
 pub step-placed : (l : List ℤ) (w : Place) → stepFault l w ≡ 0 → misplaced (length (pointsOf l)) (steppedPlace (steppedOf l w)) ≡ false
 unfolding steppedOf
-step-placed l w h = rw (h, advance-placed (length (pointsOf l)) w (step-accepted l w h))
+step-placed l w h = rw (h, advance-placed (length (pointsOf l)) w (accepted l w h .placed))
 
 valid-placed : (n : ℕ) (w : Place) → Valid n w → misplaced n w ≡ false
 unfolding misplaced

@@ -8,6 +8,7 @@ use lib.ListN.{length}
 use lib.IntN.{ℤ}
 use Rattle.integers.specs.Faults.{firstFault}
 use Rattle.plane.specs.Plane.{Pt, onGrid}
+use Rattle.plane.specs.Machine.{point, vector}
 use Rattle.plane.specs.declared.IntPoint.{IntPoint}
 use Rattle.plane.specs.declared.IntVector.{IntVector}
 use Rattle.table.specs.Table.{pointsOf, offRange}
@@ -15,13 +16,19 @@ use Rattle.pair.specs.declared.Place.{Place}
 use Rattle.pair.specs.declared.ConvexSum.{ConvexSum}
 use Rattle.pair.specs.Walk.{cornerAt, windingLeaves, begin, nextIndex, edgeOf, advance}
 use Rattle.pair.specs.Walk as walk
-use Rattle.pair.specs.Pair.{Emitted, corner, end, pairStep}
+use Rattle.pair.specs.Pair.{Emitted, corner, end, pairStep, startOf}
 use Rattle.walk.specs.declared.Begun.{Begun}
 use Rattle.walk.specs.declared.Begun.the-variants as begun
 use Rattle.walk.specs.declared.Pointed.{Pointed}
 use Rattle.walk.specs.declared.Pointed.the-variants as pointed
+use Rattle.walk.specs.declared.Edged.{Edged}
+use Rattle.walk.specs.declared.Edged.the-variants as edged
+use Rattle.walk.specs.declared.Advanced.{Advanced}
+use Rattle.walk.specs.declared.Advanced.the-variants as advanced
 use Rattle.walk.specs.declared.Stepped.{Stepped}
 use Rattle.walk.specs.declared.Stepped.the-variants as stepped
+use Rattle.walk.specs.declared.Paired.{Paired}
+use Rattle.walk.specs.declared.Paired.the-variants as paired
 use Rattle.walk.specs.declared.Next.{Next}
 use Rattle.walk.specs.declared.Next.the-variants as next
 
@@ -83,6 +90,30 @@ unfoldable pub steppedOf : List ℤ → Place → Stepped
 steppedOf l w =
     cond (eqb (stepFault l w) 0) (stepped.Edge (intVector (edgeOf (pointsOf l) w)) (advance (length (pointsOf l)) w)) (stepped.Refused (stepFault l w) w)
 
+-- its edge alone and its advance alone: refused as a step is
+
+unfoldable pub edgedOf : List ℤ → Place → Edged
+edgedOf l w = cond (eqb (stepFault l w) 0) (edged.Edge (intVector (edgeOf (pointsOf l) w))) (edged.Refused (stepFault l w))
+
+unfoldable pub advancedOf : List ℤ → Place → Advanced
+advancedOf l w = cond (eqb (stepFault l w) 0) (advanced.At (advance (length (pointsOf l)) w)) (advanced.Refused (stepFault l w) w)
+
+-- ---- a pair begun: the kinds of a walk begun, each "over the whole input, left before right"
+
+unfoldable pub pairBeginFault : Bool → List ℤ → List ℤ → ℕ
+pairBeginFault reflected l r =
+    firstFault (
+    (7, lengthBroken l) ∷ (7, lengthBroken r)
+    ∷ (2, offRange l) ∷ (2, offRange r)
+    ∷ (8, windingLeaves false (pointsOf l)) ∷ (8, windingLeaves reflected (pointsOf r))
+    ∷ (20, eqb (length l) 0) ∷ (20, eqb (length r) 0)
+    ∷ []
+    )
+
+unfoldable pub pairedOf : Bool → List ℤ → List ℤ → Paired
+pairedOf reflected l r =
+    cond (eqb (pairBeginFault reflected l r) 0) (paired.At (startOf reflected (pointsOf l) (pointsOf r))) (paired.Refused (pairBeginFault reflected l r))
+
 -- ---- "A pair's step: 7, 23, 2 likewise over both walks, but 23 only for a place or segment end .. and 2 for any corner", left before right
 
 unfoldable pub pairStepFault : List ℤ → List ℤ → ConvexSum → ℕ
@@ -108,18 +139,55 @@ abbrev pub begunNumber : Begun → ℕ
 begunNumber (begun.At w) = 0
 begunNumber (begun.Refused f) = f
 
+-- the place begun; none where it is refused
+abbrev pub begunPlace : Begun → List Place
+begunPlace (begun.At w) = w ∷ []
+begunPlace (begun.Refused f) = []
+
 abbrev pub pointedNumber : Pointed → ℕ
 pointedNumber (pointed.Point p) = 0
 pointedNumber (pointed.Refused f) = f
+
+abbrev pub pointedPoint : Pointed → List Pt
+pointedPoint (pointed.Point p) = point p ∷ []
+pointedPoint (pointed.Refused f) = []
+
+abbrev pub edgedNumber : Edged → ℕ
+edgedNumber (edged.Edge e) = 0
+edgedNumber (edged.Refused f) = f
+
+abbrev pub edgedEdge : Edged → List Pt
+edgedEdge (edged.Edge e) = vector e ∷ []
+edgedEdge (edged.Refused f) = []
+
+abbrev pub advancedNumber : Advanced → ℕ
+advancedNumber (advanced.At w) = 0
+advancedNumber (advanced.Refused f w) = f
+
+abbrev pub advancedPlace : Advanced → Place
+advancedPlace (advanced.At w) = w
+advancedPlace (advanced.Refused f w) = w
 
 abbrev pub steppedNumber : Stepped → ℕ
 steppedNumber (stepped.Edge e w) = 0
 steppedNumber (stepped.Refused f w) = f
 
+abbrev pub steppedEdge : Stepped → List Pt
+steppedEdge (stepped.Edge e w) = vector e ∷ []
+steppedEdge (stepped.Refused f w) = []
+
 -- where the walk stands: a refusal "hands a walk back as it came"
 abbrev pub steppedPlace : Stepped → Place
 steppedPlace (stepped.Edge e w) = w
 steppedPlace (stepped.Refused f w) = w
+
+abbrev pub pairedNumber : Paired → ℕ
+pairedNumber (paired.At t) = 0
+pairedNumber (paired.Refused f) = f
+
+abbrev pub pairedPlaces : Paired → List ConvexSum
+pairedPlaces (paired.At t) = t ∷ []
+pairedPlaces (paired.Refused f) = []
 
 abbrev pub nextNumber : Next → ℕ
 nextNumber (next.Corner p t) = 0
@@ -130,3 +198,9 @@ abbrev pub nextPlaces : Next → ConvexSum
 nextPlaces (next.Corner p t) = t
 nextPlaces (next.End t) = t
 nextPlaces (next.Refused f t) = t
+
+-- the corner emitted; none at the end and where it is refused
+abbrev pub nextCorner : Next → List Pt
+nextCorner (next.Corner p t) = point p ∷ []
+nextCorner (next.End t) = []
+nextCorner (next.Refused f t) = []

@@ -1,18 +1,23 @@
--- A sign with a magnitude: the product of two numbers, and sums of numbers of one sign and of two. Assumes nothing.
-use mathlib.Core.Path.{_≡_, refl, sym, _∙_, ap}
+-- A sign with a magnitude: its size, and how large its high word can be; the product of two numbers, and sums of numbers of one sign and of two. Assumes nothing.
+use mathlib.Core.Path.{_≡_, refl, sym}
 use mathlib.Core.Bool.{Bool, true, false, not}
-use Prim.Native.Nat.{ℕ, zero, suc, _+_, _*_, _<_}
+use Prim.Native.Nat.{ℕ, _+_, _*_, _^_, _<_}
 use native.Mathlib.Omega.{arith}
 use lib.IntN.{ℤ, pos, negsuc, negℤ, natAbs, _+ℤ_, _*ℤ_}
 use lib.Signed.{leZ, ltZ}
 use Rattle.integers.proofs.Order.{zarith, add-parts, neg-parts, mul-parts}
 use Rattle.integers.proofs.Tests.{differ, ltZ-true, ≤-ltZ, ≤-leZ}
 use Rattle.integers.proofs.Sizes.{abs-neg}
-use Rattle.wide.specs.Words.{signed}
+use Rattle.wide.specs.declared.SignedProduct.{SignedProduct}
+use Rattle.wide.specs.Words.{magnitude, signed, value}
 
 pub signed-size : (s : Bool) (n : ℕ) → natAbs (signed s n) ≡ n
 signed-size true n = abs-neg (pos n)
 signed-size false n = refl
+
+-- h 2^64 ≤ |value| < 2^96
+pub high-below : (p : SignedProduct) → natAbs (value p) < 2 ^ 96 → p .words .high < 2 ^ 32
+high-below p h = omega (arith, h, signed-size (p .negative) (magnitude (p .words)))
 
 -- ---- products
 

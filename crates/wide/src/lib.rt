@@ -20,7 +20,7 @@ pub struct SignedProduct {
 }
 
 // Half a word, from 0: what 32 bits do not hold.
-const HALF: u64 = 4294967296;
+pub const HALF: u64 = 4294967296;
 
 // a * b, by the halves of a.
 pub fn multiply_words(a: u64, b: u32) -> Words

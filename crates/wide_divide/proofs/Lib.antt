@@ -1,3 +1,5 @@
--- Laws that belong to no one function, in reading order: division digit by digit; a remainder against half the divisor.
-pub mod LongDivision
+-- Laws that belong to no one function, in reading order: a digit guessed from the divisor's upper half; a divisor and a dividend scaled; a remainder against
+-- half the divisor.
+pub mod Guess
+pub mod Scaled
 pub mod Nearest

@@ -1,6 +1,6 @@
+-- `split_chords::append_fan_parts` meets its contract: the invariant is `Fanning` of Fans. Assumes nothing.
 use borrow.Author.Needs.{needs}
-use mathlib.Core.Path.{_≡_, sym, _∙_}
-use Prim.Native.Nat.{_+_, _-_, _≤_, _<_}
+use Prim.Native.Nat.{_-_, _≤_}
 use native.Mathlib.Omega.{arith}
 use lib.ListN.{length}
 use Rattle.convex_gather.specs.Gather.{cornersIn}

@@ -1,3 +1,4 @@
+-- `split_chords::append_point` meets its contract. Assumes nothing.
 use lib.ListN.{getD}
 use mathlib.Core.List.{[]}
 use Rattle.split_chords.proofs.Appending.{row-appended}

@@ -1,7 +1,7 @@
+-- `split_chords::append_run` meets its contract: the first k corners are appended. Assumes nothing.
 use borrow.Author.Needs.{needs}
 use mathlib.Core.Path.{_≡_, subst}
-use Prim.Native.Nat.{_-_, _≤_, _+_, _<_}
-use lib.ListN.{length}
+use Prim.Native.Nat.{_-_, _≤_}
 use native.Mathlib.Omega.{arith}
 use Rattle.convex_contour.specs.Contour.{Appended}
 use Rattle.convex_contour.proofs.Contours.{appended-none}

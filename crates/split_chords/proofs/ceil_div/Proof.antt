@@ -1,3 +1,4 @@
+-- `split_chords::ceil_div` meets its contract. Assumes nothing.
 use mathlib.Core.Path.{refl}
 use Rattle.split_chords.proofs.Groups.{groups-some}
 use borrow.Author.Needs.{needs}

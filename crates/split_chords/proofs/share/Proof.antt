@@ -1,4 +1,4 @@
-use mathlib.Core.Path.{refl}
+-- `split_chords::share` meets its contract. Assumes nothing.
 use borrow.Author.Tests.{lt-ltb, le-ltb}
 use native.Mathlib.Omega.{arith}
 use borrow.Author.Needs.{needs}

@@ -1,15 +1,13 @@
 -- `wide::multiply` meets its contract: the product of the sizes, with the product's sign. Assumes nothing.
-use mathlib.Core.Path.{_≡_, refl, sym, _∙_, ap, ap₂}
+use mathlib.Core.Path.{_≡_, _∙_, ap₂}
 use mathlib.Core.Bool.{true, false}
 use Prim.Native.Nat.{ℕ, _*_, _^_, _<_}
 use native.Mathlib.Omega.{arith}
 use borrow.Author.Needs.{needs}
 use lib.IntN.{ℤ, pos, natAbs, _*ℤ_}
 use lib.Signed.{leZ, ltZ}
-use mir.Syntax.{w64}
-use mir.Val.{SFits, toZ, ofZ}
 use Rattle.integers.proofs.Bits.{kept}
-use Rattle.wide.specs.Words.{signed, magnitude}
+use Rattle.wide.specs.Words.{signed}
 use Rattle.wide.proofs.Signs.{product-below, product-above}
 use Rattle.wide.proofs.multiply.Statement.{statement}
 use Rattle.wide.proofs.multiply.Tie as tie

@@ -1,80 +1,104 @@
--- `wide_divide::divide` meets its contract. The loop's invariant: the quotient and remainder are those of the digits from `place` on; the measure is the
--- digits left. Assumes nothing.
-use mathlib.Core.Path.{_≡_, refl, sym, _∙_, ap}
-use Prim.Native.Nat.{ℕ, _+_, _*_, _-_, _/_, _%_, _^_, _<_}
+-- `wide_divide::divide` meets its contract: one word as it is, two words with dividend and divisor scaled. Assumes nothing.
+use mathlib.Core.Path.{_≡_, _∙_}
+use Prim.Native.Nat.{ℕ, _+_, _*_, _-_, _/_, _%_, _^_, _≤_, _<_}
 use native.Mathlib.Omega.{arith}
 use native.Mathlib.Nat.{div-add-mod', mod-lt}
+use borrow.Author.Needs.{needs}
+use mir.Syntax.{w64}
+use mir.Val.{Fits}
 use Rattle.wide.specs.Words.{twoWords}
-use Rattle.wide_divide.specs.Quotients.{Divided}
-use Rattle.wide_divide.proofs.LongDivision.{Digits, digits-start, digits-end, digits-room, digits-turn}
+use Rattle.wide_divide.specs.Quotients.{Divided, Normal}
+use Rattle.wide_divide.proofs.Scaled.{top-below, divisor-kept, unscaled}
 use Rattle.wide_divide.proofs.divide.Statement.{statement}
 use Rattle.wide_divide.proofs.divide.Tie as tie
-
-abbrev Inv-loop : tie.InvT-loop
-Inv-loop high low d q₀ place₀ q place = Digits high low d q place
-
-abbrev μ-loop : tie.MeasureT-loop
-μ-loop high low d q₀ place₀ q place = place
 
 -- one word
 short : (high low d : ℕ) → high ≡ 0 → 0 < d → Divided (twoWords high low) d (record { quotient = low / d; remainder = low % d })
 short high low d e h = record { whole = div-add-mod' low d ∙ omega arith; rest = mod-lt low h }
 
-digit : (b n : ℕ) → b ≡ n % 2 → b < 2
-digit b n e = omega arith
+module _ (h l d s : ℕ) (hd : h < d) (fl : l < 2 ^ 64) (n : Normal d s) where
+  top-fits : Fits w64 ((h * 2 ^ s) % 2 ^ 64 + l / 2 / 2 ^ (63 - s))
+  top-fits = record { fits = omega (arith, top-below h l d s hd fl n, n .word) }
 
-div-t7 : tie.Need-div-t7 Inv-loop μ-loop
-div-t7 c = omega (arith, c .before .pre)
+  asks : (2 ^ 63 ≤ (d * 2 ^ s) % 2 ^ 64) × ((h * 2 ^ s) % 2 ^ 64 + l / 2 / 2 ^ (63 - s) < (d * 2 ^ s) % 2 ^ 64)
+  asks = (rw (divisor-kept h l d s hd fl n) (n .top), rw (divisor-kept h l d s hd fl n) (top-below h l d s hd fl n))
 
-rem-t8 : tie.Need-rem-t8 Inv-loop μ-loop
-rem-t8 c = omega (arith, c .before .pre)
+div-t8 : tie.Need-div-t8
+div-t8 c = search needs
 
-returns : tie.Need-returns Inv-loop μ-loop
+rem-t9 : tie.Need-rem-t9
+rem-t9 c = search needs
+
+returns : tie.Need-returns
 returns c = let s = c .before in short (s .args .high) (s .args .low) (s .args .d) (c .if1 .taken) (omega (arith, s .pre))
 
-loop-holds : tie.Need-loop-holds Inv-loop μ-loop
-loop-holds c = let s = c .before in digits-start (s .args .high) (s .args .low) (s .args .d) (s .pre) (s .fits .low .fits)
+doublings-requires : tie.Need-doublings-requires
+doublings-requires c κs = search needs
 
-sub-place : tie.Need-sub-place Inv-loop μ-loop
-sub-place c = c .loop-test .taken
+cast-top : tie.Need-cast-top
+cast-top c = search needs
 
-bit-at-requires : tie.Need-bit-at-requires Inv-loop μ-loop
-bit-at-requires c κs = omega (arith, c .before .loop .inv .bound, c .loop-test .taken)
+shl-top : tie.Need-shl-top
+shl-top c = search needs
 
-divide-turn-requires : tie.Need-divide-turn-requires Inv-loop μ-loop
-divide-turn-requires c κs =
-    let s = c .before .before .before .before in
-    let l = c .before .before .loop in
-    (digits-room (s .args .high) (s .args .low) (s .args .d) (l .q) (l .place) (c .before .loop-test .taken) (l .inv), l .inv .rest, digit (c .bit-at .result) (s .args .low / 2 ^ (l .place - 1)) (c .bit-at .ensures))
+sub-top : tie.Need-sub-top
+sub-top c = search needs
 
-loop-less : tie.Need-loop-less Inv-loop μ-loop
-loop-less c = omega (arith, c .before .before .loop-test .taken)
+cast-top-2 : tie.Need-cast-top-2
+cast-top-2 c = search needs
 
-loop-again : tie.Need-loop-again Inv-loop μ-loop
-loop-again c =
-    let s = c .before .before .before .before .before in
-    let l = c .before .before .before .loop in
-    digits-turn (s .args .high) (s .args .low) (s .args .d) (l .q) (c .divide-turn .result) (l .place) (c .before .bit-at .result) (c .before .before .loop-test .taken) (l .inv) (c .before .bit-at .ensures) (c .divide-turn .ensures .0) (c .divide-turn .ensures .1)
+shr-top : tie.Need-shr-top
+shr-top c = search needs
 
-returns-2 : tie.Need-returns-2 Inv-loop μ-loop
+add-top : tie.Need-add-top
+add-top c = let s = c .before .before in top-fits (s .args .high) (s .args .low) (s .args .d) (c .doublings .result) (s .pre) (s .fits .low .fits) (c .doublings .ensures)
+
+cast-divide-normal : tie.Need-cast-divide-normal
+cast-divide-normal c = search needs
+
+shl-divide-normal : tie.Need-shl-divide-normal
+shl-divide-normal c = search needs
+
+cast-divide-normal-2 : tie.Need-cast-divide-normal-2
+cast-divide-normal-2 c = search needs
+
+shl-divide-normal-2 : tie.Need-shl-divide-normal-2
+shl-divide-normal-2 c = search needs
+
+divide-normal-requires : tie.Need-divide-normal-requires
+divide-normal-requires c κs = let s = c .before .before in asks (s .args .high) (s .args .low) (s .args .d) (c .doublings .result) (s .pre) (s .fits .low .fits) (c .doublings .ensures)
+
+cast-t12 : tie.Need-cast-t12
+cast-t12 c = search needs
+
+shr-t11 : tie.Need-shr-t11
+shr-t11 c = search needs
+
+returns-2 : tie.Need-returns-2
 returns-2 c =
-    let s = c .before .before .before in
-    let l = c .before .loop in
-    digits-end (s .args .high) (s .args .low) (s .args .d) (l .q) (l .place) (c .loop-test .left) (l .inv)
+    let s = c .before .before .before .before in
+    let k = c .before .before .doublings in
+    unscaled (s .args .high) (s .args .low) (s .args .d) (k .result) (s .pre) (s .fits .low .fits) (k .ensures) (c .before .divide-normal .result) (c .before .divide-normal .ensures)
 
 pub divide-spec : {M : Type 1} → statement M
 divide-spec =
     tie.close
     (tie.spec
-    Inv-loop
-    μ-loop
-    div-t7
-    rem-t8
+    div-t8
+    rem-t9
     returns
-    loop-holds
-    sub-place
-    bit-at-requires
-    divide-turn-requires
-    loop-less
-    loop-again
+    doublings-requires
+    cast-top
+    shl-top
+    sub-top
+    cast-top-2
+    shr-top
+    add-top
+    cast-divide-normal
+    shl-divide-normal
+    cast-divide-normal-2
+    shl-divide-normal-2
+    divide-normal-requires
+    cast-t12
+    shr-t11
     returns-2)

@@ -1,5 +1,5 @@
 -- `wide_divide::divide_with_rounding` meets its contract: one more where the remainder is at least what it lacks to the divisor. Assumes nothing.
-use mathlib.Core.Path.{_≡_, refl, sym, _∙_, ap}
+use mathlib.Core.Path.{_≡_}
 use Prim.Native.Nat.{ℕ, _+_, _^_, _<_}
 use borrow.Author.Needs.{needs}
 use native.Mathlib.Omega.{arith}
@@ -34,7 +34,7 @@ add-result c =
 returns-2 : tie.Need-returns-2
 returns-2 c =
     let s = c .before .before in
-    nearest-down (twoWords (s .args .high) (s .args .low)) (s .args .d) (c .before .divide .result) (c .before .divide .ensures) (omega (arith, c .if1 .left))
+    nearest-down (twoWords (s .args .high) (s .args .low)) (s .args .d) (c .before .divide .result) (c .before .divide .ensures) (c .if1 .left)
 
 pub divide-with-rounding-spec : {M : Type 1} → statement M
 divide-with-rounding-spec = tie.close (tie.spec divide-requires sub-if1 add-result returns returns-2)

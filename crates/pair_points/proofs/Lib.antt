@@ -1,0 +1,1 @@
+-- What the merge of two walks gives.

@@ -1,0 +1,2 @@
+-- A walk as points, and the merge of two.
+pub mod Points

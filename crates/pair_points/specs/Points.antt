@@ -1,0 +1,32 @@
+-- A contour's walk as points in walk order, the start again at the end where it goes round (`unrolled`), and the merge of two such lists (`mergedOf`).
+-- Code works on these; that the merge is the pair's contour is a law (proofs/Merged.antt). Assumes nothing.
+use mathlib.Core.Bool.{Bool}
+use mathlib.Core.List.{List, [], _∷_}
+use Rattle.plane.specs.Plane.{Pt, _+ᵖ_, _-ᵖ_}
+use Rattle.pair.specs.Walk.{begin, pointOf}
+use Rattle.pair.specs.Demand.{live, walkEdges}
+use Rattle.pair.specs.Berg.{cornersFrom}
+use Rattle.pair.proofs.EdgeLists.{grouped}
+use Rattle.pair.proofs.Join.{join}
+
+-- p, and where each edge leads to in turn
+unfoldable pub pointsAlong : Pt → List Pt → List Pt
+pointsAlong p [] = p ∷ []
+pointsAlong p (e ∷ l) = p ∷ pointsAlong (p +ᵖ e) l
+
+-- from each point to the next
+unfoldable pub edgesAlong : List Pt → List Pt
+edgesAlong [] = []
+edgesAlong (p ∷ []) = []
+edgesAlong (p ∷ q ∷ l) = (q -ᵖ p) ∷ edgesAlong (q ∷ l)
+
+-- a walk's points: its zero edges dropped, its edges of one direction in a row made one. A segment has three, a point one, an empty contour none.
+unfoldable pub unrolled : Bool → List Pt → List Pt
+unrolled reflected [] = []
+unrolled reflected (c ∷ l) = pointsAlong (pointOf (c ∷ l) (begin reflected (c ∷ l))) (grouped (live (walkEdges reflected (c ∷ l))))
+
+-- the corners of two lists of points merged: the lesser edge steps, the first list's on equality, and edges of one direction are one
+unfoldable pub mergedOf : List Pt → List Pt → List Pt
+mergedOf [] b = []
+mergedOf (p ∷ a) [] = []
+mergedOf (p ∷ a) (q ∷ b) = cornersFrom (p +ᵖ q) (join (edgesAlong (p ∷ a)) (edgesAlong (q ∷ b)))

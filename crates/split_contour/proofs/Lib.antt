@@ -1,0 +1,2 @@
+-- One contour's parts.
+pub mod Contour

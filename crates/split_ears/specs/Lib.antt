@@ -1,0 +1,2 @@
+-- What the contracts cite: the ring of next corners.
+pub mod Rings

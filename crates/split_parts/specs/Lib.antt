@@ -1,0 +1,2 @@
+-- What the contracts cite: joined parts as they are read, to be split.
+pub mod Parts

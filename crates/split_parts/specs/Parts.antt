@@ -1,0 +1,27 @@
+-- Joined parts read from their buffers (`partsIn`), as splitting asks for them (`Splittable`). Assumes nothing.
+use mathlib.Core.List.{List, map, flatten}
+use Prim.Native.Nat.{ℕ, _+_}
+use lib.ListN.{take}
+use lib.IntN.{ℤ}
+use Rattle.integers.specs.Lists.{All}
+use Rattle.plane.specs.Plane.{Pt}
+use Rattle.table.specs.Table.{partsOf}
+use Rattle.convex_contour.specs.Contour.{firstPoints}
+use Rattle.convex_gather.specs.declared.Tally.{Tally}
+use Rattle.convex_gather.specs.Gather.{Gathered}
+use Rattle.split.specs.declared.ConvexSplitStrategy.{ConvexSplitStrategy}
+use Rattle.split.specs.Splitting.{splitContour}
+use Rattle.split_centre.specs.Centre.{Summable}
+
+-- the parts that starts and points hold
+abbrev pub partsIn : List ℕ → List (List ℤ) → Tally → List (List Pt)
+partsIn starts points t = partsOf (take (t .parts + 1) starts) (firstPoints (t .corners) points)
+
+-- they are gathered there, and the centre's sums of each fit
+pub record Splittable (starts : List ℕ) (points : List (List ℤ)) (t : Tally) : Type 0 where
+  pub gathered : Gathered starts points t (partsIn starts points t)
+  pub summable : All Summable (partsIn starts points t)
+
+-- each of some parts split
+abbrev pub splitEach : ConvexSplitStrategy → ℕ → List (List Pt) → List (List Pt)
+splitEach how m ps = flatten (map (splitContour how m) ps)

@@ -1,0 +1,107 @@
+// Joining with parts past a corner limit split (advanced/convex.rs): `to_convex_polygons_with_max_vertices`, with no `requires`. Its answer and both lent
+// buffers equal `splitCounts`, `splitStarts` and `splitCorners` of split/specs/Splitting.antt. The joined parts are gathered, each is split into
+// further buffers, and all are handed out once there is room. Leans on convex_join, split_contour and convex_gather.
+ghost use mathlib.Core.Path.{_≡_};
+ghost use Prim.Native.Nat.{_+_, _<_, _≤_, max};
+ghost use lib.ListN.{length, getD};
+ghost use mathlib.Core.List.{[]};
+ghost use Rattle.mesh.specs.Rows.{rowsMesh};
+ghost use Rattle.split.specs.Splitting.{raised, splitContour, splitCounts, splitStarts, splitCorners};
+ghost use Rattle.convex_gather.specs.Gather.{Gathered, RoomFor, PartsAppended};
+ghost use Rattle.split_parts.specs.Parts.{partsIn, Splittable, splitEach};
+use convex_gather::Tally;
+use split::ConvexSplitStrategy;
+use table::Counts;
+
+// The least corner limit: "it raises any limit below 3 to 3" (document 01).
+pub const MIN_LIMIT: u32 = 3;
+
+// A limit below 3 raised to 3.
+fn raised(limit: u32) -> usize
+    ensures { λ r. ⌜ r ≡ raised limit ⌝ }
+{
+    if limit < MIN_LIMIT {
+        return MIN_LIMIT as usize;
+    }
+    limit as usize
+}
+
+// The parts of joined part k are appended.
+fn append_part(
+    begins: &[u32],
+    joined: &[[i32; 2]],
+    u: Tally,
+    k: usize,
+    limit: usize,
+    strategy: ConvexSplitStrategy,
+    starts: &mut [u32],
+    points: &mut [[i32; 2]],
+    t: Tally,
+) -> Tally
+    requires { ⌜ Splittable (now begins) (now joined) u × (k < u .parts) × (3 ≤ limit) × RoomFor (now starts) (now points) t (splitContour strategy limit (getD (partsIn (now begins) (now joined) u) k [])) ⌝ }
+    ensures { λ r. ⌜ PartsAppended (splitContour strategy limit (getD (partsIn (now (begins .entry)) (now (joined .entry)) u) k [])) (now (starts .entry)) (now (points .entry)) t (now (starts .exit)) (now (points .exit)) r ⌝ }
+{
+    let from = begins[k] as usize;
+    let to = begins[k + 1] as usize;
+    split_contour::append_split(&joined[from..to], limit, strategy, starts, points, t)
+}
+
+// The parts of every joined part, in buffers that hold those of any mesh.
+fn split_all(
+    begins: &[u32],
+    joined: &[[i32; 2]],
+    u: Tally,
+    limit: usize,
+    strategy: ConvexSplitStrategy,
+    starts: &mut [u32],
+    points: &mut [[i32; 2]],
+) -> Tally
+    requires { ⌜ Splittable (now begins) (now joined) u × (3 ≤ limit) × RoomFor (now starts) (now points) (record { parts = 0; corners = 0 }) (splitEach strategy limit (partsIn (now begins) (now joined) u)) ⌝ }
+    ensures { λ r. ⌜ Gathered (now (starts .exit)) (now (points .exit)) r (splitEach strategy limit (partsIn (now (begins .entry)) (now (joined .entry)) u)) ⌝ }
+{
+    convex_gather::put_start(starts, 0, 0);
+    let mut t = Tally {
+        parts: 0,
+        corners: 0,
+    };
+    let mut k: usize = 0;
+    while k < u.parts {
+        t = append_part(begins, joined, u, k, limit, strategy, starts, points, t);
+        k += 1;
+    }
+    t
+}
+
+// The convex parts of a mesh, those past `limit` corners split by `strategy`: starts and corners (x, y in turn) on the front of the lent buffers. A refusal
+// (1, 2, 3, 4, 5, 6, 11, 22 or 21) gives zero counts and changes nothing.
+pub fn to_convex_polygons_with_max_vertices(
+    mesh: &[[i32; 9]],
+    limit: u32,
+    strategy: ConvexSplitStrategy,
+    starts: &mut [u32],
+    corners: &mut [i32],
+) -> Counts
+    ensures counts { λ r. ⌜ r ≡ splitCounts strategy limit (rowsMesh (now (mesh .entry))) (now (starts .entry)) (now (corners .entry)) ⌝ }
+    ensures starts { λ r. ⌜ now (starts .exit) ≡ splitStarts strategy limit (rowsMesh (now (mesh .entry))) (now (starts .entry)) (now (corners .entry)) ⌝ }
+    ensures corners { λ r. ⌜ now (corners .exit) ≡ splitCorners strategy limit (rowsMesh (now (mesh .entry))) (now (starts .entry)) (now (corners .entry)) ⌝ }
+{
+    let fault = mesh_faults::mesh_fault(mesh);
+    if fault != 0 {
+        return convex_gather::refusal(fault);
+    }
+    let mut begins = [0u32; 1025];
+    let mut joined = [[0i32; 2]; 3072];
+    let u = convex_join::gather(mesh, &mut begins, &mut joined);
+    let mut split_begins = [0u32; 2049];
+    let mut points = [[0i32; 2]; 6144];
+    let t = split_all(
+        &begins,
+        &joined,
+        u,
+        raised(limit),
+        strategy,
+        &mut split_begins,
+        &mut points,
+    );
+    convex_gather::hand_out(&split_begins, &points, t, starts, corners)
+}

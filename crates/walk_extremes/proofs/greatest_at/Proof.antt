@@ -1,0 +1,59 @@
+-- `walk_extremes::greatest_at` meets its contract. The loop's invariant: the search goes on from the best corner so far. Assumes nothing.
+use mathlib.Core.Path.{_≡_, sym, _∙_}
+use Prim.Native.Nat.{_≤_, _<_, _-_}
+use native.Mathlib.Omega.{arith}
+use lib.ListN.{length, drop}
+use Rattle.table.specs.Table.{pointsOf}
+use Rattle.pair.specs.Walk.{cornerAt, below, greatestFrom, greatestAt}
+use Rattle.walk_extremes.proofs.Searches.{greatest-begins, greatest-turn, greatest-ends, better-inside}
+use borrow.Author.Needs.{needs}
+use Rattle.walk_extremes.proofs.greatest_at.Statement.{statement}
+use Rattle.walk_extremes.proofs.greatest_at.Tie as tie
+
+abbrev Inv-loop : tie.InvT-loop
+Inv-loop contour n best₀ i₀ best i = (0 < i) × (best < i) × (greatestAt (pointsOf contour) ≡ greatestFrom best (cornerAt (pointsOf contour) best) i (drop i (pointsOf contour)))
+
+abbrev μ-loop : tie.MeasureT-loop
+μ-loop contour n best₀ i₀ best i = n - i
+
+corner-count-requires : tie.Need-corner-count-requires Inv-loop μ-loop
+corner-count-requires c κs = search needs
+
+loop-holds : tie.Need-loop-holds Inv-loop μ-loop
+loop-holds c = (search needs, search needs, greatest-begins _)
+
+greater-of-requires : tie.Need-greater-of-requires Inv-loop μ-loop
+greater-of-requires c κs = omega (arith, c .before .before .corner-count .ensures)
+
+add-i : tie.Need-add-i Inv-loop μ-loop
+add-i c = search needs
+
+loop-less : tie.Need-loop-less Inv-loop μ-loop
+loop-less c = search needs
+
+loop-again : tie.Need-loop-again Inv-loop μ-loop
+loop-again c =
+    let l = pointsOf (c .before .before .before .before .args .contour .now) in
+    let b = c .before .before .loop .best in
+    let i = c .before .before .loop .i in (
+      search needs,
+      better-inside (below (cornerAt l i) (cornerAt l b)) b i (c .greater-of .ensures) (omega arith) (omega arith),
+      c .before .before .loop .inv .2 ∙ greatest-turn l b i (omega (arith, c .before .before .before .corner-count .ensures)) (c .greater-of .ensures),
+    )
+
+returns : tie.Need-returns Inv-loop μ-loop
+returns c = sym (c .before .loop .inv .2 ∙ greatest-ends (pointsOf (c .before .before .before .args .contour .now)) (c .before .loop .best) (c .before .loop .i) (omega (arith, c .before .before .corner-count .ensures)))
+
+pub greatest-at-spec : {M : Type 1} → statement M
+greatest-at-spec =
+    tie.close
+    (tie.spec
+    Inv-loop
+    μ-loop
+    corner-count-requires
+    loop-holds
+    greater-of-requires
+    add-i
+    loop-less
+    loop-again
+    returns)

@@ -1,0 +1,2 @@
+-- Laws that belong to no one function: the steps of one edge.
+pub mod Runs

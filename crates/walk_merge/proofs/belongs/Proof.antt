@@ -1,0 +1,54 @@
+-- `walk_merge::belongs` meets its contract: the code's tests are the definition's. Assumes nothing.
+use mathlib.Core.Path.{_≡_, sym, _∙_, ap}
+use borrow.Author.Tests.{not-true, not-false}
+use Rattle.plane.specs.Plane.{isEqual}
+use Rattle.plane.specs.Machine.{vector}
+use Rattle.walk_merge.proofs.Runs.{fresh-belongs, zero-belongs, by-direction}
+use borrow.Author.Needs.{needs}
+use Rattle.walk_merge.proofs.belongs.Statement.{statement}
+use Rattle.walk_merge.proofs.belongs.Tie as tie
+
+returns : tie.Need-returns
+returns c = fresh-belongs (c .before .args .headed) (c .before .args .heading) (vector (c .before .args .e)) (not-true (c .before .args .headed) (c .if1 .taken))
+
+is-zero-requires : tie.Need-is-zero-requires
+is-zero-requires c κs = search needs
+
+returns-2 : tie.Need-returns-2
+returns-2 c = zero-belongs (c .before .before .before .args .headed) (c .before .before .before .args .heading) (vector (c .before .before .before .args .e)) (not-false (c .before .before .before .args .headed) (c .before .before .if1 .left)) (sym (c .before .is-zero .ensures) ∙ c .if2 .taken)
+
+angle-cmp-requires : tie.Need-angle-cmp-requires
+angle-cmp-requires c κs = search needs
+
+enum-told : tie.Need-enum-told
+enum-told c = search needs
+
+enum-told-2 : tie.Need-enum-told-2
+enum-told-2 c = search needs
+
+enum-told-3 : tie.Need-enum-told-3
+enum-told-3 c = search needs
+
+returns-3 : tie.Need-returns-3
+returns-3 c = by-direction (c .before .before .before .before .before .before .args .headed) (c .before .before .before .before .before .before .args .heading) (vector (c .before .before .before .before .before .before .args .e)) (not-false (c .before .before .before .before .before .before .args .headed) (c .before .before .before .before .before .if1 .left)) (sym (c .before .before .before .before .is-zero .ensures) ∙ c .before .before .before .if2 .left) (ap isEqual (sym (c .before .before .angle-cmp .ensures) ∙ c .enum-told .given .1))
+
+returns-4 : tie.Need-returns-4
+returns-4 c = by-direction (c .before .before .before .before .before .before .args .headed) (c .before .before .before .before .before .before .args .heading) (vector (c .before .before .before .before .before .before .args .e)) (not-false (c .before .before .before .before .before .before .args .headed) (c .before .before .before .before .before .if1 .left)) (sym (c .before .before .before .before .is-zero .ensures) ∙ c .before .before .before .if2 .left) (ap isEqual (sym (c .before .before .angle-cmp .ensures) ∙ c .enum-told2 .given .1))
+
+returns-5 : tie.Need-returns-5
+returns-5 c = by-direction (c .before .before .before .before .before .before .args .headed) (c .before .before .before .before .before .before .args .heading) (vector (c .before .before .before .before .before .before .args .e)) (not-false (c .before .before .before .before .before .before .args .headed) (c .before .before .before .before .before .if1 .left)) (sym (c .before .before .before .before .is-zero .ensures) ∙ c .before .before .before .if2 .left) (ap isEqual (sym (c .before .before .angle-cmp .ensures) ∙ c .enum-told3 .given .1))
+
+pub belongs-spec : {M : Type 1} → statement M
+belongs-spec =
+    tie.close
+    (tie.spec
+    returns
+    is-zero-requires
+    returns-2
+    angle-cmp-requires
+    enum-told
+    enum-told-2
+    enum-told-3
+    returns-3
+    returns-4
+    returns-5)

@@ -1,0 +1,2 @@
+-- The merge of two walks as the code holds it.
+pub mod Merging

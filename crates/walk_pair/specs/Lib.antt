@@ -1,0 +1,2 @@
+-- The first fault of a pair begun.
+pub mod Pairing

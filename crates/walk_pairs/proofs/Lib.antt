@@ -1,0 +1,2 @@
+-- The calls hand out the pair's contour.
+pub mod HandedOut

@@ -1,0 +1,2 @@
+-- What calling a pair's step hands out.
+pub mod HandedOut

@@ -1,0 +1,2 @@
+-- Laws that belong to no one function: which walk steps.
+pub mod Picks

@@ -1,0 +1,2 @@
+-- Which walk of a pair steps.
+pub mod Picking

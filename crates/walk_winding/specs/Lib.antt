@@ -1,0 +1,2 @@
+-- The winding as the code forms it.
+pub mod Winding
