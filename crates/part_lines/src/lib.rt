@@ -1,6 +1,7 @@
-// The parts of a table as the programs here print them: a colon before the first part, a semicolon before each other one, and the corners of
-// a part as (x,y), each after a space. The lists are read as far as they reach, so any lists are taken; what is written is in io's hands, and
-// each program's is held to its file `stdout`. Leans on lines and integers.
+// What a call that writes parts answered, as the programs here print it on one line: the fault, the counts, and the parts, a colon before the
+// first, a semicolon before each other one, and the corners of a part as (x,y), each after a space. The lists are read as far as they reach, so
+// any lists are taken; what is written is in io's hands, and each program's is held to its file `stdout`. Leans on table, lines and integers.
+use table::Counts;
 
 // Writes a signed number. Below 0 its bits, read unsigned, are as far below 2^32.
 fn print_number(n: i32) {
@@ -49,10 +50,19 @@ fn print_part(starts: &[u32], corners: &[i32], k: u32) {
 }
 
 // Writes the first parts of a table.
-pub fn print_parts(starts: &[u32], corners: &[i32], parts: u32) {
+fn print_parts(starts: &[u32], corners: &[i32], parts: u32) {
     let mut k = 0;
     while k < parts {
         print_part(starts, corners, k);
         k += 1;
     }
+}
+
+// Writes the counts, the parts that lent starts and corners hold, and the line's end.
+pub fn print_answer(counts: Counts, starts: &[u32], corners: &[i32]) {
+    lines::print(b"fault ", counts.fault as u64, b"");
+    lines::print(b", parts ", counts.parts as u64, b"");
+    lines::print(b", corners ", counts.corners as u64, b"");
+    print_parts(starts, corners, counts.parts);
+    io::write_all(1, b"\n");
 }
