@@ -3,6 +3,7 @@
 use crate::entry::{run, Report};
 use crate::mesh::{mesh_fault_beside, to_convex_polygons_beside, Row};
 use crate::plane::{angle_cmp_beside, area_two_beside, cross_product_beside};
+use crate::split::with_max_vertices_beside;
 use crate::table::{self, ReadAnswer, ShowAnswer, WriteAnswer};
 use crate::table::{read_table_beside, show_part_beside, write_table_beside};
 use crate::told::{Counts, Told};
@@ -41,6 +42,16 @@ mod archive {
         pub fn beside_to_convex_polygons(
             mesh: *const Row,
             triangles: usize,
+            starts: *mut u32,
+            starts_lent: usize,
+            corners: *mut i32,
+            corners_lent: usize,
+        ) -> Counts;
+        pub fn beside_to_convex_polygons_with_max_vertices(
+            mesh: *const Row,
+            triangles: usize,
+            limit: u32,
+            split: u32,
             starts: *mut u32,
             starts_lent: usize,
             corners: *mut i32,
@@ -86,6 +97,10 @@ pub const ENTRY_POINTS: &[fn(u64, u64) -> Report] = &[
     |seed, count| run(&angle_cmp_beside(angle_cmp), seed, count),
     |seed, count| run(&mesh_fault_beside(mesh_fault), seed, count),
     |seed, count| run(&to_convex_polygons_beside(to_convex_polygons), seed, count),
+    |seed, count| {
+        let entry = with_max_vertices_beside(to_convex_polygons_with_max_vertices);
+        run(&entry, seed, count)
+    },
     |seed, count| run(&read_table_beside(read_table), seed, count),
     |seed, count| run(&write_table_beside(write_table), seed, count),
     |seed, count| run(&show_part_beside(show_part), seed, count),
@@ -116,6 +131,27 @@ pub fn to_convex_polygons(mesh: &[Row], starts: &mut [u32], corners: &mut [i32])
         archive::beside_to_convex_polygons(
             mesh.as_ptr(),
             mesh.len(),
+            starts.as_mut_ptr(),
+            starts.len(),
+            corners.as_mut_ptr(),
+            corners.len(),
+        )
+    }
+}
+
+pub fn to_convex_polygons_with_max_vertices(
+    mesh: &[Row],
+    limit: u32,
+    split: u32,
+    starts: &mut [u32],
+    corners: &mut [i32],
+) -> Counts {
+    unsafe {
+        archive::beside_to_convex_polygons_with_max_vertices(
+            mesh.as_ptr(),
+            mesh.len(),
+            limit,
+            split,
             starts.as_mut_ptr(),
             starts.len(),
             corners.as_mut_ptr(),
