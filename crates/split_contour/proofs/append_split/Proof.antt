@@ -14,7 +14,7 @@ append-whole-requires : tie.Need-append-whole-requires
 append-whole-requires c κs =
     let s = c .before .before .before .before in
     let g = s .args in
-    same-room (split-whole (g .strategy) (g .limit) (g .contour .now) (c .before .before .if1 .taken)) (s .pre .2)
+    same-room (split-whole (g .strategy) (g .limit) (g .contour .now) (omega (arith, c .before .before .if1 .taken))) (s .pre .2)
 
 same-length : tie.Need-same-length
 same-length c = search needs
@@ -25,7 +25,7 @@ same-length-2 c = search needs
 returns : tie.Need-returns
 returns c =
     let g = c .before .before .before .before .before .before .before .before .args in
-    same-parts (sym (split-whole (g .strategy) (g .limit) (g .contour .now) (c .before .before .before .before .before .before .if1 .taken))) (c .before .before .before .append-whole .ensures)
+    same-parts (sym (split-whole (g .strategy) (g .limit) (g .contour .now) (omega (arith, c .before .before .before .before .before .before .if1 .taken)))) (c .before .before .before .append-whole .ensures)
 
 enum-told : tie.Need-enum-told
 enum-told c = search needs
