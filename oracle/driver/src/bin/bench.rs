@@ -22,7 +22,8 @@ use std::time::{Duration, Instant};
 /// their branches, as it does of one mesh that comes again and again.
 const MESHES: usize = 64;
 
-/// How often each function is called for a kind of mesh.
+/// How often each function is called for a kind of mesh, or a quarter of that for a
+/// kind, a limit and a split.
 const ROUNDS: usize = 2_000;
 
 fn main() {
@@ -43,7 +44,7 @@ fn main() {
                 for limit in [3, 8] {
                     let call = Splitting { limit, split, by };
                     let name = format!("{name}; limit {limit}, {split:?}");
-                    print_ratios(*kind, &name, &call, rounds);
+                    print_ratios(*kind, &name, &call, rounds / 4);
                 }
             }
         }
@@ -103,19 +104,18 @@ const SPLIT_KINDS: &[(&str, fn(&mut Rng) -> Mesh)] = &[
         meshes::copies(rng, &polygon, TRIANGLES / 8)
     }),
     ("512 squares", squares),
-    ("16 triangles: polygon of 18 corners", |rng| {
-        let contour = meshes::parabola(18);
-        let mesh = meshes::linked(&meshes::polygon(rng, &contour));
-        meshes::renumbered(rng, &mesh)
-    }),
-    ("2 triangles: a square", |rng| {
-        let mesh = square(rng);
-        meshes::renumbered(rng, &mesh)
-    }),
+    ("16 triangles: polygon of 18 corners", sixteen),
+    ("2 triangles: a square", two),
 ];
 
-fn square(rng: &mut Rng) -> Mesh {
-    meshes::linked(&meshes::grid(rng, 1, 1, 4))
+fn sixteen(rng: &mut Rng) -> Mesh {
+    let mesh = meshes::linked(&meshes::polygon(rng, &meshes::parabola(18)));
+    meshes::renumbered(rng, &mesh)
+}
+
+fn two(rng: &mut Rng) -> Mesh {
+    let mesh = meshes::linked(&meshes::grid(rng, 1, 1, 4));
+    meshes::renumbered(rng, &mesh)
 }
 
 fn squares(rng: &mut Rng) -> Mesh {
@@ -133,7 +133,7 @@ fn decagon(rng: &mut Rng) -> Mesh {
     }
 }
 
-/// One region, some, and as many as there are triangles.
+/// One region, some, and as many as there are triangles; meshes of few triangles.
 const KINDS: &[(&str, fn(&mut Rng) -> Mesh)] = &[
     ("one region: polygon, a fan", |_| fan()),
     ("one region: polygon, a fan, renumbered", |rng| {
@@ -162,6 +162,8 @@ const KINDS: &[(&str, fn(&mut Rng) -> Mesh)] = &[
     ("many regions: triangles apart", |_| {
         meshes::apart(TRIANGLES)
     }),
+    ("16 triangles: polygon of 18 corners", sixteen),
+    ("2 triangles: a square", two),
 ];
 
 fn fan() -> Mesh {
