@@ -11,6 +11,8 @@
 //!   of its answers, as text
 //! - `table`: `read_table`, `write_table`, `show_part`; `table_simpler`: their
 //!   simpler inputs; `table_sample`: the stored sample of their answers
+//! - `walk`: one walk begun, its point, edge and advance, a walk stepped; a pair
+//!   begun, stepped, and stepped to its end
 //! - `sample_bytes`: the bytes of those two samples
 //! - `boundary`: the C functions of the Rattle archive and the list of entry
 //!   points, where it is linked
@@ -29,6 +31,7 @@ pub mod table;
 pub mod table_sample;
 mod table_simpler;
 pub mod told;
+pub mod walk;
 pub mod written;
 
 #[cfg(feature = "linked")]
