@@ -2,15 +2,13 @@
 -- calls from any judged walks hand out what the pair emits (`hands-emit`), and no other list (`handed-once`); a pair begun is judged
 -- (`begun-judged`) and emits its contour (`begun-contour`). Assumes nothing.
 use mathlib.Core.Path.{_≡_, refl, sym, _∙_, ap, subst}
-use mathlib.Core.Bool.{Bool, true, false, cond}
+use mathlib.Core.Bool.{Bool, true, false}
 use mathlib.Core.List.{List, [], _∷_}
 use Prim.Native.Nat.{ℕ, zero, suc, _≤_, _<_}
 use native.Mathlib.Omega.{arith}
-use borrow.Author.Tests.{eqb-true, eqb-false}
-use lib.Dec.{eqb}
+use borrow.Author.Tests.{eqb-false}
 use lib.ListN.{length}
 use lib.IntN.{ℤ}
-use Rattle.integers.proofs.Order.{by-test}
 use Rattle.integers.proofs.Faults.{first-none}
 use Rattle.plane.specs.Plane.{Pt, _+ᵖ_}
 use Rattle.plane.specs.declared.IntPoint.{IntPoint}
@@ -25,7 +23,7 @@ use Rattle.pair.proofs.Theorem.{demand3}
 use Rattle.walk.specs.declared.Paired.the-variants as paired
 use Rattle.walk.specs.declared.Next.the-variants as next
 use Rattle.walk.specs.Calls.{misplaced, intPoint, pairBeginFault, pairedOf, pairStepFault, nextOf, pairSteppedOf, nextCorner, nextPlaces}
-use Rattle.walk.proofs.Answers.{some-corner, begin-placed}
+use Rattle.walk.proofs.Answers.{by-answer, some-corner, begin-placed}
 use Rattle.walk_pick.specs.Picking.{Judged}
 use Rattle.walk_next.proofs.Promises.{fault-none, next-given, next-by}
 use Rattle.walk_pairs.specs.HandedOut.{HandsOut, ends, hands, PairHandedOut, AllHandedOut}
@@ -101,12 +99,8 @@ module _ (l r : List ℤ) where
 begun-at : (reflected : Bool) (l r : List ℤ) (s : ConvexSum) → pairedOf reflected l r ≡ paired.At s → (pairBeginFault reflected l r ≡ 0) × (s ≡ startOf reflected (pointsOf l) (pointsOf r))
 unfolding pairedOf
 begun-at reflected l r s h =
-    by-test (eqb (pairBeginFault reflected l r) 0)
-    (λ e. (eqb-true (pairBeginFault reflected l r) 0 e, (let q : paired.At (startOf reflected (pointsOf l) (pointsOf r)) ≡ paired.At s = sym (chosen e) ∙ h in cc)))
-    (λ e. absurd (let q : paired.Refused (pairBeginFault reflected l r) ≡ paired.At s = sym (chosen e) ∙ h in let k : _≡_ {A = ℕ} 0 1 = cc in omega (arith, k)))
-  where
-    chosen : {t : Bool} → eqb (pairBeginFault reflected l r) 0 ≡ t → pairedOf reflected l r ≡ cond t (paired.At (startOf reflected (pointsOf l) (pointsOf r))) (paired.Refused (pairBeginFault reflected l r))
-    chosen e = ap (λ b. cond b (paired.At (startOf reflected (pointsOf l) (pointsOf r))) (paired.Refused (pairBeginFault reflected l r))) e
+    by-answer (pairBeginFault reflected l r) (paired.At (startOf reflected (pointsOf l) (pointsOf r))) (paired.Refused (pairBeginFault reflected l r)) h (λ z q. (z, (cc)))
+    (λ n q. absurd (let k : _≡_ {A = ℕ} 0 1 = cc in omega (arith, k)))
 
 -- neither contour is empty, and both walks are judged
 record Begun (reflected : Bool) (l r : List ℤ) : Type 0 where
