@@ -13,7 +13,6 @@ use Rattle.integers.specs.Faults.{firstFault}
 use Rattle.integers.proofs.Faults.{first-this, first-next}
 use Rattle.table.specs.Table.{pointsOf, offRange}
 use Rattle.pair.specs.declared.Place.{Place}
-use Rattle.pair.specs.declared.ConvexSum.{ConvexSum}
 use Rattle.pair.specs.Walk.{windingLeaves, begin}
 use Rattle.pair.specs.Pair.{startOf}
 use Rattle.walk.specs.declared.Begun.the-variants as begun

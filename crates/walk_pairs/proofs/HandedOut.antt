@@ -2,7 +2,7 @@
 -- calls from any judged walks hand out what the pair emits (`hands-emit`), and no other list (`handed-once`); a pair begun is judged
 -- (`begun-judged`) and emits its contour (`begun-contour`). Assumes nothing.
 use mathlib.Core.Path.{_≡_, refl, sym, _∙_, ap, subst}
-use mathlib.Core.Bool.{Bool, true, false}
+use mathlib.Core.Bool.{Bool, false}
 use mathlib.Core.List.{List, [], _∷_}
 use Prim.Native.Nat.{ℕ, zero, suc, _≤_, _<_}
 use native.Mathlib.Omega.{arith}
@@ -11,7 +11,6 @@ use lib.ListN.{length}
 use lib.IntN.{ℤ}
 use Rattle.integers.proofs.Faults.{first-none}
 use Rattle.plane.specs.Plane.{Pt, _+ᵖ_}
-use Rattle.plane.specs.declared.IntPoint.{IntPoint}
 use Rattle.plane.specs.Machine.{point}
 use Rattle.table.specs.Table.{pointsOf}
 use Rattle.pair.specs.declared.ConvexSum.{ConvexSum}
@@ -26,7 +25,7 @@ use Rattle.walk.specs.Calls.{misplaced, intPoint, pairBeginFault, pairedOf, pai
 use Rattle.walk.proofs.Answers.{by-answer, some-corner, begin-placed}
 use Rattle.walk_pick.specs.Picking.{Judged}
 use Rattle.walk_next.proofs.Promises.{fault-none, next-given, next-by}
-use Rattle.walk_pairs.specs.HandedOut.{HandsOut, ends, hands, PairHandedOut, AllHandedOut}
+use Rattle.walk_pairs.specs.HandedOut.{HandsOut, ends, hands, AllHandedOut}
 
 module _ (l r : List ℤ) where
   abbrev A : List Pt
