@@ -3,7 +3,6 @@
 use mathlib.Core.Bool.{false}
 use lib.IntN.{pos}
 use Rattle.pair.specs.declared.Place.{Place}
-use Rattle.pair.specs.declared.ConvexSum.{ConvexSum}
 use Rattle.walk.specs.declared.Begun.{Begun}
 use Rattle.walk.specs.declared.Begun.the-variants as begun
 use Rattle.walk.specs.declared.Pointed.{Pointed}

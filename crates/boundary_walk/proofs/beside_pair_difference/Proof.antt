@@ -1,5 +1,5 @@
 -- `boundary_walk::beside_pair_difference` meets its contract: each case of the answer, laid out. Assumes nothing.
-use mathlib.Core.Path.{_≡_, sym, _∙_, ap}
+use mathlib.Core.Path.{_∙_, ap}
 use Rattle.boundary_walk.specs.Beside.{toldPaired}
 use borrow.Author.Needs.{needs}
 use Rattle.boundary_walk.proofs.beside_pair_difference.Statement.{statement}

@@ -1,7 +1,6 @@
 -- `boundary_walk::beside_walk_begin` meets its contract: each case of the answer, laid out. Assumes nothing.
-use mathlib.Core.Path.{_≡_, sym, _∙_, ap}
+use mathlib.Core.Path.{sym, _∙_, ap}
 use Rattle.boundary_walk.specs.Beside.{toldBegun}
-use Rattle.boundary_walk.specs.declared.ToldPlace.{ToldPlace}
 use borrow.Author.Needs.{needs}
 use Rattle.boundary_walk.proofs.beside_walk_begin.Statement.{statement}
 use Rattle.boundary_walk.proofs.beside_walk_begin.Tie as tie

@@ -1,7 +1,6 @@
 -- `boundary_walk::beside_walk_point` meets its contract: each case of the answer, laid out. Assumes nothing.
-use mathlib.Core.Path.{_≡_, sym, _∙_, ap}
+use mathlib.Core.Path.{sym, _∙_, ap}
 use Rattle.boundary_walk.specs.Beside.{toldPointed}
-use Rattle.boundary_walk.specs.declared.ToldPoint.{ToldPoint}
 use mir.Syntax.{w32}
 use Rattle.integers.proofs.Bits.{kept}
 use borrow.Author.Needs.{needs}

@@ -1,5 +1,5 @@
 -- `walk_begin::begin_checked` meets its contract: `begin-20`, `begin-8`, `begin-at` of Begins. Assumes nothing.
-use mathlib.Core.Path.{_≡_, sym, _∙_, ap}
+use mathlib.Core.Path.{sym, _∙_, ap}
 use mir.Syntax.{w64}
 use Rattle.integers.proofs.Bits.{kept}
 use Rattle.table.specs.Table.{pointsOf}
