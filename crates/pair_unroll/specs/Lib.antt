@@ -1,0 +1,2 @@
+-- A walk's points put one after another.
+pub mod Unroll

@@ -1,0 +1,2 @@
+-- Laws of all parts unrolled.
+pub mod Parts

@@ -1,0 +1,162 @@
+-- All parts of a table unrolled. In order: a part's numbers are a contour of sound length and range (`part-short`, `part-ranged`, `part-unrollable`); the loop over the
+-- parts (`Unrolling`: `unrolling-start`, `unrolling-part`, `unrolling-leaves`, `unrolling-turn`, `unrolling-end`); every point in range (`parts-ranged`). Assumes nothing.
+use mathlib.Core.Path.{_≡_, refl, sym, _∙_, ap, subst}
+use mathlib.Core.Bool.{Bool, true, false, cond}
+use mathlib.Core.List.{List, [], _∷_, _++_, map-append, flatten}
+use Prim.Native.Nat.{ℕ, zero, suc, _+_, _-_, _*_, _/_, _%_, _≤_, _<_}
+use native.Mathlib.Numerals.{add-one}
+use native.Mathlib.Omega.{arith}
+use borrow.Author.Tests.{eq-eqb, le-ltb}
+use lib.ListN.{length, getD, set, take, drop, length-append, length-set, drop-of-length-le}
+use lib.Seq.{slice, length-slice, take-suc, take-all, drop-cons, take-suc-set}
+use lib.IntN.{ℤ}
+use Rattle.integers.specs.Lists.{All}
+use Rattle.integers.proofs.Tests.{differ}
+use Rattle.integers.proofs.Elements.{all-image, getD-all}
+use Rattle.plane.specs.Plane.{Pt, inRange}
+use Rattle.table.specs.Table.{startsFrom, startsOf, tableParts, tableBroken, partCount, offRange}
+use Rattle.table.specs.Shown.{partNumbers}
+use Rattle.table.proofs.Rules.{was-taken, sound, count-parts}
+use Rattle.table.proofs.Shown.{part-is}
+use Rattle.pair.specs.Walk.{windingLeaves}
+use Rattle.walk.specs.Calls.{lengthBroken}
+use Rattle.convex_gather.specs.Gather.{Gathered}
+use Rattle.convex_gather.proofs.Gathering.{part-appended}
+use Rattle.pair_points.specs.Points.{unrolled}
+use Rattle.minkowski.specs.Pairs.{someWindingLeaves}
+use Rattle.pair_unroll.specs.declared.Unrolled.{Unrolled}
+use Rattle.pair_unroll.specs.Unroll.{Ranged, Unrollable, UnrolledTo, UnrolledBy}
+use Rattle.pair_unroll.proofs.Contours.{length-unrolled, unrolled-ranged}
+use Rattle.pair_unroll_all.specs.Parts.{unrolledParts, tallyOf, PartAt, AllUnrolled}
+
+-- ---- a part's numbers
+
+even-short : (l : List ℤ) (n : ℕ) → length l ≡ 2 * n → n ≤ 1026 → lengthBroken l ≡ false
+unfolding lengthBroken
+even-short l n e h = rw (eq-eqb (length l % 2) 0 (omega arith), le-ltb 1026 (length l / 2) (omega arith))
+
+pub part-short : (starts : List ℕ) (corners : List ℤ) (k : ℕ) → tableBroken starts corners ≡ false → k < partCount starts → lengthBroken (partNumbers starts corners k) ≡ false
+unfolding partNumbers
+part-short s c k e h =
+    let t = sound s c e in
+    let a = getD s k 0 in
+    let b = getD s (suc k) 0 in
+    let rises : a ≤ b = t .rises k (omega arith) in
+    let fits : 2 * b ≤ length c = omega (arith, t .bounded (suc k) (omega arith)) in
+    even-short (slice (2 * a) (2 * b) c) (b - a) (omega (arith, length-slice (2 * a) (2 * b) c fits, rises)) (omega (arith, t .short k (omega arith), rises))
+
+-- some of a list in range is in range
+off-take : (n : ℕ) (l : List ℤ) → offRange l ≡ false → offRange (take n l) ≡ false
+unfolding offRange
+off-take zero l h = refl
+off-take (suc n) [] h = refl
+off-take (suc n) (z ∷ l) h = let q = was-taken (inRange z) (offRange l) h in rw (q .0) (off-take n l (q .1))
+
+off-drop : (n : ℕ) (l : List ℤ) → offRange l ≡ false → offRange (drop n l) ≡ false
+unfolding offRange
+off-drop zero l h = h
+off-drop (suc n) [] h = refl
+off-drop (suc n) (z ∷ l) h = off-drop n l (was-taken (inRange z) (offRange l) h .1)
+
+pub part-ranged : (starts : List ℕ) (corners : List ℤ) (k : ℕ) → offRange corners ≡ false → offRange (partNumbers starts corners k) ≡ false
+unfolding partNumbers
+part-ranged s c k h = off-drop (2 * getD s k 0) (take (2 * getD s (suc k) 0) c) (off-take (2 * getD s (suc k) 0) c h)
+
+pub part-unrollable : {starts : List ℕ} {corners : List ℤ} {p : ℕ} {points : List (List ℤ)} {from : ℕ} → PartAt starts corners p points from → Unrollable (partNumbers starts corners p) points from
+part-unrollable {starts} {corners} {p} {points} {from} a = record {
+  short = part-short starts corners p (a .whole) (a .inside);
+  ranged = part-ranged starts corners p (a .ranged);
+  room = omega (arith, a .room, ap length (part-is starts corners p (a .inside)));
+}
+
+-- of the numbers as the code takes them
+pub unrollable-at : {starts : List ℕ} {corners l : List ℤ} {p : ℕ} {points : List (List ℤ)} {from : ℕ} → l ≡ partNumbers starts corners p → PartAt starts corners p points from → Unrollable l points from
+unrollable-at {points = points} {from = from} e a = subst (λ l. Unrollable l points from) (sym e) (part-unrollable a)
+
+pub unrolled-at : {reflected : Bool} {l m : List Pt} {points : List (List ℤ)} {from : ℕ} {points′ : List (List ℤ)} {r : Unrolled} → l ≡ m → UnrolledBy reflected l points from points′ r → UnrolledBy reflected m points from points′ r
+unrolled-at {reflected} {points = points} {from = from} {points′ = points′} {r = r} e u = subst (λ l. UnrolledBy reflected l points from points′ r) e u
+
+-- ---- the loop: the first p parts are unrolled, and none of their windings leaves
+
+pub record Unrolling (reflected : Bool) (ps : List (List Pt)) (points₀ : List (List ℤ)) (firsts₀ : List ℕ) (points : List (List ℤ)) (firsts : List ℕ) (count p : ℕ) : Type 0 where
+  pub within : p ≤ length ps
+  pub points-size : length points ≡ length points₀
+  pub firsts-size : length firsts ≡ length firsts₀
+  pub few : count + length (flatten (drop p ps)) ≤ length (flatten ps) + p
+  pub told : someWindingLeaves reflected ps ≡ someWindingLeaves reflected (drop p ps)
+  pub gathered : Gathered firsts points (record { parts = p; corners = count }) (unrolledParts reflected (take p ps))
+
+module _ (reflected : Bool) (ps : List (List Pt)) where
+  pub unrolling-start : (points : List (List ℤ)) (firsts : List ℕ) {firsts′ : List ℕ} → 0 < length firsts → firsts′ ≡ set firsts 0 0 → Unrolling reflected ps points firsts′ points firsts′ 0 0
+  unfolding flatten startsOf startsFrom
+  unrolling-start points firsts {firsts′} h e = record {
+    within = omega arith;
+    points-size = refl;
+    firsts-size = refl;
+    few = omega arith;
+    told = refl;
+    gathered = record { parts = refl; corners = refl; begins = ap (take 1) e ∙ take-suc-set firsts 0 0 h; gathered = refl };
+  }
+
+  -- the part at hand and those after it
+  rest-at : (p : ℕ) → p < length ps → length (flatten (drop p ps)) ≡ length (getD ps p []) + length (flatten (drop (suc p) ps))
+  unfolding flatten
+  rest-at p h = ap (λ l. length (flatten l)) (drop-cons ps p [] h) ∙ length-append (getD ps p []) (flatten (drop (suc p) ps))
+
+  leaves-at : (p : ℕ) → p < length ps → someWindingLeaves reflected (drop p ps) ≡ cond (windingLeaves reflected (getD ps p [])) true (someWindingLeaves reflected (drop (suc p) ps))
+  unfolding someWindingLeaves
+  leaves-at p h = ap (someWindingLeaves reflected) (drop-cons ps p [] h)
+
+  module _ {points₀ : List (List ℤ)} {firsts₀ : List ℕ} {points : List (List ℤ)} {firsts : List ℕ} {count p : ℕ} (k : Unrolling reflected ps points₀ firsts₀ points firsts count p) where
+    -- there is room for the part at hand, in less than n places
+    pub unrolling-room : (n : ℕ) → p < length ps → length (flatten ps) + length ps ≤ n → count + length (getD ps p []) < n
+    unrolling-room n h g = omega (arith, k .few, rest-at p h)
+
+    pub unrolling-leaves : p < length ps → windingLeaves reflected (getD ps p []) ≡ true → true ≡ someWindingLeaves reflected ps
+    unrolling-leaves h t = sym (k .told ∙ leaves-at p h ∙ rw t)
+
+    module _ {points′ : List (List ℤ)} {n : ℕ} (h : p < length ps) (a : UnrolledTo reflected (getD ps p []) points count points′ n) where
+      -- a point more than corners, a part
+      pub unrolling-count : n + length (flatten (drop (suc p) ps)) ≤ length (flatten ps) + suc p
+      unrolling-count = omega (arith, k .few, rest-at p h, a .appended .count, length-unrolled reflected (getD ps p []))
+
+      pub unrolling-turn : {firsts′ : List ℕ} → p + 1 < length firsts → firsts′ ≡ set firsts (p + 1) n → Unrolling reflected ps points₀ firsts₀ points′ firsts′ n (p + 1)
+      unrolling-turn {firsts′} room e =
+          let s : suc p ≡ p + 1 = sym (add-one p) in
+          record {
+            within = omega arith;
+            points-size = a .appended .size ∙ k .points-size;
+            firsts-size = ap length e ∙ length-set firsts (p + 1) n ∙ k .firsts-size;
+            few = omega (arith, unrolling-count, ap (λ m. length (flatten (drop m ps))) s);
+            told = k .told ∙ leaves-at p h ∙ rw (a .stays) (ap (λ m. someWindingLeaves reflected (drop m ps)) s);
+            gathered =
+                subst (Gathered firsts′ points′ (record { parts = p + 1; corners = n })) (sym more)
+                (part-appended (unrolled reflected (getD ps p [])) firsts points (record { parts = p; corners = count }) room (a .appended) e .gathered (unrolledParts reflected (take p ps)) (k .gathered));
+          }
+        where
+          more : unrolledParts reflected (take (p + 1) ps) ≡ unrolledParts reflected (take p ps) ++ (unrolled reflected (getD ps p []) ∷ [])
+          more = ap (λ m. unrolledParts reflected (take m ps)) (add-one p) ∙ ap (unrolledParts reflected) (take-suc ps p [] h) ∙ map-append (unrolled reflected) (take p ps) (getD ps p [] ∷ [])
+
+    pub unrolling-end : length ps ≤ p → AllUnrolled reflected ps points firsts false
+    unfolding someWindingLeaves
+    unrolling-end h = record {
+      told = sym (k .told ∙ ap (someWindingLeaves reflected) (drop-of-length-le ps h));
+      gathered = λ t.
+          let g = k .gathered in
+          let all : unrolledParts reflected (take p ps) ≡ unrolledParts reflected ps = ap (unrolledParts reflected) (take-all p ps h) in
+          subst (λ qs. Gathered firsts points (tallyOf qs) qs) all (subst (λ t. Gathered firsts points t (unrolledParts reflected (take p ps))) (λ i. record { parts = g .parts i; corners = g .corners i }) g);
+    }
+
+-- a winding leaves
+pub some-leaves : {reflected : Bool} {ps : List (List Pt)} {points : List (List ℤ)} {firsts : List ℕ} → true ≡ someWindingLeaves reflected ps → AllUnrolled reflected ps points firsts true
+some-leaves e = record { told = e; gathered = λ t. differ (sym t) }
+
+-- ---- every point of every part is in range
+
+every-part : (reflected : Bool) (starts : List ℕ) (corners : List ℤ) → offRange corners ≡ false → (k : ℕ) → k < partCount starts → All Ranged (unrolled reflected (getD (tableParts starts corners) k []))
+every-part reflected starts corners h k l = subst (λ m. All Ranged (unrolled reflected m)) (part-is starts corners k l) (unrolled-ranged reflected (partNumbers starts corners k) (part-ranged starts corners k h))
+
+pub parts-ranged : (reflected : Bool) (starts : List ℕ) (corners : List ℤ) → tableBroken starts corners ≡ false → offRange corners ≡ false → All (All Ranged) (unrolledParts reflected (tableParts starts corners))
+parts-ranged reflected starts corners e h =
+    all-image (All Ranged) (unrolled reflected) (tableParts starts corners) .1
+    (getD-all (λ m. All Ranged (unrolled reflected m)) (tableParts starts corners) [] (λ k l. every-part reflected starts corners h k (omega (arith, count-parts starts corners e))))

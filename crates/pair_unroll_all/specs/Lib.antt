@@ -1,0 +1,2 @@
+-- All parts of a table unrolled.
+pub mod Parts

@@ -1,0 +1,52 @@
+// All parts of a sound table unrolled to points, one after another (`unroll_all`): the points of part p stand from firsts[p] up to firsts[p + 1], or it is told
+// that some winding leaves 64 bits (fault 8), and then what the buffers hold is of no matter. Leans on pair_unroll and convex_gather.
+ghost use mathlib.Core.List.{[]};
+ghost use lib.ListN.{getD};
+ghost use Rattle.table.specs.Table.{tableParts};
+ghost use Rattle.pair_unroll.specs.Unroll.{UnrolledBy};
+ghost use Rattle.pair_unroll_all.specs.Parts.{PartAt, Unrollables, AllUnrolled};
+use pair_unroll::Unrolled;
+
+// Part p unrolled after the first `from` points.
+fn unroll_part(
+    starts: &[u32],
+    corners: &[i32],
+    p: usize,
+    reflected: bool,
+    points: &mut [[i32; 2]],
+    from: usize,
+) -> Unrolled
+    requires { ⌜ PartAt (now starts) (now corners) p (now points) from ⌝ }
+    ensures { λ r. ⌜ UnrolledBy reflected (getD (tableParts (now (starts .entry)) (now (corners .entry))) p []) (now (points .entry)) from (now (points .exit)) r ⌝ }
+{
+    let a = 2 * (starts[p] as usize);
+    let e = 2 * (starts[p + 1] as usize);
+    pair_unroll::unroll(&corners[a..e], reflected, points, from)
+}
+
+// All parts unrolled; answers whether some winding leaves 64 bits.
+pub fn unroll_all(
+    starts: &[u32],
+    corners: &[i32],
+    reflected: bool,
+    points: &mut [[i32; 2]],
+    firsts: &mut [u32],
+) -> bool
+    requires { ⌜ Unrollables (now starts) (now corners) (now points) (now firsts) ⌝ }
+    ensures { λ r. ⌜ AllUnrolled reflected (tableParts (now (starts .entry)) (now (corners .entry))) (now (points .exit)) (now (firsts .exit)) r ⌝ }
+{
+    let parts = starts.len() - 1;
+    convex_gather::put_start(firsts, 0, 0);
+    let mut count: usize = 0;
+    let mut p: usize = 0;
+    while p < parts {
+        let r = unroll_part(starts, corners, p, reflected, points, count);
+        let Unrolled::To(n) = r else {
+            return true;
+        };
+        count = n;
+        p += 1;
+        convex_gather::put_start(firsts, p, count);
+    }
+    false
+}
