@@ -1,8 +1,11 @@
 -- A contour's walk as points in walk order, the start again at the end where it goes round (`unrolled`), and the merge of two such lists (`mergedOf`).
--- Code works on these; that the merge is the pair's contour is a law (proofs/Merged.antt). Assumes nothing.
-use mathlib.Core.Bool.{Bool}
+-- Code works on these; that the merge is the pair's contour is a law (proofs/Merged.antt). What the merge asks of a list is `Turning`. Assumes nothing.
+use mathlib.Core.Path.{_≡_}
+use mathlib.Core.Bool.{Bool, true, false}
 use mathlib.Core.List.{List, [], _∷_}
-use Rattle.plane.specs.Plane.{Pt, _+ᵖ_, _-ᵖ_}
+use Rattle.integers.specs.Lists.{All}
+use Rattle.plane.specs.Plane.{Pt, _+ᵖ_, _-ᵖ_, angleCmp, isEqual, isGreater}
+use Rattle.plane.proofs.Directions.{Nz}
 use Rattle.pair.specs.Walk.{begin, pointOf}
 use Rattle.pair.specs.Demand.{live, walkEdges}
 use Rattle.pair.specs.Berg.{cornersFrom}
@@ -30,3 +33,33 @@ unfoldable pub mergedOf : List Pt → List Pt → List Pt
 mergedOf [] b = []
 mergedOf (p ∷ a) [] = []
 mergedOf (p ∷ a) (q ∷ b) = cornersFrom (p +ᵖ q) (join (edgesAlong (p ∷ a)) (edgesAlong (q ∷ b)))
+
+-- ---- what unrolling gives, and merging asks
+
+-- the edge e has not the direction of the first of l
+abbrev pub Off : Pt → List Pt → Type 0
+Off e [] = Unit {0}
+Off e (f ∷ l) = isEqual (angleCmp e f) ≡ false
+
+-- no two neighbouring edges have one direction
+abbrev pub Apart : List Pt → Type 0
+Apart [] = Unit {0}
+Apart (e ∷ l) = Off e l × Apart l
+
+-- points whose edges are nonzero, each of another direction than the one before
+pub record Turning (a : List Pt) : Type 0 where
+  pub nonzero : All Nz (edgesAlong a)
+  pub apart : Apart (edgesAlong a)
+
+-- ---- the merge, a corner a turn
+
+-- after a tie: whether the second list's edge f steps before the first list's edges m
+unfoldable pub secondNext : List Pt → Pt → Bool
+secondNext [] f = true
+secondNext (g ∷ m) f = isGreater (angleCmp g f)
+
+-- the points of a but the last, moved by q: what is merged of a with q alone
+unfoldable pub restOf : Pt → List Pt → List Pt
+restOf q [] = []
+restOf q (p ∷ []) = []
+restOf q (p ∷ r ∷ a) = (p +ᵖ q) ∷ restOf q (r ∷ a)

@@ -1,0 +1,2 @@
+-- What holds of all pairs of two accepted operands.
+pub mod Results

@@ -1,0 +1,2 @@
+-- What the contracts cite: corners put into lent numbers.
+pub mod Putting

@@ -1,0 +1,2 @@
+-- The chain.
+pub mod Chain
