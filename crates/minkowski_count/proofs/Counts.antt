@@ -1,9 +1,9 @@
 -- Counting corners a pair and a row at a time: a merge fits the work buffer (`fits-work`); one more pair of a row, one more row (`row-turn`, `row-fits`, `all-turn`,
 -- `all-fits`); walks read (`one-read`, `walk-short`); unrolled parts (`unrolled-countable`). Assumes nothing.
-use mathlib.Core.Path.{_≡_, refl, sym, _∙_, ap, subst}
+use mathlib.Core.Path.{_≡_, sym, _∙_, ap, subst}
 use mathlib.Core.Bool.{Bool}
 use mathlib.Core.List.{List, [], _∷_, _++_, map, flatten, append-nil}
-use Prim.Native.Nat.{ℕ, suc, _+_, _-_, _≤_, _<_, _^_}
+use Prim.Native.Nat.{ℕ, suc, _+_, _-_, _≤_, _<_}
 use native.Mathlib.Omega.{arith}
 use lib.ListN.{length, getD, take, drop, length-map}
 use lib.Seq.{take-all}
