@@ -17,7 +17,7 @@ use Rattle.convex_gather.specs.Gather.{Gathered, RoomFor, PartsAppended}
 
 -- ---- one part more
 
-flatten-more : {A : Type 0} (ps : List (List A)) (p : List A) → flatten (ps ++ (p ∷ [])) ≡ flatten ps ++ p
+pub flatten-more : {A : Type 0} (ps : List (List A)) (p : List A) → flatten (ps ++ (p ∷ [])) ≡ flatten ps ++ p
 unfolding flatten
 flatten-more ps p = flatten-append ps (p ∷ []) ∙ ap (λ l. flatten ps ++ l) (append-nil p)
 
@@ -32,7 +32,7 @@ starts-from-more k (q ∷ ps) p =
     longer : (k : ℕ) (q l p : List Pt) → k + length q + length (l ++ p) ≡ k + length ((q ++ l) ++ p)
     longer k q l p = omega (arith, length-append q (l ++ p), ap length (append-assoc q l p))
 
-starts-more : (ps : List (List Pt)) (p : List Pt) → startsOf (ps ++ (p ∷ [])) ≡ startsOf ps ++ (length (flatten ps ++ p) ∷ [])
+pub starts-more : (ps : List (List Pt)) (p : List Pt) → startsOf (ps ++ (p ∷ [])) ≡ startsOf ps ++ (length (flatten ps ++ p) ∷ [])
 unfolding startsOf
 starts-more ps p = starts-from-more 0 ps p ∙ ap (λ n. startsFrom 0 ps ++ (n ∷ [])) (omega arith)
 

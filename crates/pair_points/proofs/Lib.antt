@@ -2,3 +2,4 @@
 pub mod Grouping
 pub mod Merged
 pub mod Turns
+pub mod OnContour

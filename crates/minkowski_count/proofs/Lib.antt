@@ -1,0 +1,2 @@
+-- What counting leans on.
+pub mod Counts
