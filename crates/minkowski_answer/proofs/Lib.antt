@@ -1,0 +1,3 @@
+-- What a call on two operands answers, and the room for all pairs.
+pub mod Answer
+pub mod Room

@@ -1,0 +1,2 @@
+-- What the contracts cite: what a call on two operands answers.
+pub mod Answer

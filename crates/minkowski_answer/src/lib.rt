@@ -1,0 +1,81 @@
+// The answer of a call on two operands whose parts are unrolled to walks: refused for want of room (22, then 21), or all pairs written into the lent starts
+// and corners (`hand_out`). Corners are counted only where the most that there can be have no room. Leans on minkowski_rows and minkowski_count.
+ghost use mathlib.Core.Path.{_≡_};
+ghost use mathlib.Core.List.{flatten};
+ghost use lib.Dec.{ltb};
+ghost use lib.ListN.{length};
+ghost use Rattle.integers.specs.Faults.{firstFault};
+ghost use Rattle.table.specs.Table.{roomKinds};
+ghost use Rattle.minkowski_answer.specs.Answer.{refusalOf, contoursIn, Unrolleds, PairsAnswered};
+use minkowski::PairCounts;
+use table::IntRect;
+
+// A refusal: its number and zero counts.
+pub fn refusal(fault: u32) -> PairCounts
+    ensures { λ r. ⌜ r ≡ refusalOf fault ⌝ }
+{
+    PairCounts {
+        fault: fault,
+        contours: 0,
+        corners: 0,
+        bounds: IntRect {
+            min_x: 0,
+            max_x: 0,
+            min_y: 0,
+            max_y: 0,
+        },
+    }
+}
+
+// Whether the pairs have more corners than `room`: no where the most that there can be have room, and else as counting tells.
+fn no_room(
+    lf: &[u32],
+    lp: &[[i32; 2]],
+    left: usize,
+    rf: &[u32],
+    rp: &[[i32; 2]],
+    right: usize,
+    most: usize,
+    room: usize,
+) -> bool
+    requires { ⌜ Unrolleds (now lf) (now lp) left (now rf) (now rp) right most ⌝ }
+    ensures { λ r. ⌜ r ≡ ltb room (length (flatten (contoursIn (now (lf .entry)) (now (lp .entry)) left (now (rf .entry)) (now (rp .entry)) right))) ⌝ }
+{
+    if most <= room {
+        return false;
+    }
+    minkowski_count::count_all(lf, lp, left, rf, rp, right) > room
+}
+
+// All pairs of two operands' walks, within `bounds`, on the front of the lent starts and corners. Refused with 22 or 21, and nothing changed, where there are
+// too few places.
+pub fn hand_out(
+    lf: &[u32],
+    lp: &[[i32; 2]],
+    left: usize,
+    rf: &[u32],
+    rp: &[[i32; 2]],
+    right: usize,
+    most: usize,
+    bounds: IntRect,
+    starts: &mut [u32],
+    corners: &mut [i32],
+) -> PairCounts
+    requires { ⌜ Unrolleds (now lf) (now lp) left (now rf) (now rp) right most ⌝ }
+    ensures { λ r. ⌜ PairsAnswered (firstFault (roomKinds (contoursIn (now (lf .entry)) (now (lp .entry)) left (now (rf .entry)) (now (rp .entry)) right) (length (now (starts .entry))) (length (now (corners .entry))))) (contoursIn (now (lf .entry)) (now (lp .entry)) left (now (rf .entry)) (now (rp .entry)) right) bounds (now (starts .entry)) (now (corners .entry)) r (now (starts .exit)) (now (corners .exit)) ⌝ }
+{
+    let contours = left * right;
+    if starts.len() < contours + 1 {
+        return refusal(table::FAULT_START_ROOM);
+    }
+    if no_room(lf, lp, left, rf, rp, right, most, corners.len() / 2) {
+        return refusal(table::FAULT_CORNER_ROOM);
+    }
+    let count = minkowski_rows::append_all(lf, lp, left, rf, rp, right, starts, corners);
+    PairCounts {
+        fault: 0,
+        contours: contours as u32,
+        corners: count as u32,
+        bounds: bounds,
+    }
+}

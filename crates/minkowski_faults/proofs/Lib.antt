@@ -1,0 +1,2 @@
+-- The faults of two operands in turn.
+pub mod Range

@@ -1,0 +1,2 @@
+-- What the contracts cite: work buffers for two operands.
+pub mod Scratch
