@@ -48,7 +48,7 @@ module _ (starts : List ℕ) (points : List (List ℤ)) (t : Tally) (ps : List (
   pub enough-starts : t .parts < length starts
   enough-starts = omega (arith, ap length (g .begins), length-take (t .parts + 1) starts, length-starts ps, g .parts)
 
-  start-at : (j : ℕ) → j ≤ length ps → getD starts j 0 ≡ length (flatten (take j ps))
+  pub start-at : (j : ℕ) → j ≤ length ps → getD starts j 0 ≡ length (flatten (take j ps))
   unfolding startsOf
   start-at j h = sym (getD-take (t .parts + 1) starts j 0 (omega (arith, g .parts))) ∙ ap (λ s. getD s j 0) (g .begins) ∙ starts-at 0 j ps h ∙ zero-add (length (flatten (take j ps)))
 

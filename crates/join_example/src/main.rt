@@ -1,16 +1,6 @@
 // The README's example of joining: the parts of document 01's dart, two triangles that do not join, then the same mesh refused, once for want of
 // a place for the last start and once for a neighbour that is not there. What it prints is its file `stdout`. Leans on convex_join and lines.
 
-// Writes a coordinate after a space. Below 0 its bits, read unsigned, are as far below 2^32.
-fn print_coordinate(n: i32) {
-    let bits = integers::unsigned(n) as u64;
-    if n < 0 {
-        lines::print(b" -", 4294967296 - bits, b"");
-        return;
-    }
-    lines::print(b" ", bits, b"");
-}
-
 fn print_start(n: u32) {
     lines::print(b" ", n as u64, b"");
 }
@@ -29,7 +19,7 @@ fn print_corners(corners: &[i32]) {
     io::write_all(1, b"corners");
     let mut i = 0;
     while i < corners.len() {
-        print_coordinate(corners[i]);
+        lines::print_coordinate(corners[i]);
         i += 1;
     }
     io::write_all(1, b"\n");

@@ -1,20 +1,22 @@
 -- Counting corners a pair and a row at a time: a merge fits the work buffer (`fits-work`); one more pair of a row, one more row (`row-turn`, `row-fits`, `all-turn`,
--- `all-fits`); walks read (`one-read`, `walk-short`). Assumes nothing.
-use mathlib.Core.Path.{_≡_, refl, sym, _∙_, ap, subst}
-use mathlib.Core.List.{List, [], _∷_, _++_, flatten, append-nil}
-use Prim.Native.Nat.{ℕ, suc, _+_, _-_, _≤_, _<_, _^_}
+-- `all-fits`); walks read (`one-read`, `walk-short`); unrolled parts (`unrolled-countable`). Assumes nothing.
+use mathlib.Core.Path.{_≡_, sym, _∙_, ap, subst}
+use mathlib.Core.Bool.{Bool}
+use mathlib.Core.List.{List, [], _∷_, _++_, map, flatten, append-nil}
+use Prim.Native.Nat.{ℕ, suc, _+_, _-_, _≤_, _<_}
 use native.Mathlib.Omega.{arith}
 use lib.ListN.{length, getD, take, drop, length-map}
 use lib.Seq.{take-all}
 use lib.IntN.{ℤ}
-use Rattle.integers.proofs.Elements.{all-getD}
+use Rattle.integers.specs.Lists.{All}
+use Rattle.integers.proofs.Elements.{all-map, all-image, all-getD}
 use Rattle.integers.proofs.Sums.{length-flatten-append}
 use Rattle.plane.specs.Plane.{Pt}
 use Rattle.convex_ring.specs.Buffers.{cornerOf}
-use Rattle.pair_points.specs.Points.{mergedOf}
-use Rattle.pair_points.proofs.Merged.{length-merged}
+use Rattle.pair_points.specs.Points.{unrolled, mergedOf}
+use Rattle.pair_points.proofs.Merged.{length-unrolled, length-merged}
 use Rattle.pair_merge.specs.Putting.{pointsIn, RoomAfter, Put}
-use Rattle.minkowski_rows.specs.Rows.{walksIn, mergedRow, mergedAll}
+use Rattle.minkowski_rows.specs.Rows.{walksIn, Walks, mergedRow, mergedAll}
 use Rattle.minkowski_rows.proofs.Pairs.{walk-inside, walk-placed, row-suc, row-whole, all-suc, all-whole}
 use Rattle.minkowski_count.specs.Counting.{Countable, rowCount, allCount}
 
@@ -75,3 +77,14 @@ row-end a rs q h = ap (rowCount a) (take-all q rs h)
 
 pub all-end : (ls rs : List (List Pt)) (p : ℕ) → length ls ≤ p → allCount (take p ls) rs ≡ allCount ls rs
 all-end ls rs p h = ap (λ l. allCount l rs) (take-all p ls h)
+
+-- ---- the parts of an operand unrolled can be counted
+
+-- a walk of at most 1,026 corners has at most 1,027 points
+pub unrolled-countable :
+    (reflected : Bool) (ps : List (List Pt)) (n : ℕ) (firsts : List ℕ) (points : List (List ℤ)) → Walks firsts points n → walksIn firsts points n ≡ map (unrolled reflected) ps → All (λ p. length p ≤ 1026) ps →
+    Countable firsts points n
+unrolled-countable reflected ps n firsts points w e h = record {
+  walks = w;
+  short = subst (All (λ w. length w ≤ 1027)) (sym e) (all-image (λ w. length w ≤ 1027) (unrolled reflected) ps .1 (all-map ps (λ p k. omega (arith, k, length-unrolled reflected p)) h));
+}

@@ -1,15 +1,14 @@
 -- Every corner of the result lies within the result bounds and on the grid (`result-within`). In order: what the test of bounds tells; a sum of corners within
 -- the sum of bounds; the parts of an operand within its bounds; what an accepted pair of operands is; all pairs. Assumes nothing.
-use mathlib.Core.Path.{_≡_, refl, sym, _∙_, ap, subst}
+use mathlib.Core.Path.{_≡_, refl, sym, subst}
 use mathlib.Core.Bool.{Bool, true, false, cond}
-use mathlib.Core.List.{List, [], _∷_, map, flatten}
+use mathlib.Core.List.{List, [], _∷_, map}
 use Prim.Native.Nat.{ℕ}
 use native.Mathlib.Omega.{arith}
-use lib.IntN.{ℤ, pos, negsuc, negℤ, _+ℤ_}
+use lib.IntN.{ℤ, pos, negsuc, negℤ}
 use lib.Signed.{_≤ℤ_, leZ, ltZ}
 use Rattle.integers.specs.Lists.{All, Any}
-use Rattle.integers.specs.Faults.{firstFault}
-use Rattle.integers.proofs.Order.{by-test, zarith, +-mono, neg-mono}
+use Rattle.integers.proofs.Order.{zarith, +-mono, neg-mono}
 use Rattle.integers.proofs.Tests.{differ, either-false, leZ-≤, ≤-leZ, <-leZ, <-ltZ}
 use Rattle.integers.proofs.Sizes.{abs-parts}
 use Rattle.integers.proofs.Elements.{all-map, all-any, all-flatten, all-image}
@@ -17,7 +16,7 @@ use Rattle.integers.proofs.Faults.{first-none}
 use Rattle.plane.specs.Plane.{Pt, _+ᵖ_, negᵖ, inRange, onGrid}
 use Rattle.plane.proofs.Size.{in-range-coordinate}
 use Rattle.table.specs.declared.IntRect.{IntRect}
-use Rattle.table.specs.Table.{pointsOf, tableParts, tableBroken, offRange, boundsList, withinBounds, someOutside, boundsBroken}
+use Rattle.table.specs.Table.{pointsOf, tableBroken, offRange, boundsList, withinBounds, someOutside, boundsBroken}
 use Rattle.table.proofs.Rules.{was-taken, flatten-whole}
 use Rattle.pair.specs.Pair.{pairContour}
 use Rattle.pair.specs.Premise.{throughOrigin}

@@ -1,8 +1,8 @@
 -- The buffers that an accepted call leaves hold the pairs' contours (`result-is-pairs`), so demand 3 and de Berg et al. hold of what stands there
 -- (`table-reach`, `table-de-berg`); pairs in pieces (`pairs-shard`). Assumes nothing.
-use mathlib.Core.Path.{_≡_, refl, sym, _∙_, ap, ap₂, subst}
-use mathlib.Core.List.{List, [], _∷_, _++_, map, map-append, flatten}
-use Prim.Native.Nat.{ℕ, zero, suc, _+_, _*_, _<_}
+use mathlib.Core.Path.{_≡_, sym, _∙_, ap, ap₂, subst}
+use mathlib.Core.List.{List, [], _∷_, map, map-append, flatten}
+use Prim.Native.Nat.{ℕ, _+_, _*_}
 use native.Mathlib.Numerals.{add-one}
 use native.Mathlib.Omega.{arith}
 use lib.ListN.{length, getD, take, length-append}
@@ -10,19 +10,18 @@ use lib.IntN.{ℤ}
 use Rattle.integers.specs.Lists.{overlay}
 use Rattle.integers.proofs.Overlay.{take-overlay, getD-overlay}
 use Rattle.integers.proofs.Sums.{flatten-append}
-use Rattle.plane.specs.Plane.{Pt, _+ᵖ_}
+use Rattle.plane.specs.Plane.{Pt}
 use Rattle.table.specs.Table.{startsFrom, startsOf, cornersOf, tableParts, written}
 use Rattle.table.proofs.Answers.{accepted-buffer}
 use Rattle.table.proofs.Corners.{length-numbers}
 use Rattle.table.proofs.Parts.{length-starts}
 use Rattle.table.proofs.Rules.{parts-table}
-use Rattle.pair.specs.Walk.{begin, pointOf}
 use Rattle.pair.specs.Pair.{pairContour}
-use Rattle.pair.specs.Demand.{second, FarthestReach}
+use Rattle.pair.specs.Demand.{FarthestReach}
 use Rattle.pair.proofs.Theorem.{demand3, sum-is-de-berg}
-use Rattle.minkowski.specs.Pairs.{Operand, operandParts, pairsOf, pairContours, pairsFault}
+use Rattle.minkowski.specs.Pairs.{operandParts, pairsOf, pairContours, pairsFault}
 use Rattle.minkowski.proofs.EachPair.{length-pairs, each-pair}
-use Rattle.minkowski_pairs.specs.Results.{firstContours, resultContours, ResultIsPairs, TableReach, TableDeBerg, PairsShard}
+use Rattle.minkowski_pairs.specs.Results.{firstContours, ResultIsPairs, TableReach, TableDeBerg, PairsShard}
 
 -- the last start is the number of corners
 start-last : (k : ℕ) (ps : List (List Pt)) → getD (startsFrom k ps) (length ps) 0 ≡ k + length (flatten ps)

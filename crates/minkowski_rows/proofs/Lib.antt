@@ -1,2 +1,3 @@
--- What putting all pairs leans on.
+-- What putting all pairs leans on, and what it gives of unrolled parts.
 pub mod Pairs
+pub mod Unrolled

@@ -4,21 +4,21 @@
 use mathlib.Core.Path.{_≡_, refl, sym, _∙_, ap, ap₂, subst}
 use mathlib.Core.Bool.{Bool, true, false}
 use mathlib.Core.List.{List, [], _∷_, _++_, map, map-append, flatten, append-assoc, append-nil}
-use Prim.Native.Nat.{ℕ, zero, suc, _+_, _*_, _-_, _≤_, _<_, _^_}
+use Prim.Native.Nat.{ℕ, zero, suc, _+_, _-_, _≤_, _<_, _^_}
 use native.Mathlib.Numerals.{add-one}
 use native.Mathlib.Omega.{arith}
-use lib.ListN.{length, getD, set, take, drop, length-append, length-drop, length-set, length-map, List·getD-map, List·getD-eq-default, take-append-drop}
+use lib.ListN.{length, getD, set, take, drop, length-append, length-drop, length-set, take-append-drop}
 use lib.Seq.{take-suc, take-all, drop-cons}
 use lib.IntN.{ℤ}
 use Rattle.integers.specs.Lists.{All, overlay}
-use Rattle.integers.proofs.Elements.{all-getD, map-all}
+use Rattle.integers.proofs.Elements.{all-getD}
 use Rattle.integers.proofs.Overlay.{overlay-eq, overlay-nil, overlay-turn}
 use Rattle.integers.proofs.Sums.{flatten-append, length-flatten-append}
 use Rattle.plane.specs.Plane.{Pt, O, inRange, onGrid}
 use Rattle.table.specs.Table.{startsFrom, startsOf, numbersOf, cornersOf, partsOf}
 use Rattle.table.proofs.Parts.{length-starts, parts-starts}
 use Rattle.pair.specs.Pair.{pairContour}
-use Rattle.convex_ring.specs.Buffers.{cornerOf, cornerAt, Grid}
+use Rattle.convex_ring.specs.Buffers.{cornerOf}
 use Rattle.convex_contour.specs.Contour.{firstPoints}
 use Rattle.convex_gather.specs.Gather.{Gathered}
 use Rattle.convex_gather.proofs.Gathering.{flatten-more, starts-more}

@@ -5,6 +5,7 @@ use plane::IntPoint;
 
 // Where a walk stands in its contour (document 01: its place). A contour has at most 1,026 corners, so 16 bits are enough, and a walk that a
 // caller makes up has at most 65,535 steps left. `segment`: it goes between `start` and `end` and back; else both are where it began.
+#[repr(C)]
 pub struct Place {
     pub index: u16,
     pub remaining: u16,
@@ -16,6 +17,7 @@ pub struct Place {
 }
 
 // The two walks of a pair, by their places; the contours stand beside them.
+#[repr(C)]
 pub struct ConvexSum {
     pub a: Place,
     pub b: Place,

@@ -2,7 +2,7 @@
 -- that every run goes on through alike (`Alike`); what grouping does, as any relation that two edges made one and an edge in front keep
 -- (`grouped-by`); lists alike as the first of the merge, and as the second. Assumes nothing.
 use mathlib.Core.Path.{_≡_, refl, sym, _∙_, ap}
-use mathlib.Core.Bool.{Bool, true, false, cond}
+use mathlib.Core.Bool.{true, false, cond}
 use mathlib.Core.List.{List, [], _∷_}
 use mathlib.Core.Logic.{⊎-elim}
 use Rattle.integers.specs.Lists.{All}

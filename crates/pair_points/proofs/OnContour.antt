@@ -1,8 +1,8 @@
 -- The points of an unrolled walk are corners of its contour, negated where it is reflected (`unrolled-points`): what holds of those holds of them. Assumes nothing.
 use mathlib.Core.Path.{_≡_, refl, sym, _∙_, ap, subst}
-use mathlib.Core.Bool.{Bool, true, false}
+use mathlib.Core.Bool.{Bool}
 use mathlib.Core.List.{List, [], _∷_}
-use Prim.Native.Nat.{ℕ, zero, suc, _<_}
+use Prim.Native.Nat.{ℕ, zero, suc}
 use native.Mathlib.Omega.{arith}
 use lib.ListN.{length}
 use Rattle.integers.specs.Lists.{All}
@@ -11,10 +11,9 @@ use Rattle.integers.proofs.Elements.{all-getD}
 use Rattle.plane.specs.Plane.{Pt, O, _+ᵖ_, isZero, angleCmp, isEqual}
 use Rattle.plane.proofs.Vectors.{+ᵖ-assoc, +ᵖ-zero, isZero-true}
 use Rattle.pair.specs.declared.Place.{Place}
-use Rattle.pair.specs.Walk.{begin, pointOf, edgeOf, advance, turned, cornerAt}
+use Rattle.pair.specs.Walk.{begin, pointOf, advance, turned, cornerAt}
 use Rattle.pair.specs.Demand.{live, handed, walkEdges}
 use Rattle.pair.proofs.EdgeLists.{runs, grouped}
-use Rattle.pair.proofs.Live.{live-zero, live-keep}
 use Rattle.pair.proofs.Places.{Valid, valid-advance, valid-begin, begin-by, point-advance}
 use Rattle.pair_points.specs.Points.{pointsAlong, unrolled}
 use Rattle.pair_points.proofs.Grouping.{runs-on, runs-turn}

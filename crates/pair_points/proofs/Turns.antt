@@ -2,10 +2,10 @@
 -- lists of edges begun, by how their first edges compare (`join-less`, `join-greater`, `join-both`, `join-first`); the same of points by index (`at-less`,
 -- and so on), and where one list has one point left (`at-rest`). Assumes nothing.
 use mathlib.Core.Path.{_≡_, refl, sym, _∙_, ap, ap₂, subst₂}
-use mathlib.Core.Bool.{Bool, true, false}
+use mathlib.Core.Bool.{true, false}
 use mathlib.Core.List.{List, [], _∷_, _++_, append-nil}
 use mathlib.Core.Logic.{_⊎_, ⊎-elim}
-use Prim.Native.Nat.{ℕ, zero, suc, _+_, _-_, _≤_, _<_}
+use Prim.Native.Nat.{ℕ, zero, suc, _+_, _-_, _<_}
 use native.Mathlib.Omega.{arith}
 use native.Mathlib.Numerals.{add-one}
 use lib.ListN.{length, getD, drop, drop-of-length-le}
@@ -18,11 +18,11 @@ use Rattle.plane.specs.declared.Ordering.the-variants.{Less, Equal, Greater}
 use Rattle.plane.specs.Plane.{Pt, O, _+ᵖ_, _-ᵖ_, angleCmp, isEqual, isGreater}
 use Rattle.plane.proofs.Terms.{_+E_, _-E_}
 use Rattle.plane.proofs.Vectors.{+ᵖ-comm}
-use Rattle.plane.proofs.Directions.{Le, Lt, Nz, Same, before, beside, after, angle-cases, lt-le, lt-not-same, lt-asym, same-le, same-sym}
+use Rattle.plane.proofs.Directions.{Lt, Nz, Same, before, beside, after, angle-cases, lt-le, lt-not-same, lt-asym, same-le, same-sym}
 use Rattle.pair.specs.Berg.{cornersFrom}
 use Rattle.pair.proofs.EdgeLists.{stepOne, stepped, runs, grouped}
 use Rattle.pair.proofs.Join.{join, step-by}
-use Rattle.pair_points.specs.Points.{edgesAlong, mergedOf, Off, Apart, Turning, secondNext, restOf}
+use Rattle.pair_points.specs.Points.{edgesAlong, mergedOf, Off, Turning, secondNext, restOf}
 use Rattle.pair_points.proofs.Grouping.{same-test, test-same, runs-on, runs-turn, steps-first, steps-second}
 use Rattle.pair_points.proofs.Merged.{as-off}
 

@@ -1,11 +1,12 @@
--- A walk step by step: the edges taken so far and those to come (`Taken`: `taken-start`, `taken-step`, `taken-all`), in range; its points in a buffer (`Walking`).
--- Assumes nothing.
+-- A walk step by step. In order: the edges taken so far and those to come (`Taken`: `taken-start`, `taken-step`, `taken-count`, `taken-all`, `fewer-steps`); a buffer
+-- stored to past its first points (`onto`, `stored`); the points so far in a buffer (`Walking`: `walking-start`, `walking-placed`, `walking-adding`, `walking-step`,
+-- `walking-end`). Assumes nothing.
 use mathlib.Core.Path.{_≡_, refl, sym, _∙_, ap, subst}
 use mathlib.Core.Bool.{false}
 use mathlib.Core.List.{List, [], _∷_, _++_, map, append-assoc, append-nil}
 use Prim.Native.Nat.{ℕ, zero, suc, _+_, _-_, _<_}
 use native.Mathlib.Omega.{arith}
-use lib.ListN.{length, set, take, length-append, length-set}
+use lib.ListN.{length, set, length-append, length-set}
 use lib.Seq.{take-set-le}
 use lib.IntN.{ℤ}
 use Rattle.integers.specs.Lists.{All}
@@ -22,12 +23,13 @@ use Rattle.pair_points.specs.Points.{pointsAlong}
 use Rattle.walk.specs.Calls.{misplaced}
 use Rattle.walk.proofs.Answers.{advance-placed}
 use Rattle.convex_ring.specs.Buffers.{cornerOf, pairOf}
-use Rattle.convex_contour.specs.Contour.{Appended}
+use Rattle.convex_contour.specs.Contour.{firstPoints, Appended}
 use Rattle.convex_contour.proofs.Contours.{appended-one}
 use Rattle.pair_unroll.specs.Unroll.{withPoint, Ranged, Adding, PointAdded, pointsFrom}
 use Rattle.pair_unroll.proofs.Along.{lastAlong, last-more, along-more, all-with, few-points, length-along}
 use Rattle.pair_unroll.proofs.Buffered.{all-at}
 
+-- one step of k, and none
 handed-first : (l : List Pt) (w : Place) (k : ℕ) → 0 < k → handed k l w ≡ edgeOf l w ∷ handed (k - 1) l (advance (length l) w)
 unfolding handed
 handed-first l w zero h = absurd (omega arith)
@@ -66,6 +68,7 @@ module _ (l : List Pt) (v : Place) where
     pub taken-all : w .remaining ≡ 0 → t .es ≡ handed (v .remaining) l v
     taken-all z = sym (append-nil (t .es)) ∙ ap (λ m. t .es ++ m) (sym (ap (λ k. handed k l w) z ∙ handed-none l w)) ∙ t .edges
 
+-- the steps left, one fewer
 pub fewer-steps : (n : ℕ) (w : Place) {w′ : Place} → w′ ≡ advance n w → 0 < w .remaining → w′ .remaining < w .remaining
 unfolding advance
 fewer-steps n w {w′} e h = let r : w′ .remaining ≡ w .remaining - 1 = ap (λ u. u .remaining) e in omega arith
@@ -83,43 +86,49 @@ pub record Walking (l : List Pt) (v w : Place) (points₀ : List (List ℤ)) (fr
 on-grid-ranged : {p : IntPoint} {q : Pt} → point p ≡ q → OnGrid p → Ranged q
 on-grid-ranged e g = subst Ranged e (g .x-small, g .y-small)
 
--- a store at `from` changes nothing before it
-pub rebase : {new : List Pt} {points₀ points₁ points : List (List ℤ)} {from n : ℕ} (x : List ℤ) → points₁ ≡ set points₀ from x → Appended new points₀ from points n → Appended new points₁ from points n
-rebase {new} {points₀} {points₁} {points} {from} {n} x e a = record {
-  size = a .size ∙ sym (ap length e ∙ length-set points₀ from x);
-  count = a .count;
-  written = a .written ∙ ap (λ l. map cornerOf l ++ new) (sym (ap (take from) e ∙ take-set-le from points₀ from x (omega arith)));
-}
+-- ---- points appended to a buffer are appended to any other with the same first ones
 
-pub unbase : {new : List Pt} {points₀ points₁ points : List (List ℤ)} {from n : ℕ} (x : List ℤ) → points₁ ≡ set points₀ from x → Appended new points₁ from points n → Appended new points₀ from points n
-unbase {new} {points₀} {points₁} {points} {from} {n} x e a = record {
-  size = a .size ∙ ap length e ∙ length-set points₀ from x;
-  count = a .count;
-  written = a .written ∙ ap (λ l. map cornerOf l ++ new) (ap (take from) e ∙ take-set-le from points₀ from x (omega arith));
-}
+pub onto : {new : List Pt} {points₀ points₁ points : List (List ℤ)} {from n : ℕ} → (length points₀ ≡ length points₁) × (firstPoints from points₀ ≡ firstPoints from points₁) → Appended new points₀ from points n → Appended new points₁ from points n
+onto {new} e a = record { size = a .size ∙ e .0; count = a .count; written = a .written ∙ ap (λ l. l ++ new) (e .1) }
+
+-- a store at n leaves the first n
+pub stored : (points : List (List ℤ)) (n : ℕ) (x : List ℤ) {points′ : List (List ℤ)} → points′ ≡ set points n x → (length points′ ≡ length points) × (firstPoints n points′ ≡ firstPoints n points)
+stored points n x e = (ap length e ∙ length-set points n x, ap (firstPoints n) e ∙ ap (map cornerOf) (take-set-le n points n x (omega arith)))
 
 module _ (l : List Pt) (v : Place) (from : ℕ) where
   -- the first point
-  pub walking-start : (p : IntPoint) (points₀ : List (List ℤ)) {points₁ : List (List ℤ)} → misplaced (length l) v ≡ false → (point p ≡ pointOf l v) × OnGrid p → from < length points₀ → points₁ ≡ set points₀ from (pairOf (point p)) → Walking l v v points₁ from points₁ (from + 1)
+  pub walking-start :
+      (p : IntPoint) (points₀ : List (List ℤ)) {points₁ : List (List ℤ)} → misplaced (length l) v ≡ false → (point p ≡ pointOf l v) × OnGrid p → from < length points₀ →
+      points₁ ≡ set points₀ from (pairOf (point p)) → Walking l v v points₁ from points₁ (from + 1)
   unfolding pointsAlong grouped live taken-start
-  walking-start p points₀ {points₁} m q h e = record {
-    taken = taken-start l v m;
-    appended = subst (λ r. Appended (r ∷ []) points₁ from points₁ (from + 1)) (q .0)
-        (rebase (pairOf (point p)) e (subst (λ b. Appended (point p ∷ []) points₀ from b (from + 1)) (sym e) (appended-one points₀ from (point p) h)));
-    ranged = (on-grid-ranged (q .0) (q .1), tt);
-  }
+  walking-start p points₀ {points₁} m q h e =
+      let s = stored points₀ from (pairOf (point p)) e in
+      record {
+        taken = taken-start l v m;
+        appended = subst (λ r. Appended (r ∷ []) points₁ from points₁ (from + 1)) (q .0)
+            (onto (sym (s .0), sym (s .1)) (subst (λ b. Appended (point p ∷ []) points₀ from b (from + 1)) (sym e) (appended-one points₀ from (point p) h)));
+        ranged = (on-grid-ranged (q .0) (q .1), tt);
+      }
 
   module _ {w : Place} {points₀ points : List (List ℤ)} {count : ℕ} (k : Walking l v w points₀ from points count) where
+    -- the next place is one of the contour
+    pub walking-placed : {w′ : Place} (n : ℕ) → n ≡ length l → w′ ≡ advance n w → misplaced (length l) w′ ≡ false
+    walking-placed n e f = ap (misplaced (length l)) (f ∙ ap (λ n. advance n w) e) ∙ advance-placed (length l) w (k .taken .placed)
+
     -- one step more, to the point p
-    pub walking-step : {w′ : Place} (p : IntPoint) {points′ : List (List ℤ)} {count′ : ℕ} → 0 < w .remaining → w′ ≡ advance (length l) w → (point p ≡ pointOf l w′) × OnGrid p → PointAdded (point p) from points count points′ count′ → Walking l v w′ points₀ from points′ count′
+    pub walking-step :
+        {w′ : Place} (p : IntPoint) {points′ : List (List ℤ)} {count′ : ℕ} → 0 < w .remaining → w′ ≡ advance (length l) w → (point p ≡ pointOf l w′) × OnGrid p →
+        PointAdded (point p) from points count points′ count′ → Walking l v w′ points₀ from points′ count′
     unfolding taken-step
     walking-step {w′} p {points′} {count′} h e q a =
-        subst (λ u. Walking l v u points₀ from points′ count′) (sym e) (record { taken = next; appended = subst (λ s. Appended s points₀ from points′ count′) grown (a .added points₀ (so-far l v (k .taken)) (k .appended)); ranged = subst (All Ranged) grown (all-with (point p) Ranged (so-far l v (k .taken)) (k .ranged) (q .1 .x-small, q .1 .y-small)) })
+        let s = so-far l v (k .taken) in
+        subst (λ u. Walking l v u points₀ from points′ count′) (sym e) (record {
+          taken = taken-step l v (k .taken) h;
+          appended = subst (λ s. Appended s points₀ from points′ count′) grown (a .added points₀ s (k .appended));
+          ranged = subst (All Ranged) grown (all-with (point p) Ranged s (k .ranged) (on-grid-ranged refl (q .1)));
+        })
       where
-        next : Taken l v (advance (length l) w)
-        next = taken-step l v (k .taken) h
-
-        grown : withPoint (so-far l v (k .taken)) (point p) ≡ so-far l v next
+        grown : withPoint (so-far l v (k .taken)) (point p) ≡ so-far l v (taken-step l v (k .taken) h)
         grown =
             ap (withPoint (so-far l v (k .taken))) (q .0 ∙ ap (pointOf l) e ∙ point-advance l w ∙ ap (λ c. c +ᵖ edgeOf l w) (sym (k .taken .here)))
             ∙ along-more (pointOf l v) (edgeOf l w) (k .taken .es)
@@ -138,7 +147,3 @@ module _ (l : List Pt) (v : Place) (from : ℕ) where
 
     pub walking-end : w .remaining ≡ 0 → Appended (pointsFrom l v) points₀ from points count
     walking-end z = subst (λ m. Appended (pointsAlong (pointOf l v) (grouped (live m))) points₀ from points count) (taken-all l v (k .taken) z) (k .appended)
-
--- the next place is one of the contour
-pub walking-placed : (l : List Pt) {v w w′ : Place} {points₀ points : List (List ℤ)} {from count n : ℕ} → Walking l v w points₀ from points count → n ≡ length l → w′ ≡ advance n w → 0 < w .remaining → misplaced (length l) w′ ≡ false
-walking-placed l {w = w} k e f h = ap (misplaced (length l)) (f ∙ ap (λ n. advance n w) e) ∙ advance-placed (length l) w (k .taken .placed)

@@ -1,10 +1,7 @@
 // Replays a stored sample of the calls on part tables, from standard input to its end: how many records hold what the calls answer, and how
 // many do not. A record says first how many bytes it has; one that says what cannot be, or that the input ends within, is wrong.
-// Leans on vectors_table, table_words and lines.
+// Leans on vectors_table, records and lines.
 ghost use Prim.Native.Nat.{_+_, _≤_};
-ghost use lib.ListN.{length};
-use table_words::word_at;
-use vectors_table::HEAD;
 use vectors_table::RECORD;
 
 // A proved loop has to end: so many turns, of a record each, that no input has more.
@@ -16,35 +13,12 @@ struct Tally {
     wrong: u64,
 }
 
-// Reads the next record onto the front of buf, as far as there is one, and answers how many bytes it put there.
-fn read_record(buf: &mut [u8]) -> usize
-    requires { ⌜ 672 ≤ length (now buf) ⌝ }
-    ensures { λ r. ⌜ r ≤ 672 ⌝ }
-{
-    let n = io::read_full(0, &mut buf[..HEAD]);
-    if n < HEAD {
-        return n;
-    }
-    let size = word_at(buf, 0) as usize;
-    if size < HEAD {
-        return HEAD;
-    }
-    if size > RECORD {
-        return HEAD;
-    }
-    let more = io::read_full(0, &mut buf[HEAD..size]);
-    if more < size - HEAD {
-        return HEAD + more;
-    }
-    size
-}
-
 // The tally of the next record of standard input, 0 of both at its end.
 fn replay_one() -> Tally
     ensures { λ r. ⌜ r .right + r .wrong ≤ 1 ⌝ }
 {
     let mut buf = [0u8; RECORD];
-    let n = read_record(&mut buf);
+    let n = records::read_record(&mut buf);
     if n == 0 {
         return Tally { right: 0, wrong: 0 };
     }

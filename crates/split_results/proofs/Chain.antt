@@ -1,17 +1,14 @@
 -- Every contour of the pairs of split parts is exact (`every-contour-exact`): the parts meet demand 3's premise, and the buffers hold their pairs. Assumes nothing.
-use mathlib.Core.Path.{_≡_, sym, _∙_, ap, ap₂, subst}
-use mathlib.Core.Bool.{Bool, true, false}
+use mathlib.Core.Path.{sym, _∙_, ap, ap₂, subst}
+use mathlib.Core.Bool.{Bool}
 use mathlib.Core.List.{List, []}
 use mathlib.Core.Logic.{inl}
-use Prim.Native.Nat.{ℕ, _+_, _*_, _<_}
+use Prim.Native.Nat.{_+_, _*_}
 use lib.ListN.{length, getD}
-use Rattle.integers.specs.Lists.{All}
 use Rattle.integers.proofs.Elements.{all-getD}
-use Rattle.plane.specs.Plane.{Pt, _+ᵖ_}
+use Rattle.plane.specs.Plane.{Pt}
 use Rattle.table.proofs.Rules.{parts-table}
-use Rattle.pair.specs.Walk.{begin, pointOf}
 use Rattle.pair.specs.Pair.{pairContour}
-use Rattle.pair.specs.Demand.{second, FarthestReach}
 use Rattle.pair.proofs.Theorem.{demand3, sum-is-de-berg}
 use Rattle.split.specs.Splitting.{splitParts}
 use Rattle.split_pairs.specs.Premise.{PartMeets}

@@ -58,7 +58,7 @@ fn row_at(bytes: &[u8], k: usize) -> [i32; 9]
 }
 
 // The first rows, as many as have room.
-fn take_rows(bytes: &[u8], rows: &mut [[i32; 9]])
+pub fn take_rows(bytes: &[u8], rows: &mut [[i32; 9]])
     requires { ⌜ 32 + 36 * length (now rows) ≤ length (now bytes) ⌝ }
     ensures { λ _. ⌜ now (rows .exit) ≡ rowsIn (now (bytes .entry)) (length (now (rows .entry))) ⌝ }
 {

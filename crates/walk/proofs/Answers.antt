@@ -1,9 +1,9 @@
 -- The calls on walks: each answer's number is its fault number (`begun-number`, `pointed-number`, `stepped-number`, `next-number`), a refusal
 -- hands the walk back as it came (`stepped-back`, `next-back`), and an accepted step leaves a walk whose place is again a corner of its
 -- contour (`step-placed`; `accepted`, `index-inside`, `next-inside`, `advance-placed`), as a walk begun does (`begin-placed`). Assumes nothing.
-use mathlib.Core.Path.{_≡_, refl, sym, _∙_, ap}
+use mathlib.Core.Path.{_≡_, refl, sym, _∙_}
 use mathlib.Core.Bool.{Bool, true, false, cond, true≢false}
-use mathlib.Core.List.{List, [], _∷_}
+use mathlib.Core.List.{List}
 use Prim.Native.Nat.{ℕ, zero, suc, _/_, _%_, _≤_, _<_}
 use native.Mathlib.Omega.{arith}
 use borrow.Author.Tests.{eqb-true, eqb-false, eq-eqb, ltb-false, leb-false, lt-leb, ne-eqb}
@@ -14,8 +14,6 @@ use Rattle.integers.proofs.Faults.{first-none}
 use Rattle.integers.proofs.Order.{by-test}
 use Rattle.integers.proofs.Tests.{either-false}
 use Rattle.plane.specs.Plane.{Pt}
-use Rattle.plane.specs.declared.IntVector.{IntVector}
-use Rattle.plane.specs.declared.IntPoint.{IntPoint}
 use Rattle.table.specs.Table.{pointsOf}
 use Rattle.table.proofs.Corners.{length-points}
 use Rattle.table.proofs.Rules.{was-taken}
@@ -24,13 +22,9 @@ use Rattle.pair.specs.declared.ConvexSum.{ConvexSum}
 use Rattle.pair.specs.Walk.{begin, nextIndex, advance}
 use Rattle.pair.proofs.Places.{Valid, valid-next, valid-begin}
 use Rattle.pair.specs.Pair.{Emitted, corner, end, pairStep}
-use Rattle.walk.specs.declared.Begun.{Begun}
 use Rattle.walk.specs.declared.Begun.the-variants as begun
-use Rattle.walk.specs.declared.Pointed.{Pointed}
 use Rattle.walk.specs.declared.Pointed.the-variants as pointed
-use Rattle.walk.specs.declared.Stepped.{Stepped}
 use Rattle.walk.specs.declared.Stepped.the-variants as stepped
-use Rattle.walk.specs.declared.Next.{Next}
 use Rattle.walk.specs.declared.Next.the-variants as next
 use Rattle.walk.specs.Calls.{lengthBroken, misplaced, finished, offAt, beginFault, begunOf, pointFault, pointedOf, stepFault, steppedOf, pairStepFault, nextOf, pairSteppedOf, begunNumber, pointedNumber, steppedNumber, steppedPlace, nextNumber, nextPlaces}
 
@@ -47,6 +41,11 @@ accepts {f = f} good bad e = rw (eq-eqb f 0 e)
 
 pub refuses : {A : Type 0} {f : ℕ} (good bad : A) → (f ≡ 0 → ⊥) → bad ≡ cond (eqb f 0) good bad
 refuses {f = f} good bad e = rw (ne-eqb f 0 e)
+
+-- which of the two an answer is
+pub by-answer : {A X : Type 0} (f : ℕ) (good bad : A) {x : A} → cond (eqb f 0) good bad ≡ x → (f ≡ 0 → good ≡ x → X) → ((f ≡ 0 → ⊥) → bad ≡ x → X) → X
+by-answer zero good bad e g b = g refl e
+by-answer (suc f) good bad e g b = let n : suc f ≡ 0 → ⊥ = λ z. absurd (omega arith) in b n (refuses good bad n ∙ e)
 
 pub begun-number : (l : List ℤ) (reflected : Bool) → begunNumber (begunOf l reflected) ≡ beginFault l reflected
 unfolding begunOf

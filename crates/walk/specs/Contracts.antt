@@ -14,7 +14,7 @@ use Rattle.table.specs.Table.{pointsOf}
 use Rattle.pair.specs.declared.Place.{Place}
 use Rattle.pair.specs.declared.ConvexSum.{ConvexSum}
 use Rattle.pair.specs.Walk.{begin, pointOf, edgeOf, advance}
-use Rattle.pair.specs.Pair.{stepsLeft, startOf, pairStep}
+use Rattle.pair.specs.Pair.{stepsLeft, startOf, Emitted, corner, end, pairStep}
 use Rattle.pair.specs.Demand.{handed, live}
 use Rattle.walk.specs.declared.Begun.{Begun}
 use Rattle.walk.specs.declared.Pointed.{Pointed}
@@ -24,7 +24,7 @@ use Rattle.walk.specs.declared.Stepped.{Stepped}
 use Rattle.walk.specs.declared.Paired.{Paired}
 use Rattle.walk.specs.declared.Next.{Next}
 use Rattle.walk.specs.declared.Next.the-variants as next
-use Rattle.walk.specs.Calls.{misplaced, beginFault, begunOf, pointFault, pointedOf, stepFault, edgedOf, advancedOf, steppedOf, pairBeginFault, pairedOf, pairStepFault, nextOf, pairSteppedOf, begunNumber, begunPlace, pointedNumber, pointedPoint, edgedNumber, edgedEdge, advancedNumber, advancedPlace, steppedNumber, steppedEdge, steppedPlace, pairedNumber, pairedPlaces, nextNumber, nextCorner, nextPlaces}
+use Rattle.walk.specs.Calls.{misplaced, beginFault, begunOf, pointFault, pointedOf, stepFault, edgedOf, advancedOf, steppedOf, pairBeginFault, pairedOf, pairStepFault, pairSteppedOf, begunNumber, begunPlace, pointedNumber, pointedPoint, edgedNumber, edgedEdge, advancedNumber, advancedPlace, steppedNumber, steppedEdge, steppedPlace, pairedNumber, pairedPlaces, nextNumber, nextCorner, nextPlaces}
 
 -- a value that is given where there is no fault
 abbrev pub ifSound : {A : Type 0} → ℕ → A → List A
@@ -97,12 +97,21 @@ pub record RunOut (l : List Pt) (w t : Place) : Type 0 where
   pub over : t ≡ afterSteps (w .remaining) (length l) w
   pub done : t .remaining ≡ 0
 
+-- the corner emitted, none at the end, and where both walks then stand
+abbrev pub emittedCorner : Emitted → List Pt
+emittedCorner (corner p t) = p ∷ []
+emittedCorner (end t) = []
+
+abbrev pub emittedPlaces : Emitted → ConvexSum
+emittedPlaces (corner p t) = t
+emittedPlaces (end t) = t
+
 -- whatever places are handed in: both walks stay on their contours, fewer steps left at each corner; the end is told where both have run out
 pub record NextBy (l r : List ℤ) (s : ConvexSum) (a : Next) : Type 0 where
   pub answer : a ≡ pairSteppedOf l r s
   pub number : nextNumber a ≡ pairStepFault l r s
-  pub corner : nextCorner a ≡ cond (eqb (pairStepFault l r s) 0) (nextCorner (nextOf (pairStep (pointsOf l) (pointsOf r) s))) []
-  pub places : nextPlaces a ≡ cond (eqb (pairStepFault l r s) 0) (nextPlaces (nextOf (pairStep (pointsOf l) (pointsOf r) s))) s
+  pub corner : nextCorner a ≡ cond (eqb (pairStepFault l r s) 0) (emittedCorner (pairStep (pointsOf l) (pointsOf r) s)) []
+  pub places : nextPlaces a ≡ cond (eqb (pairStepFault l r s) 0) (emittedPlaces (pairStep (pointsOf l) (pointsOf r) s)) s
   pub stays : pairStepFault l r s ≡ 0 → (misplaced (length (pointsOf l)) (nextPlaces a .a) ≡ false) × (misplaced (length (pointsOf r)) (nextPlaces a .b) ≡ false)
   pub fewer : (nextCorner a ≡ [] → ⊥) → stepsLeft (nextPlaces a) < stepsLeft s
   pub ends : (t : ConvexSum) → a ≡ next.End t → RunOut (pointsOf l) (s .a) (t .a) × RunOut (pointsOf r) (s .b) (t .b)

@@ -1,9 +1,9 @@
 -- A walk begun, by its faults: 7, 2, 8, 20 each where those before it do not hold, and its place where none does; what the
--- code's winding tells of these (`leaves-by`, `total-by`, `place-is`). Assumes nothing.
+-- code's winding tells of these (`start-below`, `leaves-by`, `total-by`, `place-is`). Assumes nothing.
 use mathlib.Core.Path.{_≡_, refl, sym, _∙_, ap}
 use mathlib.Core.Bool.{Bool, true, false}
 use mathlib.Core.List.{List, [], _∷_}
-use Prim.Native.Nat.{ℕ}
+use Prim.Native.Nat.{ℕ, _<_}
 use native.Mathlib.Omega.{arith}
 use borrow.Author.Tests.{eq-eqb, ne-eqb}
 use lib.Dec.{eqb}
@@ -16,6 +16,7 @@ use Rattle.plane.specs.Plane.{Pt, eqPt}
 use Rattle.table.specs.Table.{pointsOf, offRange}
 use Rattle.table.proofs.Corners.{length-points}
 use Rattle.pair.specs.Walk.{cornerAt, startAt, endAt, windingTerms, winding, totalLeaves, windingLeaves, placeBy, begin}
+use Rattle.pair.proofs.Start.{start-inside}
 use Rattle.walk.specs.declared.Begun.the-variants.{At, Refused}
 use Rattle.walk.specs.Calls.{lengthBroken, beginFault, begunOf}
 use Rattle.walk.proofs.Answers.{accepts, refuses}
@@ -61,6 +62,9 @@ module _ (l : List ℤ) (reflected : Bool) where
           (first-next 7 (lengthBroken l) _ a ∙ first-next 2 (offRange l) _ b ∙ first-next 8 _ _ k ∙ first-next 20 (eqb (length l) 0) _ (ne-eqb (length l) 0 h) ∙ first-empty)
 
 -- ---- by what the code holds: the start s and the winding seen from it
+
+pub start-below : (reflected : Bool) (l : List Pt) {s : ℕ} → s ≡ startAt reflected l → 0 < length l → s < length l
+start-below reflected l e h = omega (arith, start-inside reflected l h)
 
 module _ (reflected : Bool) (l : List Pt) {s : ℕ} (e : s ≡ startAt reflected l) where
   pub leaves-by : windingOf (pos 0) (windingTerms s l) ≡ Leaves → windingLeaves reflected l ≡ true

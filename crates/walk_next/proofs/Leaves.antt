@@ -1,8 +1,8 @@
 -- What the steps of one edge leave: both walks on their contours (`run-placed`), and both run out where no edge was begun (`run-out`).
 -- Assumes nothing.
 use mathlib.Core.Path.{_≡_, refl, sym, _∙_, ap, subst}
-use mathlib.Core.Bool.{Bool, true, false, cond}
-use mathlib.Core.List.{List, [], _∷_}
+use mathlib.Core.Bool.{true, false, cond}
+use mathlib.Core.List.{List, _∷_}
 use Prim.Native.Nat.{ℕ, zero, suc, _-_, _≤_, _<_}
 use native.Mathlib.Omega.{arith}
 use lib.ListN.{length}
@@ -13,7 +13,7 @@ use Rattle.pair.specs.declared.ConvexSum.{ConvexSum}
 use Rattle.pair.specs.Walk.{edgeOf, advance}
 use Rattle.pair.specs.Pair.{Pick, none, first, second, nextStep, stepFirst, stepSecond, Heading, unset, along, Run, belongs, headed, run, stepsLeft}
 use Rattle.pair.specs.Demand.{handed, live}
-use Rattle.pair.proofs.PairSteps.{Along, run-along}
+use Rattle.pair.proofs.PairSteps.{run-along}
 use Rattle.walk.specs.Calls.{misplaced}
 use Rattle.walk.specs.Contracts.{afterSteps, RunOut}
 use Rattle.walk.proofs.Answers.{advance-placed}

@@ -6,12 +6,10 @@ use mathlib.Core.Bool.{Bool, true, false, cond}
 use mathlib.Core.List.{List, [], _∷_}
 use Prim.Native.Nat.{ℕ, _<_}
 use native.Mathlib.Omega.{arith}
-use borrow.Author.Tests.{eqb-true}
 use lib.Dec.{eqb}
 use lib.ListN.{length}
 use lib.IntN.{ℤ}
 use Rattle.integers.specs.Faults.{firstFault}
-use Rattle.integers.proofs.Order.{by-test}
 use Rattle.integers.proofs.Faults.{first-this, first-next, first-none, first-empty}
 use Rattle.plane.specs.Plane.{Pt}
 use Rattle.plane.specs.declared.IntPoint.{IntPoint}
@@ -23,8 +21,8 @@ use Rattle.pair.proofs.PairSteps.{Ran, ended, went, run-unset}
 use Rattle.walk.specs.declared.Next.{Next}
 use Rattle.walk.specs.declared.Next.the-variants as next
 use Rattle.walk.specs.Calls.{lengthBroken, misplaced, intPoint, pairStepFault, nextOf, pairSteppedOf, nextCorner, nextPlaces}
-use Rattle.walk.specs.Contracts.{RunOut, NextBy}
-use Rattle.walk.proofs.Answers.{accepts, refuses, next-number}
+use Rattle.walk.specs.Contracts.{RunOut, emittedCorner, emittedPlaces, NextBy}
+use Rattle.walk.proofs.Answers.{accepts, refuses, by-answer, next-number}
 use Rattle.walk.proofs.Promises.{choice-value, strays}
 use Rattle.walk_pick.specs.Picking.{Judged}
 use Rattle.walk_merge.specs.declared.Going.{Going}
@@ -149,13 +147,21 @@ module _ (A B : List Pt) (s : ConvexSum) (g : Going) (e : runOf g ≡ run (steps
 
 -- ---- the promises
 
+corner-told : (e : Emitted) → nextCorner (nextOf e) ≡ emittedCorner e
+corner-told (corner p t) = refl
+corner-told (end t) = refl
+
+places-told : (e : Emitted) → nextPlaces (nextOf e) ≡ emittedPlaces e
+places-told (corner p t) = refl
+places-told (end t) = refl
+
 pub next-by : (l r : List ℤ) (s : ConvexSum) → NextBy l r s (pairSteppedOf l r s)
 unfolding pairSteppedOf
 next-by l r s = record {
   answer = refl;
   number = next-number l r s;
-  corner = choice-value nextCorner (pairStepFault l r s) _ _;
-  places = choice-value nextPlaces (pairStepFault l r s) _ _;
+  corner = choice-value nextCorner (pairStepFault l r s) _ _ ∙ ap (λ c. cond (eqb (pairStepFault l r s) 0) c []) (corner-told (pairStep (pointsOf l) (pointsOf r) s));
+  places = choice-value nextPlaces (pairStepFault l r s) _ _ ∙ ap (λ t. cond (eqb (pairStepFault l r s) 0) t s) (places-told (pairStep (pointsOf l) (pointsOf r) s));
   stays = λ h. let p = stays h in (p .left, p .right);
   fewer = fewer;
   ends = ends;
@@ -167,8 +173,7 @@ next-by l r s = record {
 
     -- a fault, or none
     by-fault : {X : Type 0} → (pairStepFault l r s ≡ 0 → X) → (pairSteppedOf l r s ≡ next.Refused (pairStepFault l r s) s → X) → X
-    by-fault f g = by-test (eqb (pairStepFault l r s) 0) (λ e. f (eqb-true (pairStepFault l r s) 0 e))
-        (λ e. g (ap (λ b. cond b (nextOf (pairStep (pointsOf l) (pointsOf r) s)) (next.Refused (pairStepFault l r s) s)) e))
+    by-fault f g = by-answer (pairStepFault l r s) (nextOf (pairStep (pointsOf l) (pointsOf r) s)) (next.Refused (pairStepFault l r s) s) refl (λ z e. f z) (λ n e. g (sym e))
 
     stays : pairStepFault l r s ≡ 0 → Placed (pointsOf l) (pointsOf r) (nextPlaces (pairSteppedOf l r s))
     stays h =

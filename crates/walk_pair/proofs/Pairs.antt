@@ -5,22 +5,20 @@ use mathlib.Core.Bool.{Bool, true, false, cond}
 use mathlib.Core.List.{List, [], _∷_}
 use Prim.Native.Nat.{ℕ}
 use native.Mathlib.Omega.{arith}
-use borrow.Author.Tests.{eqb-true, eqb-false, eq-eqb, ne-eqb}
+use borrow.Author.Tests.{ne-eqb}
 use lib.Dec.{eqb, ltb}
 use lib.ListN.{length}
 use lib.IntN.{ℤ}
 use Rattle.integers.specs.Faults.{firstFault}
 use Rattle.integers.proofs.Faults.{first-this, first-next}
-use Rattle.integers.proofs.Order.{by-test}
 use Rattle.table.specs.Table.{pointsOf, offRange}
 use Rattle.pair.specs.declared.Place.{Place}
-use Rattle.pair.specs.declared.ConvexSum.{ConvexSum}
 use Rattle.pair.specs.Walk.{windingLeaves, begin}
 use Rattle.pair.specs.Pair.{startOf}
 use Rattle.walk.specs.declared.Begun.the-variants as begun
 use Rattle.walk.specs.declared.Paired.the-variants as paired
 use Rattle.walk.specs.Calls.{lengthBroken, beginFault, begunOf, pairBeginFault, pairedOf}
-use Rattle.walk.proofs.Answers.{accepts, refuses}
+use Rattle.walk.proofs.Answers.{accepts, refuses, by-answer}
 use Rattle.walk_pair.specs.Pairing.{firstOf}
 
 -- ---- what a walk begun tells
@@ -28,23 +26,15 @@ use Rattle.walk_pair.specs.Pairing.{firstOf}
 begun-place : (l : List ℤ) (reflected : Bool) (w : Place) → begunOf l reflected ≡ begun.At w → (beginFault l reflected ≡ 0) × (w ≡ begin reflected (pointsOf l))
 unfolding begunOf
 begun-place l reflected w h =
-    by-test (eqb (beginFault l reflected) 0)
-    (λ e. (eqb-true (beginFault l reflected) 0 e, (let q : begun.At (begin reflected (pointsOf l)) ≡ begun.At w = sym (chosen e) ∙ h in cc)))
-    (λ e. absurd (let q : begun.Refused (beginFault l reflected) ≡ begun.At w = sym (chosen e) ∙ h in let k : _≡_ {A = ℕ} 0 1 = cc in omega (arith, k)))
-  where
-    chosen : {t : Bool} → eqb (beginFault l reflected) 0 ≡ t → begunOf l reflected ≡ cond t (begun.At (begin reflected (pointsOf l))) (begun.Refused (beginFault l reflected))
-    chosen e = ap (λ b. cond b (begun.At (begin reflected (pointsOf l))) (begun.Refused (beginFault l reflected))) e
+    by-answer (beginFault l reflected) (begun.At (begin reflected (pointsOf l))) (begun.Refused (beginFault l reflected)) h (λ z q. (z, (cc)))
+    (λ n q. absurd (let k : _≡_ {A = ℕ} 0 1 = cc in omega (arith, k)))
 
 begun-fault : (l : List ℤ) (reflected : Bool) (f : ℕ) → begunOf l reflected ≡ begun.Refused f → (f ≡ beginFault l reflected) × (f ≡ 0 → ⊥)
 unfolding begunOf
 begun-fault l reflected f h =
-    by-test (eqb (beginFault l reflected) 0)
-    (λ e. absurd (let q : begun.At (begin reflected (pointsOf l)) ≡ begun.Refused f = sym (chosen e) ∙ h in let k : _≡_ {A = ℕ} 0 1 = cc in omega (arith, k)))
-    (λ e. let same : f ≡ beginFault l reflected = (let q : begun.Refused (beginFault l reflected) ≡ begun.Refused f = sym (chosen e) ∙ h in cc) in
-    (same, λ z. eqb-false (beginFault l reflected) 0 e (sym same ∙ z)))
-  where
-    chosen : {t : Bool} → eqb (beginFault l reflected) 0 ≡ t → begunOf l reflected ≡ cond t (begun.At (begin reflected (pointsOf l))) (begun.Refused (beginFault l reflected))
-    chosen e = ap (λ b. cond b (begun.At (begin reflected (pointsOf l))) (begun.Refused (beginFault l reflected))) e
+    by-answer (beginFault l reflected) (begun.At (begin reflected (pointsOf l))) (begun.Refused (beginFault l reflected)) h
+    (λ z q. absurd (let k : _≡_ {A = ℕ} 0 1 = cc in omega (arith, k)))
+    (λ n q. let same : f ≡ beginFault l reflected = cc in (same, λ z. n (sym same ∙ z)))
 
 -- ---- the first fault of two walks, past 7 and 2
 

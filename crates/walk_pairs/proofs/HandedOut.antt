@@ -1,19 +1,15 @@
--- The statement of specs/HandedOut.antt (`all-handed-out`). In order: a pair's step, a corner or the end, leaves both walks judged (`Gave`); the
--- calls from any judged walks hand out what the pair emits (`hands-emit`), and no other list (`handed-once`); a pair begun is judged
--- (`begun-judged`) and emits its contour (`begun-contour`). Assumes nothing.
+-- The statement of specs/HandedOut.antt (`all-handed-out`). In order: the calls from any judged walks hand out what the pair emits (`hands-emit`), and no
+-- other list (`handed-once`); a pair begun is judged (`begun-judged`) and emits its contour (`begun-contour`). Assumes nothing.
 use mathlib.Core.Path.{_≡_, refl, sym, _∙_, ap, subst}
-use mathlib.Core.Bool.{Bool, true, false, cond}
+use mathlib.Core.Bool.{Bool, false}
 use mathlib.Core.List.{List, [], _∷_}
 use Prim.Native.Nat.{ℕ, zero, suc, _≤_, _<_}
 use native.Mathlib.Omega.{arith}
-use borrow.Author.Tests.{eqb-true, eqb-false}
-use lib.Dec.{eqb}
+use borrow.Author.Tests.{eqb-false}
 use lib.ListN.{length}
 use lib.IntN.{ℤ}
-use Rattle.integers.proofs.Order.{by-test}
 use Rattle.integers.proofs.Faults.{first-none}
 use Rattle.plane.specs.Plane.{Pt, _+ᵖ_}
-use Rattle.plane.specs.declared.IntPoint.{IntPoint}
 use Rattle.plane.specs.Machine.{point}
 use Rattle.table.specs.Table.{pointsOf}
 use Rattle.pair.specs.declared.ConvexSum.{ConvexSum}
@@ -24,11 +20,11 @@ use Rattle.pair.proofs.PairSteps.{emit-enough}
 use Rattle.pair.proofs.Theorem.{demand3}
 use Rattle.walk.specs.declared.Paired.the-variants as paired
 use Rattle.walk.specs.declared.Next.the-variants as next
-use Rattle.walk.specs.Calls.{misplaced, intPoint, pairBeginFault, pairedOf, pairStepFault, nextOf, pairSteppedOf, nextCorner, nextPlaces}
-use Rattle.walk.proofs.Answers.{some-corner, begin-placed}
+use Rattle.walk.specs.Calls.{intPoint, pairBeginFault, pairedOf, nextOf}
+use Rattle.walk.proofs.Answers.{by-answer, some-corner, begin-placed}
 use Rattle.walk_pick.specs.Picking.{Judged}
-use Rattle.walk_next.proofs.Promises.{fault-none, next-given, next-by}
-use Rattle.walk_pairs.specs.HandedOut.{HandsOut, ends, hands, PairHandedOut, AllHandedOut}
+use Rattle.walk_next.proofs.Judged.{answered, Gave, gave}
+use Rattle.walk_pairs.specs.HandedOut.{HandsOut, ends, hands, AllHandedOut}
 
 module _ (l r : List ℤ) where
   abbrev A : List Pt
@@ -37,46 +33,12 @@ module _ (l r : List ℤ) where
   abbrev B : List Pt
   B = pointsOf r
 
-  -- ---- one step of walks that are judged
-
-  no-fault : (s : ConvexSum) → Judged l r s → pairStepFault l r s ≡ 0
-  no-fault s j = sym (fault-none l r s (j .left-short) (j .right-short) (j .left-placed) (j .right-placed) (j .left-range) (j .right-range))
-
-  answered : (s : ConvexSum) → Judged l r s → pairSteppedOf l r s ≡ nextOf (pairStep A B s)
-  answered s j = sym (next-given l r s refl (no-fault s j) refl)
-
-  -- a corner: both walks are judged where they then stand, with fewer steps left
-  record Gave (s t : ConvexSum) : Type 0 where
-    judged : Judged l r t
-    fewer : stepsLeft t < stepsLeft s
-
-  gave : (s : ConvexSum) → Judged l r s → (p : Pt) (t : ConvexSum) → pairStep A B s ≡ corner p t → Gave s t
-  gave s j p t h =
-      let n = next-by l r s in
-      let e : pairSteppedOf l r s ≡ next.Corner (intPoint p) t = answered s j ∙ ap nextOf h in
-      let at : nextPlaces (pairSteppedOf l r s) ≡ t = ap nextPlaces e in
-      let p' = n .stays (no-fault s j) in
-      record {
-        judged = record {
-          left-short = j .left-short;
-          right-short = j .right-short;
-          left-placed = subst (λ u. misplaced (length A) (u .a) ≡ false) at (p' .0);
-          right-placed = subst (λ u. misplaced (length B) (u .b) ≡ false) at (p' .1);
-          left-range = j .left-range;
-          right-range = j .right-range;
-        };
-        fewer = subst (λ u. stepsLeft u < stepsLeft s) at (n .fewer (λ z. no-corner (sym (ap nextCorner e) ∙ z)));
-      }
-    where
-      no-corner : (p ∷ []) ≡ [] → ⊥
-      no-corner z = let k : _≡_ {A = ℕ} 0 1 = cc in omega (arith, k)
-
   -- ---- all steps
 
   -- the calls from s hand out K, where they do so from each t with fewer steps
-  from-step : (n : ℕ) (s : ConvexSum) → Judged l r s → ((t : ConvexSum) → Gave s t → HandsOut l r t (emit n A B t)) → (e : Emitted) → pairStep A B s ≡ e → HandsOut l r s (elim e [ corner p t ↦ p ∷ emit n A B t | end t ↦ [] ])
-  from-step n s j ih (corner p t) h = hands s t (intPoint p) (emit n A B t) (answered s j ∙ ap nextOf h) (ih t (gave s j p t h))
-  from-step n s j ih (end t) h = ends s t (answered s j ∙ ap nextOf h)
+  from-step : (n : ℕ) (s : ConvexSum) → Judged l r s → ((t : ConvexSum) → Gave l r s t → HandsOut l r t (emit n A B t)) → (e : Emitted) → pairStep A B s ≡ e → HandsOut l r s (elim e [ corner p t ↦ p ∷ emit n A B t | end t ↦ [] ])
+  from-step n s j ih (corner p t) h = hands s t (intPoint p) (emit n A B t) (answered l r s j ∙ ap nextOf h) (ih t (gave l r s j p t h))
+  from-step n s j ih (end t) h = ends s t (answered l r s j ∙ ap nextOf h)
 
   hands-emit : (n : ℕ) (s : ConvexSum) → Judged l r s → stepsLeft s ≤ n → HandsOut l r s (emit (suc n) A B s)
   unfolding emit
@@ -98,23 +60,19 @@ module _ (l r : List ℤ) where
 -- ---- a pair begun
 
 -- what is accepted: both walks at their starts
-begun-at : (reflected : Bool) (l r : List ℤ) (s : ConvexSum) → pairedOf reflected l r ≡ paired.At s → (pairBeginFault reflected l r ≡ 0) × (s ≡ startOf reflected (pointsOf l) (pointsOf r))
+pub begun-at : (reflected : Bool) (l r : List ℤ) (s : ConvexSum) → pairedOf reflected l r ≡ paired.At s → (pairBeginFault reflected l r ≡ 0) × (s ≡ startOf reflected (pointsOf l) (pointsOf r))
 unfolding pairedOf
 begun-at reflected l r s h =
-    by-test (eqb (pairBeginFault reflected l r) 0)
-    (λ e. (eqb-true (pairBeginFault reflected l r) 0 e, (let q : paired.At (startOf reflected (pointsOf l) (pointsOf r)) ≡ paired.At s = sym (chosen e) ∙ h in cc)))
-    (λ e. absurd (let q : paired.Refused (pairBeginFault reflected l r) ≡ paired.At s = sym (chosen e) ∙ h in let k : _≡_ {A = ℕ} 0 1 = cc in omega (arith, k)))
-  where
-    chosen : {t : Bool} → eqb (pairBeginFault reflected l r) 0 ≡ t → pairedOf reflected l r ≡ cond t (paired.At (startOf reflected (pointsOf l) (pointsOf r))) (paired.Refused (pairBeginFault reflected l r))
-    chosen e = ap (λ b. cond b (paired.At (startOf reflected (pointsOf l) (pointsOf r))) (paired.Refused (pairBeginFault reflected l r))) e
+    by-answer (pairBeginFault reflected l r) (paired.At (startOf reflected (pointsOf l) (pointsOf r))) (paired.Refused (pairBeginFault reflected l r)) h (λ z q. (z, (cc)))
+    (λ n q. absurd (let k : _≡_ {A = ℕ} 0 1 = cc in omega (arith, k)))
 
 -- neither contour is empty, and both walks are judged
-record Begun (reflected : Bool) (l r : List ℤ) : Type 0 where
-  left : 0 < length (pointsOf l)
-  right : 0 < length (pointsOf r)
-  judged : Judged l r (startOf reflected (pointsOf l) (pointsOf r))
+pub record Begun (reflected : Bool) (l r : List ℤ) : Type 0 where
+  pub left : 0 < length (pointsOf l)
+  pub right : 0 < length (pointsOf r)
+  pub judged : Judged l r (startOf reflected (pointsOf l) (pointsOf r))
 
-begun-judged : (reflected : Bool) (l r : List ℤ) → pairBeginFault reflected l r ≡ 0 → Begun reflected l r
+pub begun-judged : (reflected : Bool) (l r : List ℤ) → pairBeginFault reflected l r ≡ 0 → Begun reflected l r
 unfolding pairBeginFault
 begun-judged reflected l r h =
     let a = first-none 7 _ _ (omega arith) h in
@@ -140,7 +98,7 @@ begun-judged reflected l r h =
       };
     }
 
-begun-contour : (reflected : Bool) (A B : List Pt) → 0 < length A → 0 < length B → pairContour reflected A B ≡ emit (stepsLeft (startOf reflected A B)) A B (startOf reflected A B)
+pub begun-contour : (reflected : Bool) (A B : List Pt) → 0 < length A → 0 < length B → pairContour reflected A B ≡ emit (stepsLeft (startOf reflected A B)) A B (startOf reflected A B)
 unfolding pairContour
 begun-contour reflected [] B h k = absurd (omega arith)
 begun-contour reflected (p ∷ A) [] h k = absurd (omega arith)

@@ -1,14 +1,14 @@
 -- The winding, term by term: a term by its places (`term-is`), the total so far (`wound-turn`, `wound-leaves`, `wound-ends`), and what the whole
 -- tells: that it leaves, or the winding (`wound-total`, `wound-left`). Assumes nothing.
 use mathlib.Core.Path.{_≡_, refl, sym, _∙_, ap}
-use mathlib.Core.Bool.{Bool, true, false, cond}
+use mathlib.Core.Bool.{true, false, cond}
 use mathlib.Core.List.{List, [], _∷_, map}
 use Prim.Native.Nat.{ℕ, zero, suc, _+_, _-_, _≤_, _<_}
 use native.Mathlib.Numerals.{add-one}
 use native.Mathlib.Omega.{arith}
 use borrow.Author.Tests.{ltb-true, ltb-false, eqb-true, eqb-false, lt-ltb, le-ltb}
 use lib.Dec.{eqb, ltb}
-use lib.ListN.{length, drop, getD, drop-of-length-le, length-map, List·getD-map}
+use lib.ListN.{length, drop, getD, drop-of-length-le, length-map}
 use lib.Seq.{drop-cons}
 use lib.IntN.{ℤ, pos, _+ℤ_}
 use Rattle.integers.specs.Lists.{sumℤ, rotate, neighbours}

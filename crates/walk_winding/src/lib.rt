@@ -55,7 +55,9 @@ fn term_at(contour: &[i32], s: usize, k: usize) -> i64
     let origin = corner_at(contour, s);
     let a = corner_at(contour, round_to(n, s + k));
     let b = corner_at(contour, round_to(n, s + k + 1));
-    plane::cross_product(plane::subtract(a, origin), plane::subtract(b, origin))
+    let from = plane::subtract(a, origin);
+    let to = plane::subtract(b, origin);
+    plane::cross_product(from, to)
 }
 
 // The winding seen from corner s.

@@ -45,7 +45,7 @@ const LIMITS: usize = 9;
 /// room that is enough or not, of good meshes and damaged ones.
 pub fn topic(rng: &mut Rng, count: usize) -> Topic {
     let mut cases = Vec::new();
-    for contour in known() {
+    for contour in contours::worth_splitting() {
         for limit in 3..=contour.len() as u32 {
             cases.extend(SPLITS.map(|how| of_contour(how, limit, &contour)));
         }
@@ -108,9 +108,7 @@ fn of_mesh(how: Split, limit: u32, mesh: &Mesh) -> Case {
 /// The Rust splits contours of meshes alone, so a mesh is made that joins to this
 /// one.
 fn of_contour(how: Split, limit: u32, contour: &[Point]) -> Case {
-    let mut turned = contour.to_vec();
-    turned.rotate_left(1);
-    let mesh = meshes::linked(&meshes::fan(&turned));
+    let mesh = meshes::region(contour);
     assert_eq!(parts(&mesh, Cut::None), Ok(vec![contour.to_vec()]));
     let answer = parts(&mesh, Cut::Past(limit, how)).expect("an accepted mesh");
     let name = strategy(how);
@@ -142,40 +140,6 @@ fn refused(how: Split, limit: u32, mesh: &Mesh, answer: &[Contour], lent: Room) 
             text::mesh(mesh)
         ),
     )
-}
-
-/// Contours that are worth every limit, from each of their corners: a group that
-/// ends early, a centre that is not inside, halves, the most that the centroid
-/// split takes and one more.
-fn known() -> Vec<Contour> {
-    let mut out = Vec::new();
-    for contour in [
-        vec![(0, -1), (1, -1), (2, 1), (0, 1), (-1, 0)],
-        vec![(0, 0), (1, 0), (1, 1), (0, 1)],
-        vec![(0, 0), (4, 0), (4, 4), (0, 4)],
-        vec![(0, 0), (3, 0), (3, 3), (0, 3)],
-        vec![(0, 0), (2, 0), (3, 1), (3, 2), (2, 3), (0, 3)],
-        vec![
-            (-1, -3),
-            (1, -3),
-            (3, -1),
-            (3, 1),
-            (1, 3),
-            (-1, 3),
-            (-3, 1),
-            (-3, -1),
-        ],
-        contours::rounds(coordinates::EDGE, 1),
-        contours::centroid_limit(false),
-        contours::centroid_limit(true),
-    ] {
-        for turn in 0..contour.len() {
-            let mut turned = contour.clone();
-            turned.rotate_left(turn);
-            out.push(turned);
-        }
-    }
-    out
 }
 
 /// A strictly convex contour of any size, from any of its corners.

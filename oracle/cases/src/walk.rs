@@ -1,5 +1,6 @@
-//! The topic of crate `walk`: what a walk begun, its point, a walk stepped and a
-//! pair stepped refuse, beside the judge, and what they answer, beside the Rust.
+//! The topic of crate `walk`: what a walk begun, its point, its edge, its advance, a
+//! walk stepped, a pair begun and a pair stepped refuse, beside the judge, and what
+//! they answer, beside the Rust.
 
 use crate::antt::{self, integers, point};
 use crate::topic::{layers, Case, Topic};
@@ -14,8 +15,10 @@ use judge::Point;
 /// The definitions' names, here and in `DECLARATIONS`.
 const USES: &str = "\
 use Rattle.pair.specs.declared.ConvexSum.{ConvexSum}
-use Rattle.walk.specs.Calls.{beginFault, begunOf, begunNumber, pointFault, pointedOf, pointedNumber}
-use Rattle.walk.specs.Calls.{stepFault, steppedOf, steppedNumber, steppedPlace, pairStepFault, pairSteppedOf, nextNumber, nextPlaces}
+use Rattle.walk.specs.Calls.{beginFault, begunOf, begunNumber, begunPlace, pointFault, pointedOf, pointedNumber, pointedPoint}
+use Rattle.walk.specs.Calls.{stepFault, steppedOf, steppedNumber, steppedEdge, steppedPlace, edgedOf, edgedNumber, edgedEdge}
+use Rattle.walk.specs.Calls.{advancedOf, advancedNumber, advancedPlace, pairBeginFault, pairedOf, pairedNumber, pairedPlaces}
+use Rattle.walk.specs.Calls.{pairStepFault, pairSteppedOf, nextNumber, nextCorner, nextPlaces}
 use Rattle.walk.specs.declared.Begun.{Begun}
 use Rattle.walk.specs.declared.Begun.the-variants as begun
 use Rattle.walk.specs.declared.Pointed.{Pointed}
@@ -35,6 +38,7 @@ data Case : Type 0 where
   begins : List ℤ → Bool → ℕ → Place → Case
   points : List ℤ → Place → ℕ → Pt → Case
   steps : List ℤ → Place → ℕ → Pt → Place → Case
+  pair-begins : Bool → List ℤ → List ℤ → ℕ → Place → Place → Case
   pair-steps : List ℤ → List ℤ → Place → Place → ℕ → Told → Place → Place → Case
 
 abbrev sum : Place → Place → ConvexSum
@@ -65,16 +69,41 @@ isNext (next.End s) f nothing u = both (eqb f 0) (eqSum s u)
 isNext (next.Refused g s) f (corner r) u = false
 isNext (next.Refused g s) f nothing u = both (not (eqb f 0)) (both (eqb g f) (eqSum s u))
 
+-- a value is told where there is no fault
+abbrev onePlace : List Place → ℕ → Place → Bool
+onePlace [] f w = not (eqb f 0)
+onePlace (v ∷ l) f w = both (eqb f 0) (eqPlace v w)
+
+abbrev onePoint : List Pt → ℕ → Pt → Bool
+onePoint [] f r = not (eqb f 0)
+onePoint (q ∷ l) f r = both (eqb f 0) (both (eqInt (q .x) (r .x)) (eqInt (q .y) (r .y)))
+
+abbrev onePair : List ConvexSum → ℕ → Place → Place → Bool
+onePair [] f v w = not (eqb f 0)
+onePair (s ∷ l) f v w = both (eqb f 0) (both (eqPlace (s .a) v) (eqPlace (s .b) w))
+
+abbrev oneCorner : List Pt → Told → Bool
+oneCorner [] nothing = true
+oneCorner [] (corner r) = false
+oneCorner (q ∷ l) nothing = false
+oneCorner (q ∷ l) (corner r) = both (eqInt (q .x) (r .x)) (eqInt (q .y) (r .y))
+
 abbrev numbers : ℕ → ℕ → ℕ → Bool
 numbers f g h = both (eqb f h) (eqb g h)
 
 abbrev holds : Case → Bool
-holds (begins l r f w) = both (numbers (beginFault l r) (begunNumber (begunOf l r)) f) (isBegun (begunOf l r) f w)
-holds (points l w f q) = both (numbers (pointFault l w) (pointedNumber (pointedOf l w)) f) (isPointed (pointedOf l w) f q)
+holds (begins l r f w) =
+    both (numbers (beginFault l r) (begunNumber (begunOf l r)) f) (both (isBegun (begunOf l r) f w) (onePlace (begunPlace (begunOf l r)) f w))
+holds (points l w f q) =
+    both (numbers (pointFault l w) (pointedNumber (pointedOf l w)) f) (both (isPointed (pointedOf l w) f q) (onePoint (pointedPoint (pointedOf l w)) f q))
 holds (steps l w f e v) =
-    both (numbers (stepFault l w) (steppedNumber (steppedOf l w)) f) (both (eqWhole (steppedPlace (steppedOf l w)) v) (isStepped (steppedOf l w) f e v))
+    both (both (numbers (stepFault l w) (steppedNumber (steppedOf l w)) f) (numbers (edgedNumber (edgedOf l w)) (advancedNumber (advancedOf l w)) f))
+    (both (both (onePoint (steppedEdge (steppedOf l w)) f e) (onePoint (edgedEdge (edgedOf l w)) f e))
+    (both (both (eqWhole (steppedPlace (steppedOf l w)) v) (eqWhole (advancedPlace (advancedOf l w)) v)) (isStepped (steppedOf l w) f e v)))
+holds (pair-begins m l r f v w) =
+    both (numbers (pairBeginFault m l r) (pairedNumber (pairedOf m l r)) f) (onePair (pairedPlaces (pairedOf m l r)) f v w)
 holds (pair-steps l r v w f c v2 w2) =
-    both (numbers (pairStepFault l r (sum v w)) (nextNumber (pairSteppedOf l r (sum v w))) f)
+    both (both (numbers (pairStepFault l r (sum v w)) (nextNumber (pairSteppedOf l r (sum v w))) f) (oneCorner (nextCorner (pairSteppedOf l r (sum v w))) c))
     (both (eqSum (nextPlaces (pairSteppedOf l r (sum v w))) (sum v2 w2)) (isNext (pairSteppedOf l r (sum v w)) f c (sum v2 w2)))
 ";
 
@@ -111,6 +140,7 @@ pub fn topic(rng: &mut Rng, count: usize) -> Topic {
         cases.push(points(&flat, given));
         cases.push(steps(&flat, given));
         let (a, b) = (numbers(rng), numbers(rng));
+        cases.push(pair_begins(&a, &b, rng.once_in(2)));
         cases.push(pair(rng, &a, &b));
         let (a, b) = (good(rng), good(rng));
         cases.push(pair(rng, &a, &b));
@@ -143,6 +173,37 @@ fn begins(flat: &[i32], reflected: bool) -> Case {
         format!(
             "begunOf {} {reflected} is {fault} {answer:?}",
             text::numbers(flat)
+        ),
+    )
+}
+
+fn pair_begins(a: &[i32], b: &[i32], reflected: bool) -> Case {
+    let fault = walk::pair_begun(a, b, reflected);
+    let place = |flat: &[i32], reflected| match fault {
+        0 => {
+            let at = reach::begin(&corners(flat), reflected).map(judged);
+            at.map_or_else(nowhere, |at| Given {
+                at,
+                ends: at.segment.unwrap_or((0, 0)),
+            })
+        }
+        _ => nowhere(),
+    };
+    let (first, second) = (place(a, false), place(b, reflected));
+    Case::new(
+        format!(
+            "pair-begins {reflected} {} {} {fault} {} {}",
+            integers(a),
+            integers(b),
+            term(first),
+            term(second)
+        ),
+        format!(
+            "pairedOf {reflected} {} {} is {fault} {:?} {:?}",
+            text::numbers(a),
+            text::numbers(b),
+            first.at,
+            second.at
         ),
     )
 }

@@ -15,6 +15,7 @@ use judge::room::Size;
 use judge::round::{once_round, strictly_convex};
 use judge::table::{self, Table};
 use judge::{walk, Contour};
+use std::cmp::Ordering;
 
 fn area(parts: &[Contour]) -> i128 {
     parts.iter().map(area_two).sum()
@@ -92,10 +93,10 @@ fn the_largest_contour() {
 #[test]
 fn the_centroid_split_up_to_its_largest_area() {
     let mut rng = Rng::new(77);
-    for one_more in [false, true] {
-        let mesh = meshes::centroid_limit(&mut rng, one_more);
+    for than in [Ordering::Less, Ordering::Equal, Ordering::Greater] {
+        let mesh = meshes::centroid_limit(&mut rng, than);
         let (fan, centroid) = (Cut::Past(3, Fan), Cut::Past(3, Centroid));
-        assert_eq!(parts(&mesh, fan) == parts(&mesh, centroid), one_more);
+        assert_eq!(parts(&mesh, fan) == parts(&mesh, centroid), than.is_gt());
         check_parts(&mesh, 3);
     }
 }

@@ -3,16 +3,21 @@
 use crate::entry::{run, Report};
 use crate::mesh::{mesh_fault_beside, to_convex_polygons_beside, Row};
 use crate::plane::{angle_cmp_beside, area_two_beside, cross_product_beside};
+use crate::split::with_max_vertices_beside;
 use crate::table::{self, ReadAnswer, ShowAnswer, WriteAnswer};
 use crate::table::{read_table_beside, show_part_beside, write_table_beside};
 use crate::told::{Counts, Told};
+use crate::walk::{self, Kept, Lent, Places};
+use crate::walk::{ToldEdge, ToldNext, ToldPair, ToldPlace, ToldPoint, ToldStep};
 use inputs::plane::Four;
 use inputs::table_calls::{Read, Show, Write};
+use inputs::walk_calls::{Begin, Place, Step, Two, TwoAt};
 use judge::shown::Side;
 use judge::Point;
 
 mod archive {
-    use super::{Counts, Row, Told};
+    use super::{Counts, Place, Places, Row, Told};
+    use super::{ToldEdge, ToldNext, ToldPair, ToldPlace, ToldPoint, ToldStep};
     use crate::table::ToldLength;
 
     extern "C" {
@@ -41,6 +46,16 @@ mod archive {
         pub fn beside_to_convex_polygons(
             mesh: *const Row,
             triangles: usize,
+            starts: *mut u32,
+            starts_lent: usize,
+            corners: *mut i32,
+            corners_lent: usize,
+        ) -> Counts;
+        pub fn beside_to_convex_polygons_with_max_vertices(
+            mesh: *const Row,
+            triangles: usize,
+            limit: u32,
+            split: u32,
             starts: *mut u32,
             starts_lent: usize,
             corners: *mut i32,
@@ -76,6 +91,30 @@ mod archive {
             out: *mut i32,
             out_length: usize,
         ) -> ToldLength;
+        pub fn beside_walk_begin(contour: *const i32, length: usize, reflected: bool) -> ToldPlace;
+        pub fn beside_walk_point(contour: *const i32, length: usize, at: Place) -> ToldPoint;
+        pub fn beside_walk_edge(contour: *const i32, length: usize, at: Place) -> ToldEdge;
+        pub fn beside_walk_advance(contour: *const i32, length: usize, at: Place) -> ToldPlace;
+        pub fn beside_walk_next(contour: *const i32, length: usize, at: Place) -> ToldStep;
+        pub fn beside_pair_new(
+            left: *const i32,
+            left_length: usize,
+            right: *const i32,
+            right_length: usize,
+        ) -> ToldPair;
+        pub fn beside_pair_difference(
+            left: *const i32,
+            left_length: usize,
+            right: *const i32,
+            right_length: usize,
+        ) -> ToldPair;
+        pub fn beside_pair_next(
+            left: *const i32,
+            left_length: usize,
+            right: *const i32,
+            right_length: usize,
+            at: Places,
+        ) -> ToldNext;
     }
 }
 
@@ -86,9 +125,26 @@ pub const ENTRY_POINTS: &[fn(u64, u64) -> Report] = &[
     |seed, count| run(&angle_cmp_beside(angle_cmp), seed, count),
     |seed, count| run(&mesh_fault_beside(mesh_fault), seed, count),
     |seed, count| run(&to_convex_polygons_beside(to_convex_polygons), seed, count),
+    |seed, count| {
+        let entry = with_max_vertices_beside(to_convex_polygons_with_max_vertices);
+        run(&entry, seed, count)
+    },
     |seed, count| run(&read_table_beside(read_table), seed, count),
     |seed, count| run(&write_table_beside(write_table), seed, count),
     |seed, count| run(&show_part_beside(show_part), seed, count),
+    |seed, count| run(&walk::begin_beside(walk_begin), seed, count),
+    |seed, count| run(&walk::point_beside(walk_point), seed, count),
+    |seed, count| run(&walk::edge_beside(walk_edge), seed, count),
+    |seed, count| run(&walk::advance_beside(walk_advance), seed, count),
+    |seed, count| run(&walk::next_beside(walk_next), seed, count),
+    |seed, count| run(&walk::pair_new_beside(pair_new), seed, count),
+    |seed, count| run(&walk::pair_difference_beside(pair_difference), seed, count),
+    |seed, count| run(&walk::pair_next_beside(pair_next), seed, count),
+    |seed, count| run(&walk::sum_to_end_beside(pair_new, pair_next), seed, count),
+    |seed, count| {
+        let entry = walk::difference_to_end_beside(pair_difference, pair_next);
+        run(&entry, seed, count)
+    },
 ];
 
 // Safe: the functions take and return plain numbers, or slices as their place and
@@ -116,6 +172,27 @@ pub fn to_convex_polygons(mesh: &[Row], starts: &mut [u32], corners: &mut [i32])
         archive::beside_to_convex_polygons(
             mesh.as_ptr(),
             mesh.len(),
+            starts.as_mut_ptr(),
+            starts.len(),
+            corners.as_mut_ptr(),
+            corners.len(),
+        )
+    }
+}
+
+pub fn to_convex_polygons_with_max_vertices(
+    mesh: &[Row],
+    limit: u32,
+    split: u32,
+    starts: &mut [u32],
+    corners: &mut [i32],
+) -> Counts {
+    unsafe {
+        archive::beside_to_convex_polygons_with_max_vertices(
+            mesh.as_ptr(),
+            mesh.len(),
+            limit,
+            split,
             starts.as_mut_ptr(),
             starts.len(),
             corners.as_mut_ptr(),
@@ -181,4 +258,77 @@ fn show_part(input: &Show) -> ShowAnswer {
         )
     };
     ShowAnswer { told, numbers }
+}
+
+/// A call on one lent contour.
+fn on_contour<T>(flat: &[i32], call: impl Fn(*const i32, usize) -> T) -> Kept<T> {
+    let lent = Lent::new(flat);
+    let told = call(lent.contour().as_ptr(), lent.contour().len());
+    Kept {
+        told,
+        kept: lent.kept(),
+    }
+}
+
+/// A call on two.
+fn on_two<T>(two: &Two, call: impl Fn(*const i32, usize, *const i32, usize) -> T) -> Kept<T> {
+    let (left, right) = (Lent::new(&two.left), Lent::new(&two.right));
+    let (l, r) = (left.contour(), right.contour());
+    let told = call(l.as_ptr(), l.len(), r.as_ptr(), r.len());
+    Kept {
+        told,
+        kept: left.kept() && right.kept(),
+    }
+}
+
+fn walk_begin(input: &Begin) -> Kept<ToldPlace> {
+    on_contour(&input.flat, |at, length| unsafe {
+        archive::beside_walk_begin(at, length, input.reflected)
+    })
+}
+
+fn walk_point(input: &Step) -> Kept<ToldPoint> {
+    on_contour(&input.flat, |at, length| unsafe {
+        archive::beside_walk_point(at, length, input.at)
+    })
+}
+
+fn walk_edge(input: &Step) -> Kept<ToldEdge> {
+    on_contour(&input.flat, |at, length| unsafe {
+        archive::beside_walk_edge(at, length, input.at)
+    })
+}
+
+fn walk_advance(input: &Step) -> Kept<ToldPlace> {
+    on_contour(&input.flat, |at, length| unsafe {
+        archive::beside_walk_advance(at, length, input.at)
+    })
+}
+
+fn walk_next(input: &Step) -> Kept<ToldStep> {
+    on_contour(&input.flat, |at, length| unsafe {
+        archive::beside_walk_next(at, length, input.at)
+    })
+}
+
+fn pair_new(input: &Two) -> Kept<ToldPair> {
+    on_two(input, |l, n, r, m| unsafe {
+        archive::beside_pair_new(l, n, r, m)
+    })
+}
+
+fn pair_difference(input: &Two) -> Kept<ToldPair> {
+    on_two(input, |l, n, r, m| unsafe {
+        archive::beside_pair_difference(l, n, r, m)
+    })
+}
+
+fn pair_next(input: &TwoAt) -> Kept<ToldNext> {
+    let at = Places {
+        a: input.a,
+        b: input.b,
+    };
+    on_two(&input.two, |l, n, r, m| unsafe {
+        archive::beside_pair_next(l, n, r, m, at)
+    })
 }

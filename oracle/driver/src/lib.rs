@@ -2,12 +2,17 @@
 //!
 //! - `entry`: what an entry point is, and how one is run: every input asked of
 //!   both sides, counted, and a difference made as small as possible
-//! - `told`: what the boundary's functions hand back
+//! - `told`: what the boundary's functions hand back; `written`: the memory about
+//!   lent starts and corners after a call
 //! - `plane`: `cross_product`, `area_two`, `angle_cmp`
 //! - `mesh`: `mesh_fault`, `to_convex_polygons`; `mesh_sample`: the stored sample of
 //!   the latter's answers
+//! - `split`: `to_convex_polygons_with_max_vertices`; `split_sample`: the stored sample
+//!   of its answers, as text
 //! - `table`: `read_table`, `write_table`, `show_part`; `table_simpler`: their
 //!   simpler inputs; `table_sample`: the stored sample of their answers
+//! - `walk`: one walk begun, its point, edge and advance, a walk stepped; a pair
+//!   begun, stepped, and stepped to its end
 //! - `sample_bytes`: the bytes of those two samples
 //! - `boundary`: the C functions of the Rattle archive and the list of entry
 //!   points, where it is linked
@@ -20,10 +25,14 @@ pub mod mesh;
 pub mod mesh_sample;
 pub mod plane;
 mod sample_bytes;
+pub mod split;
+pub mod split_sample;
 pub mod table;
 pub mod table_sample;
 mod table_simpler;
 pub mod told;
+pub mod walk;
+pub mod written;
 
 #[cfg(feature = "linked")]
 pub mod boundary;

@@ -3,6 +3,7 @@
 
 use crate::entry::{simpler_numbers, EntryPoint};
 use crate::told::Counts;
+use crate::written::Written;
 use cli::answers::{parts, Cut};
 use inputs::mesh_damage::{damaged, ORDER};
 use inputs::meshes::{self, Mesh};
@@ -10,8 +11,8 @@ use inputs::rng::Rng;
 use inputs::{rooms, text};
 use judge::limits::{NONE, TRIANGLES};
 use judge::mesh::Triangle;
-use judge::room::{self, Room, Size};
-use judge::{Contour, Fault, Point};
+use judge::room::{Room, Size};
+use judge::{Fault, Point};
 use std::collections::BTreeSet;
 use std::iter;
 
@@ -30,7 +31,7 @@ pub fn rows(mesh: &[Triangle]) -> Vec<Row> {
 }
 
 /// One random mesh in so many of those that an entry point of numbers takes.
-const SHARE: u64 = 5;
+pub(crate) const SHARE: u64 = 5;
 
 /// Each is given the Rattle function that it asks.
 pub fn mesh_fault_beside(rattle: fn(&[Row]) -> u32) -> MeshFault {
@@ -47,7 +48,7 @@ pub type WritesParts = fn(&[Row], &mut [u32], &mut [i32]) -> Counts;
 
 /// Every mesh of one triangle on a grid of 2 by 2, and of two that have an area,
 /// with neighbours none, in the mesh or one past it; the limits of number and area.
-fn fixed() -> impl Iterator<Item = Mesh> {
+pub(crate) fn fixed() -> impl Iterator<Item = Mesh> {
     let one = |n| meshes::small_at(1, 2, n);
     let limits = [TRIANGLES - 1, TRIANGLES, TRIANGLES + 1].map(meshes::apart);
     let mut rng = Rng::new(0);
@@ -60,7 +61,7 @@ fn fixed() -> impl Iterator<Item = Mesh> {
 }
 
 /// A good mesh, mostly of few triangles, and the faults to put in: none, one or two.
-fn any(rng: &mut Rng) -> (Mesh, Vec<Fault>) {
+pub(crate) fn any(rng: &mut Rng) -> (Mesh, Vec<Fault>) {
     let good = match rng.below(1_000) {
         0..=9 => meshes::large(rng),
         10..=39 => meshes::good(rng, TRIANGLES),
@@ -132,67 +133,9 @@ pub struct Call {
     pub lent: Room,
 }
 
-/// The counts, and all of the memory about the lent buffers.
-#[derive(Debug, PartialEq)]
-pub struct Written {
-    pub counts: Counts,
-    pub starts: Vec<u32>,
-    pub corners: Vec<i32>,
-}
-
-/// What the memory holds before the call, and how many places are not lent after
-/// those that are.
-const START: u32 = 0xa5a5_a5a5;
-const NUMBER: i32 = 0x5a5a_5a5a;
-const NOT_LENT: usize = 2;
-
-impl Written {
-    fn before(lent: Room) -> Self {
-        Self {
-            counts: Counts {
-                fault: 0,
-                parts: 0,
-                corners: 0,
-            },
-            starts: vec![START; lent.starts + NOT_LENT],
-            corners: vec![NUMBER; lent.numbers + NOT_LENT],
-        }
-    }
-
-    fn refused(lent: Room, fault: Fault) -> Self {
-        let mut written = Self::before(lent);
-        written.counts.fault = fault;
-        written
-    }
-
-    /// The parts on the front of the lent memory, which has room for them.
-    fn of(lent: Room, parts: &[Contour]) -> Self {
-        let mut written = Self::before(lent);
-        let size = Size::of(parts);
-        written.counts.parts = size.parts as u32;
-        written.counts.corners = size.corners as u32;
-        let mut corner = 0;
-        written.starts[0] = 0;
-        for (part, contour) in parts.iter().enumerate() {
-            for &(x, y) in contour {
-                written.corners[2 * corner..2 * corner + 2].copy_from_slice(&[x, y]);
-                corner += 1;
-            }
-            written.starts[part + 1] = corner as u32;
-        }
-        written
-    }
-}
-
 /// What document 01 and the Rust say of a call.
 pub fn written(call: &Call) -> Written {
-    match parts(&call.mesh, Cut::None) {
-        Err(fault) => Written::refused(call.lent, fault),
-        Ok(parts) => match room::fault(Size::of(&parts), call.lent) {
-            0 => Written::of(call.lent, &parts),
-            fault => Written::refused(call.lent, fault),
-        },
-    }
+    Written::after(call.lent, parts(&call.mesh, Cut::None))
 }
 
 /// The size of a mesh's parts; none where it is refused.
@@ -243,11 +186,8 @@ impl EntryPoint for ToConvexPolygons {
 
     fn rattle(&self, call: &Call) -> Written {
         let mut written = Written::before(call.lent);
-        written.counts = (self.rattle)(
-            &rows(&call.mesh),
-            &mut written.starts[..call.lent.starts],
-            &mut written.corners[..call.lent.numbers],
-        );
+        let (starts, corners) = written.lent();
+        written.counts = (self.rattle)(&rows(&call.mesh), starts, corners);
         written
     }
 
@@ -260,18 +200,13 @@ impl EntryPoint for ToConvexPolygons {
     }
 
     fn simpler(&self, call: &Call) -> Vec<Call> {
-        let Room { starts, numbers } = call.lent;
-        let with = |mesh: Mesh, starts: usize, numbers: usize| Call {
-            mesh,
-            lent: Room { starts, numbers },
-        };
+        let lent = call.lent;
         let meshes = simpler(&call.mesh).into_iter();
-        let mut out: Vec<Call> = meshes.map(|mesh| with(mesh, starts, numbers)).collect();
-        let fewer = |places: usize| [places / 2, places.saturating_sub(1)];
-        let fewer_starts = fewer(starts).into_iter().filter(|&n| n < starts);
-        out.extend(fewer_starts.map(|n| with(call.mesh.clone(), n, numbers)));
-        let fewer_numbers = fewer(numbers).into_iter().filter(|&n| n < numbers);
-        out.extend(fewer_numbers.map(|n| with(call.mesh.clone(), starts, n)));
+        let mut out: Vec<Call> = meshes.map(|mesh| Call { mesh, lent }).collect();
+        out.extend(rooms::less(call.lent).into_iter().map(|lent| Call {
+            mesh: call.mesh.clone(),
+            lent,
+        }));
         out
     }
 
@@ -289,7 +224,7 @@ const FEW: usize = 12;
 
 /// The mesh with triangles left out, a link undone, or a coordinate nearer to zero
 /// wherever it stands.
-fn simpler(mesh: &Mesh) -> Vec<Mesh> {
+pub(crate) fn simpler(mesh: &Mesh) -> Vec<Mesh> {
     let mut out = Vec::new();
     let halves = iter::successors(Some(mesh.len()), |n| Some(n / 2));
     for size in halves.take_while(|&n| n > 0) {
@@ -390,9 +325,10 @@ mod tests {
             starts: starts.len(),
             numbers: corners.len(),
         };
-        let written = written(&Call { mesh, lent });
-        starts.copy_from_slice(&written.starts[..lent.starts]);
-        corners.copy_from_slice(&written.corners[..lent.numbers]);
+        let mut written = written(&Call { mesh, lent });
+        let (left_starts, left_corners) = written.lent();
+        starts.copy_from_slice(left_starts);
+        corners.copy_from_slice(left_corners);
         written.counts
     }
 

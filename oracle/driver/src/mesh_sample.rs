@@ -38,13 +38,13 @@ struct Record {
 
 impl Record {
     fn of(call: &Call) -> Self {
-        let Room { starts, numbers } = call.lent;
-        let answer = written(call);
+        let mut answer = written(call);
         let counts = answer.counts;
+        let (starts, numbers) = answer.lent();
         Self {
             rows: rows(&call.mesh),
-            starts: answer.starts[..starts].to_vec(),
-            numbers: answer.corners[..numbers].to_vec(),
+            starts: starts.to_vec(),
+            numbers: numbers.to_vec(),
             told: [counts.fault, counts.parts, counts.corners],
             last: 0,
         }

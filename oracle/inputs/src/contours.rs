@@ -5,6 +5,7 @@ use crate::rng::Rng;
 use judge::listing::area_two;
 use judge::round::angle_order;
 use judge::{Contour, Point};
+use std::cmp::Ordering;
 
 /// Every list of up to `length` points on a grid of `width` by `width`.
 pub fn small(width: i32, length: usize) -> impl Iterator<Item = Contour> {
@@ -21,6 +22,27 @@ pub fn small(width: i32, length: usize) -> impl Iterator<Item = Contour> {
                 .collect()
         })
     })
+}
+
+/// Every strictly convex contour, counter-clockwise from its lowest, then leftmost
+/// corner, on a grid of `width` by `width`.
+pub fn small_convex(width: i32) -> Vec<Contour> {
+    let grid = || (0..width).flat_map(|y| (0..width).map(move |x| (x, y)));
+    let mut found = Vec::new();
+    let mut open: Vec<Contour> = grid().map(|p| vec![p]).collect();
+    while let Some(path) = open.pop() {
+        let (n, first) = (path.len(), path[0]);
+        let left = |a: Point, b: Point, c: Point| area_two(&vec![a, b, c]) > 0;
+        if n > 2 && left(path[n - 1], first, path[1]) {
+            found.push(path.clone());
+        }
+        let higher = grid().filter(|&(x, y)| (y, x) > (first.1, first.0));
+        let next = higher.filter(|&p| {
+            n == 1 || left(path[n - 2], path[n - 1], p) && left(path[n - 1], p, first)
+        });
+        open.extend(next.map(|p| path.iter().copied().chain([p]).collect()));
+    }
+    found
 }
 
 /// Any points within reach.
@@ -250,13 +272,14 @@ pub fn too_far(rng: &mut Rng) -> Contour {
 }
 
 /// Five corners with a doubled area of exactly 3,074,457,345,618,258,602, the most
-/// that the centroid split takes; or one more, where it falls back to the fan.
-pub fn centroid_limit(one_more: bool) -> Contour {
+/// that the centroid split takes; one less; or one more, where it falls back to the
+/// fan.
+pub fn centroid_limit(than: Ordering) -> Contour {
     let (width, height) = (2 * EDGE, 715_827_884);
-    let (p, q) = if one_more {
-        (572_662_305, 5)
-    } else {
-        (1_431_655_763, 2)
+    let (p, q) = match than {
+        Ordering::Less => (114_199, 25_073),
+        Ordering::Equal => (1_431_655_763, 2),
+        Ordering::Greater => (572_662_305, 5),
     };
     let (x, y) = (-EDGE, 0);
     // A rectangle less the corner with legs p and q.
@@ -267,6 +290,45 @@ pub fn centroid_limit(one_more: bool) -> Contour {
         (x + width - p, y + height),
         (x, y + height),
     ]
+}
+
+/// Contours that are worth every limit, from each of their corners: a group that
+/// ends early, a centre that is not inside, halves, the most that the centroid split
+/// takes, one less and one more.
+pub fn worth_splitting() -> Vec<Contour> {
+    [
+        vec![(0, -1), (1, -1), (2, 1), (0, 1), (-1, 0)],
+        vec![(0, 0), (1, 0), (1, 1), (0, 1)],
+        vec![(0, 0), (4, 0), (4, 4), (0, 4)],
+        vec![(0, 0), (3, 0), (3, 3), (0, 3)],
+        vec![(0, 0), (2, 0), (3, 1), (3, 2), (2, 3), (0, 3)],
+        vec![
+            (-1, -3),
+            (1, -3),
+            (3, -1),
+            (3, 1),
+            (1, 3),
+            (-1, 3),
+            (-3, 1),
+            (-3, -1),
+        ],
+        rounds(EDGE, 1),
+        centroid_limit(Ordering::Less),
+        centroid_limit(Ordering::Equal),
+        centroid_limit(Ordering::Greater),
+    ]
+    .iter()
+    .flat_map(|contour| turned(contour))
+    .collect()
+}
+
+/// The contour from each of its corners.
+pub fn turned(contour: &Contour) -> impl Iterator<Item = Contour> + '_ {
+    (0..contour.len()).map(|turn| {
+        let mut turned = contour.clone();
+        turned.rotate_left(turn);
+        turned
+    })
 }
 
 /// One of every kind, by chance, in reach, of at most so many corners.
@@ -366,15 +428,32 @@ mod tests {
 
     #[test]
     fn the_centroids_limit_is_met_from_both_sides() {
-        for (one_more, area) in [
-            (false, 3_074_457_345_618_258_602),
-            (true, 3_074_457_345_618_258_603),
+        for (than, area) in [
+            (Ordering::Less, 3_074_457_345_618_258_601),
+            (Ordering::Equal, 3_074_457_345_618_258_602),
+            (Ordering::Greater, 3_074_457_345_618_258_603),
         ] {
-            let contour = centroid_limit(one_more);
+            let contour = centroid_limit(than);
             assert_eq!(area_two(&contour), area);
             assert!(round::strictly_convex(&contour));
             assert!(contour.iter().all(|&p| point_in_range(p)));
         }
+    }
+
+    #[test]
+    fn small_convex_ones_are_there_once() {
+        let mut all = small_convex(4);
+        assert!(all.iter().all(|c| round::strictly_convex(c)));
+        // every list of up to four corners that is strictly convex, from one of them
+        let few = small(3, 4).filter(|c| c.len() > 2 && round::strictly_convex(c));
+        let lowest = few.filter(|c| c.iter().all(|p| (c[0].1, c[0].0) <= (p.1, p.0)));
+        let of_few = small_convex(3).into_iter().filter(|c| c.len() < 5);
+        assert_eq!(of_few.count(), lowest.count());
+        let longest = all.iter().map(Vec::len).max();
+        assert_eq!((all.len(), longest), (2_719, Some(8)));
+        all.sort();
+        all.dedup();
+        assert_eq!(all.len(), 2_719);
     }
 
     #[test]

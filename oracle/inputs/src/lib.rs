@@ -13,6 +13,7 @@
 //! - `table_calls`: what is asked of the calls on tables, and the memory lent
 //! - `stored`: stored tables and mesh files, good and damaged
 //! - `places`: walks as a caller may make them
+//! - `walk_calls`: what is asked of the calls on walks
 //! - `rooms`: room lent for an answer
 //! - `text`: inputs as text, for people
 
@@ -30,6 +31,7 @@ pub mod stored;
 pub mod text;
 pub mod table_calls;
 pub mod tables;
+pub mod walk_calls;
 
 /// The number that these faults together give, kinds tried in this order.
 #[cfg(test)]

@@ -7,6 +7,7 @@ use crate::rng::Rng;
 use judge::limits::{NONE, TRIANGLES};
 use judge::mesh::{area_two, Triangle};
 use judge::Point;
+use std::cmp::Ordering;
 use std::collections::HashMap;
 
 pub type Mesh = Vec<Triangle>;
@@ -186,6 +187,14 @@ pub fn fan(contour: &[Point]) -> Vec<[Point; 3]> {
         .collect()
 }
 
+/// A mesh that joins to this one contour, which is strictly convex.
+pub fn region(contour: &[Point]) -> Mesh {
+    let mut turned = contour.to_vec();
+    // The last corner of the fan is the last vertex added, where the contour begins.
+    turned.rotate_left(1);
+    linked(&fan(&turned))
+}
+
 /// A fan of so many triangles about a centre, past a full turn and over itself;
 /// its ends joined where `closed` (and the spokes come back to the first).
 pub fn winding_fan(rng: &mut Rng, spokes: usize, closed: bool) -> Mesh {
@@ -300,8 +309,8 @@ pub fn good(rng: &mut Rng, most: usize) -> Mesh {
     let mesh = match rng.below(10) {
         9 => match rng.below(3) {
             0 => area_limit(rng, false),
-            1 => centroid_limit(rng, false),
-            _ => centroid_limit(rng, true),
+            1 => centroid_limit(rng, Ordering::Equal),
+            _ => centroid_limit(rng, Ordering::Greater),
         },
         0 => {
             let reach = rng.pick(&[5, 100, 1 << 20, EDGE]);
@@ -382,9 +391,9 @@ pub fn area_limit(rng: &mut Rng, one_more: bool) -> Mesh {
     renumbered(rng, &linked(&triangles))
 }
 
-/// One region at the limit of the centroid split, or one past it.
-pub fn centroid_limit(rng: &mut Rng, one_more: bool) -> Mesh {
-    let mut contour = contours::centroid_limit(one_more);
+/// One region at the limit of the centroid split, one below or one past it.
+pub fn centroid_limit(rng: &mut Rng, than: Ordering) -> Mesh {
+    let mut contour = contours::centroid_limit(than);
     let turn = rng.below(contour.len());
     contour.rotate_left(turn);
     let triangles = polygon(rng, &contour);

@@ -27,6 +27,17 @@ pub fn about(rng: &mut Rng, size: Size) -> Room {
     }
 }
 
+/// Less room: half or one place less of either buffer.
+pub fn less(room: Room) -> Vec<Room> {
+    let fewer = |places: usize| {
+        let some = [places / 2, places.saturating_sub(1)].into_iter();
+        some.filter(move |&n| n < places)
+    };
+    let starts = fewer(room.starts).map(|starts| Room { starts, ..room });
+    let numbers = fewer(room.numbers).map(|numbers| Room { numbers, ..room });
+    starts.chain(numbers).collect()
+}
+
 #[cfg(test)]
 mod tests {
     use super::*;

@@ -13,6 +13,18 @@ pub enum Split {
     Centroid,
 }
 
+impl Split {
+    /// The split of a number, 0 ear, 1 fan, 2 centroid.
+    pub fn numbered(number: u32) -> Option<Self> {
+        match number {
+            0 => Some(Self::Ear),
+            1 => Some(Self::Fan),
+            2 => Some(Self::Centroid),
+            _ => None,
+        }
+    }
+}
+
 #[derive(Debug, Clone, PartialEq, Eq)]
 pub struct MeshFile {
     pub limit: u32,
@@ -37,12 +49,7 @@ pub fn decode(bytes: &[u8]) -> Result<MeshFile, Fault> {
         return Err(1);
     }
     let right = HEADER + RECORD * count as usize;
-    let split = match split {
-        0 => Split::Ear,
-        1 => Split::Fan,
-        2 => Split::Centroid,
-        _ => return Err(13),
-    };
+    let split = Split::numbered(split).ok_or(13u32)?;
     if offset as usize != HEADER || total as usize != right || bytes.len() != right {
         return Err(13);
     }

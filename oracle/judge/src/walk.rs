@@ -1,6 +1,6 @@
-//! One walk and a pair's step. Begun: 7, 2, 8, 20. Stepped: 7, 23, 2 at its
-//! place or the next. Its point: 7, 23, 2 at its place. A pair's step: 7, 23, 2
-//! over both.
+//! One walk and a pair's step. Begun: 7, 2, 8, 20, a pair over both. Stepped: 7, 23,
+//! 2 at its place or the next. Its point: 7, 23, 2 at its place. A pair's step: 7,
+//! 23, 2 over both.
 
 use crate::limits::{in_range, point_in_range, CONTOUR};
 use crate::{first, Fault, Point};
@@ -23,6 +23,19 @@ pub fn begun(flat: &[i32], reflected: bool) -> Fault {
         (2, &|| !flat.iter().all(|&v| in_range(v))),
         (8, &|| winding_leaves_64_bits(&corners(flat), reflected)),
         (20, &|| flat.is_empty()),
+    ])
+}
+
+/// Both walks of a pair begun, the second reflected or not.
+pub fn pair_begun(a: &[i32], b: &[i32], reflected: bool) -> Fault {
+    first(&[
+        (7, &|| breaks_length(a) || breaks_length(b)),
+        (2, &|| !a.iter().chain(b).all(|&v| in_range(v))),
+        (8, &|| {
+            winding_leaves_64_bits(&corners(a), false)
+                || winding_leaves_64_bits(&corners(b), reflected)
+        }),
+        (20, &|| a.is_empty() || b.is_empty()),
     ])
 }
 
@@ -179,6 +192,12 @@ mod tests {
         assert_eq!(begun(&[0; 2052], false), 0);
         assert_eq!(begun(&[0, 1 << 30], true), 2);
         assert_eq!(begun(&[], false), 20);
+        assert_eq!(pair_begun(&flat, &flat, true), 0);
+        assert_eq!(pair_begun(&[1 << 30, 0], &flat[..5], false), 7);
+        assert_eq!(pair_begun(&[], &[1 << 30, 0], false), 2);
+        let four: Vec<i32> = four_rounds().iter().flat_map(|p| [p.0, p.1]).collect();
+        assert_eq!(pair_begun(&[], &four, false), 8);
+        assert_eq!(pair_begun(&flat, &[], false), 20);
         assert_eq!(stepped(&flat, at), 0);
         assert_eq!(stepped(&flat, Place { remaining: 0, ..at }), 23);
         assert_eq!(stepped(&flat, Place { index: 3, ..at }), 23);

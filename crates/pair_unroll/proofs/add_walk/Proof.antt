@@ -2,7 +2,6 @@
 use mathlib.Core.Path.{_≡_, sym, _∙_, ap, subst}
 use mathlib.Core.Bool.{false}
 use native.Mathlib.Omega.{arith}
-use lib.ListN.{length, length-set}
 use Rattle.plane.specs.Machine.{point}
 use Rattle.table.specs.Table.{pointsOf}
 use Rattle.pair.specs.Walk.{advance}
@@ -10,7 +9,7 @@ use Rattle.walk.specs.Calls.{misplaced}
 use Rattle.walk.proofs.Answers.{few-corners, index-inside}
 use Rattle.walk_read.proofs.Grid.{off-nowhere}
 use Rattle.convex_ring.specs.Buffers.{pairOf}
-use Rattle.pair_unroll.proofs.Walked.{fewer-steps, walking-placed, Walking, walking-start, walking-step, walking-adding, walking-end, unbase}
+use Rattle.pair_unroll.proofs.Walked.{fewer-steps, walking-placed, Walking, walking-start, walking-step, walking-adding, walking-end, onto, stored}
 use Rattle.pair_unroll.proofs.add_walk.Statement.{statement}
 use Rattle.pair_unroll.proofs.add_walk.Tie as tie
 
@@ -45,37 +44,39 @@ advance-of-requires c κs =
     let s = c .before .before .before .before .before .before .before .before in
     let l = s .args .contour .now in
     let n = c .before .before .before .before .before .before .before .corner-count .ensures in
-    (omega (arith, n, few-corners l (s .pre .short)), subst (λ k. misplaced k (c .before .before .loop .w) ≡ false) (sym n) (c .before .before .loop .inv .taken .placed), c .if1 .taken)
+    (omega (arith, n, few-corners l (s .pre .short)), subst (λ k. misplaced k (c .before .before .loop .w) ≡ false) (sym n) (c .before .before .loop .inv .taken .placed), omega (arith, c .if1 .taken))
 
 point-of-requires-2 : tie.Need-point-of-requires-2 Inv-loop μ-loop
 point-of-requires-2 c κs =
     let s = c .before .before .before .before .before .before .before .before .before .before in
     let l = s .args .contour .now in
-    let p = walking-placed (pointsOf l) (c .before .before .before .before .loop .inv) (c .before .before .before .before .before .before .before .before .before .corner-count .ensures) (c .before .advance-of .ensures) (c .before .before .if1 .taken) in
+    let p = walking-placed (pointsOf l) (s .args .start) (s .args .from) (c .before .before .before .before .loop .inv) _ (c .before .before .before .before .before .before .before .before .before .corner-count .ensures) (c .before .advance-of .ensures) in
     (p, off-nowhere l _ (s .pre .ranged) (index-inside _ _ p))
 
 add-point-requires : tie.Need-add-point-requires Inv-loop μ-loop
 add-point-requires c κs =
     let s = c .before .before .before .before .before .before .before .before .before .before .before in
-    (walking-adding (pointsOf (s .args .contour .now)) (s .args .start) (s .args .from) (c .before .before .before .before .before .loop .inv) (omega (arith, s .pre .room, ap length (c .before .before .before .before .before .before .before .put-corner .ensures), length-set (s .args .points .now) (s .args .from) (pairOf (point (c .before .before .before .before .before .before .before .before .point-of .result))))) (c .before .before .before .if1 .taken), c .point-of2 .ensures .1)
+    (walking-adding (pointsOf (s .args .contour .now)) (s .args .start) (s .args .from) (c .before .before .before .before .before .loop .inv) (omega (arith, s .pre .room, stored (s .args .points .now) (s .args .from) (pairOf (point (c .before .before .before .before .before .before .before .before .point-of .result))) (c .before .before .before .before .before .before .before .put-corner .ensures) .0)) (omega (arith, c .before .before .before .if1 .taken)), c .point-of2 .ensures .1)
 
 loop-less : tie.Need-loop-less Inv-loop μ-loop
-loop-less c = fewer-steps (c .before .before .before .before .before .before .before .before .before .before .before .before .corner-count .result) (c .before .before .before .before .before .before .before .loop .w) (c .before .before .before .before .advance-of .ensures) (c .before .before .before .before .before .if1 .taken)
+loop-less c = fewer-steps (c .before .before .before .before .before .before .before .before .before .before .before .before .corner-count .result) (c .before .before .before .before .before .before .before .loop .w) (c .before .before .before .before .advance-of .ensures) (omega (arith, c .before .before .before .before .before .if1 .taken))
 
 loop-again : tie.Need-loop-again Inv-loop μ-loop
 loop-again c =
     let s = c .before .before .before .before .before .before .before .before .before .before .before .before .before in
     let l = pointsOf (s .args .contour .now) in
-    walking-step l (s .args .start) (s .args .from) (c .before .before .before .before .before .before .before .loop .inv) _ (c .before .before .before .before .before .if1 .taken) (c .before .before .before .before .advance-of .ensures ∙ ap (λ n. advance n (c .before .before .before .before .before .before .before .loop .w)) (c .before .before .before .before .before .before .before .before .before .before .before .before .corner-count .ensures)) (c .before .before .point-of2 .ensures) (c .before .add-point .ensures)
+    walking-step l (s .args .start) (s .args .from) (c .before .before .before .before .before .before .before .loop .inv) _ (omega (arith, c .before .before .before .before .before .if1 .taken)) (c .before .before .before .before .advance-of .ensures ∙ ap (λ n. advance n (c .before .before .before .before .before .before .before .loop .w)) (c .before .before .before .before .before .before .before .before .before .before .before .before .corner-count .ensures)) (c .before .before .point-of2 .ensures) (c .before .add-point .ensures)
 
 same-length : tie.Need-same-length Inv-loop μ-loop
-same-length c = omega (arith, c .before .before .loop .inv .appended .size, ap length (c .before .before .before .before .put-corner .ensures), length-set (c .before .before .before .before .before .before .before .before .args .points .now) (c .before .before .before .before .before .before .before .before .args .from) (pairOf (point (c .before .before .before .before .before .point-of .result))))
+same-length c =
+    let a = c .before .before .before .before .before .before .before .before .args in
+    omega (arith, c .before .before .loop .inv .appended .size, stored (a .points .now) (a .from) (pairOf (point (c .before .before .before .before .before .point-of .result))) (c .before .before .before .before .put-corner .ensures) .0)
 
 returns : tie.Need-returns Inv-loop μ-loop
 returns c =
     let s = c .before .before .before .before .before .before .before .before in
     let a = s .args in
-    unbase (pairOf (point (c .before .before .before .before .before .point-of .result))) (c .before .before .before .before .put-corner .ensures) (walking-end (pointsOf (a .contour .now)) (a .start) (a .from) (c .before .before .loop .inv) (omega (arith, c .if1 .left)))
+    onto (stored (a .points .now) (a .from) (pairOf (point (c .before .before .before .before .before .point-of .result))) (c .before .before .before .before .put-corner .ensures)) (walking-end (pointsOf (a .contour .now)) (a .start) (a .from) (c .before .before .loop .inv) (omega (arith, c .if1 .left)))
 
 pub add-walk-spec : {M : Type 1} → statement M
 add-walk-spec =

@@ -1,7 +1,5 @@
 -- `walk_begin::begin` meets its contract: `begin-7`, `begin-2` of Begins, and what `begin_checked` ensures. Assumes nothing.
-use mathlib.Core.Path.{_≡_, sym, _∙_, subst}
-use Rattle.walk.specs.declared.Begun.{Begun}
-use Rattle.walk.specs.Calls.{begunOf}
+use mathlib.Core.Path.{sym, _∙_, subst}
 use Rattle.walk.specs.Contracts.{BegunBy}
 use Rattle.walk.proofs.Promises.{begun-by}
 use Rattle.walk_begin.proofs.Begins.{begin-7, begin-2}

@@ -1,13 +1,11 @@
 -- `walk_begin::begin_checked` meets its contract: `begin-20`, `begin-8`, `begin-at` of Begins. Assumes nothing.
-use mathlib.Core.Path.{_≡_, sym, _∙_, ap}
-use native.Mathlib.Omega.{arith}
+use mathlib.Core.Path.{sym, _∙_, ap}
 use mir.Syntax.{w64}
 use Rattle.integers.proofs.Bits.{kept}
 use Rattle.table.specs.Table.{pointsOf}
-use Rattle.pair.proofs.Start.{start-inside}
 use Rattle.walk.specs.declared.Begun.the-variants.{At}
 use Rattle.walk.proofs.Answers.{some-corner}
-use Rattle.walk_begin.proofs.Begins.{begin-8, begin-20, begin-at, leaves-by, total-by, place-is}
+use Rattle.walk_begin.proofs.Begins.{begin-8, begin-20, begin-at, start-below, leaves-by, total-by, place-is}
 use borrow.Author.Needs.{needs}
 use Rattle.walk_begin.proofs.begin_checked.Statement.{statement}
 use Rattle.walk_begin.proofs.begin_checked.Tie as tie
@@ -21,7 +19,7 @@ start-at-requires c κs = search needs
 winding-requires : tie.Need-winding-requires
 winding-requires c κs =
     let l = c .before .before .args .contour .now in
-    (c .before .before .pre .1, omega (arith, c .start-at .ensures, start-inside (c .before .before .args .reflected) (pointsOf l) (some-corner l (c .before .before .pre .0) (c .before .if1 .left))))
+    (c .before .before .pre .1, start-below _ (pointsOf l) (c .start-at .ensures) (some-corner l (c .before .before .pre .0) (c .before .if1 .left)))
 
 enum-known-sum : tie.Need-enum-known-sum
 enum-known-sum c = search needs
@@ -38,7 +36,7 @@ returns-2 c =
 place-by-requires : tie.Need-place-by-requires
 place-by-requires c κs =
     let l = c .before .before .before .before .before .before .args .contour .now in
-    (c .before .before .before .before .before .before .pre .0, omega (arith, c .before .before .before .before .start-at .ensures, start-inside (c .before .before .before .before .before .before .args .reflected) (pointsOf l) (some-corner l (c .before .before .before .before .before .before .pre .0) (c .before .before .before .before .before .if1 .left))))
+    (c .before .before .before .before .before .before .pre .0, start-below _ (pointsOf l) (c .before .before .before .before .start-at .ensures) (some-corner l (c .before .before .before .before .before .before .pre .0) (c .before .before .before .before .before .if1 .left)))
 
 returns-3 : tie.Need-returns-3
 returns-3 c =

@@ -1,8 +1,8 @@
 -- `walk_extremes::greatest_at` meets its contract. The loop's invariant: the search goes on from the best corner so far. Assumes nothing.
 use mathlib.Core.Path.{_≡_, sym, _∙_}
-use Prim.Native.Nat.{_≤_, _<_, _-_}
+use Prim.Native.Nat.{_<_, _-_}
 use native.Mathlib.Omega.{arith}
-use lib.ListN.{length, drop}
+use lib.ListN.{drop}
 use Rattle.table.specs.Table.{pointsOf}
 use Rattle.pair.specs.Walk.{cornerAt, below, greatestFrom, greatestAt}
 use Rattle.walk_extremes.proofs.Searches.{greatest-begins, greatest-turn, greatest-ends, better-inside}

@@ -1,9 +1,6 @@
 -- `walk_extremes::lesser_of` meets its contract. Assumes nothing.
-use mathlib.Core.Path.{_≡_, refl, sym, _∙_}
-use mathlib.Core.Bool.{Bool, true, false, cond}
-use Prim.Native.Nat.{ℕ}
-use Rattle.plane.specs.Machine.{point}
-use Rattle.pair.specs.Walk.{cornerAt, below}
+use mathlib.Core.Path.{refl, sym, _∙_}
+use Rattle.pair.specs.Walk.{below}
 use Rattle.walk_extremes.proofs.Searches.{chosen}
 use borrow.Author.Needs.{needs}
 use Rattle.walk_extremes.proofs.lesser_of.Statement.{statement}

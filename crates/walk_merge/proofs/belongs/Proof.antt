@@ -1,5 +1,5 @@
 -- `walk_merge::belongs` meets its contract: the code's tests are the definition's. Assumes nothing.
-use mathlib.Core.Path.{_≡_, sym, _∙_, ap}
+use mathlib.Core.Path.{sym, _∙_, ap}
 use borrow.Author.Tests.{not-true, not-false}
 use Rattle.plane.specs.Plane.{isEqual}
 use Rattle.plane.specs.Machine.{vector}

@@ -1,5 +1,5 @@
 -- `walk_merge::run` meets its contract. The loop's invariant: it will stop where the steps from s do. Assumes nothing.
-use mathlib.Core.Path.{_≡_, refl, sym, _∙_, ap}
+use mathlib.Core.Path.{_≡_, refl, sym, _∙_}
 use Rattle.table.specs.Table.{pointsOf}
 use Rattle.walk_merge.specs.Merging.{Ready, finalOf, stepsToCome}
 use Rattle.walk_merge.proofs.Runs.{ready-first, final-first, final-last}

@@ -1,7 +1,6 @@
 -- `walk_move::advance_of` meets its contract, field by field. Assumes nothing.
 use mathlib.Core.Path.{_≡_, ap}
 use Prim.Native.Nat.{ℕ, _-_}
-use native.Mathlib.Omega.{arith}
 use Rattle.pair.specs.declared.Place.{Place}
 use Rattle.pair.specs.Walk.{nextIndex, advance}
 use borrow.Author.Needs.{needs}

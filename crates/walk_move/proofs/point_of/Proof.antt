@@ -1,8 +1,7 @@
 -- `walk_move::point_of` meets its contract: the corner, turned where the walk is reflected. Assumes nothing.
-use mathlib.Core.Path.{_≡_, sym, _∙_, ap}
-use mathlib.Core.Bool.{Bool, true, false}
+use mathlib.Core.Path.{_≡_, _∙_, ap}
+use mathlib.Core.Bool.{true, false}
 use mathlib.Core.List.{List}
-use native.Mathlib.Omega.{arith}
 use Rattle.plane.specs.Plane.{Pt, negᵖ}
 use Rattle.table.specs.Table.{pointsOf}
 use Rattle.pair.specs.declared.Place.{Place}

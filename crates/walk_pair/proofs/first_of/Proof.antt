@@ -1,6 +1,5 @@
 -- `walk_pair::first_of` meets its contract. Assumes nothing.
 use borrow.Author.Tests.{lt-ltb, le-ltb}
-use Rattle.walk_pair.specs.Pairing.{firstOf}
 use Rattle.walk_pair.proofs.first_of.Statement.{statement}
 use Rattle.walk_pair.proofs.first_of.Tie as tie
 

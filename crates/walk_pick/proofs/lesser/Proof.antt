@@ -1,5 +1,5 @@
 -- `walk_pick::lesser` meets its contract: the code's tests are the definition's. Assumes nothing.
-use mathlib.Core.Path.{_≡_, sym, _∙_, ap}
+use mathlib.Core.Path.{sym, _∙_, ap}
 use Rattle.plane.specs.Plane.{isGreater}
 use Rattle.walk_pick.proofs.Picks.{zero-first, zero-second, not-after, after}
 use borrow.Author.Needs.{needs}

@@ -1,5 +1,5 @@
 -- `walk_pick::next_step` meets its contract: by the steps left of each walk. Assumes nothing.
-use mathlib.Core.Path.{_≡_, sym, _∙_}
+use mathlib.Core.Path.{_∙_}
 use Rattle.pair.specs.Pair.{lesser}
 use Rattle.walk_pick.proofs.Picks.{edge-ready, neither, only-second, only-first, both}
 use Rattle.walk_pick.proofs.next_step.Statement.{statement}

@@ -2,7 +2,6 @@
 use mathlib.Core.Path.{sym, _∙_}
 use native.Mathlib.Omega.{arith}
 use lib.IntN.{pos}
-use lib.ListN.{getD}
 use mir.Syntax.{w32}
 use Rattle.integers.proofs.Bits.{got}
 use Rattle.plane.specs.Plane.{O}

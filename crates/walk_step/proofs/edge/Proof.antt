@@ -1,5 +1,5 @@
 -- `walk_step::edge` meets its contract: refused, or the edge. Assumes nothing.
-use mathlib.Core.Path.{_≡_, sym, _∙_, ap, subst}
+use mathlib.Core.Path.{sym, _∙_, subst}
 use Rattle.walk.specs.Contracts.{EdgedBy}
 use Rattle.walk.proofs.Answers.{accepted}
 use Rattle.walk.proofs.Promises.{edged-by}

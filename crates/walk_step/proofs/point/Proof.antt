@@ -1,5 +1,5 @@
 -- `walk_step::point` meets its contract: refused, or the point. Assumes nothing.
-use mathlib.Core.Path.{_≡_, sym, _∙_, ap, subst}
+use mathlib.Core.Path.{sym, subst}
 use Rattle.walk.specs.Contracts.{PointedBy}
 use Rattle.walk.proofs.Promises.{pointed-by}
 use Rattle.walk_step.proofs.Answers.{point-refused, point-given, point-sound}

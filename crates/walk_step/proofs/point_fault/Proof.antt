@@ -1,7 +1,5 @@
 -- `walk_step::point_fault` meets its contract: each kind is told where those before it do not hold. Assumes nothing.
-use mathlib.Core.Path.{_≡_, sym, _∙_, ap}
-use lib.ListN.{length}
-use Rattle.table.specs.Table.{pointsOf}
+use mathlib.Core.Path.{sym, _∙_, ap}
 use Rattle.walk.specs.Calls.{misplaced}
 use Rattle.walk.proofs.Answers.{index-inside}
 use Rattle.walk_step.proofs.Faults.{point-7, point-23, point-2, point-0}

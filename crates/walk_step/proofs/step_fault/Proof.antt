@@ -1,5 +1,5 @@
 -- `walk_step::step_fault` meets its contract: each kind is told where those before it do not hold. Assumes nothing.
-use mathlib.Core.Path.{_≡_, sym, _∙_, ap}
+use mathlib.Core.Path.{sym, _∙_, ap}
 use native.Mathlib.Omega.{arith}
 use lib.ListN.{length}
 use Rattle.table.specs.Table.{pointsOf}

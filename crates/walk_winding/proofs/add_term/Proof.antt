@@ -1,8 +1,8 @@
 -- `walk_winding::add_term` meets its contract: t > 2^63 - 1 - k is t + k > 2^63 - 1, and t < -2^63 - k is t + k < -2^63. Assumes nothing.
-use mathlib.Core.Path.{_≡_, refl, sym, _∙_, ap}
-use mathlib.Core.Bool.{Bool, true, false, cond}
+use mathlib.Core.Path.{_≡_, sym, _∙_, ap}
+use mathlib.Core.Bool.{Bool, true, false}
 use lib.IntN.{ℤ, pos, negsuc, _+ℤ_, _-ℤ_}
-use lib.Signed.{_≤ℤ_, _<ℤ_, leZ, ltZ}
+use lib.Signed.{_≤ℤ_, _<ℤ_, ltZ}
 use mir.Syntax.{w64}
 use mir.Val.{SFits, toZ, ofZ}
 use Rattle.integers.proofs.Order.{zarith, add-parts, sub-parts}
@@ -10,7 +10,6 @@ use Rattle.integers.proofs.Tests.{zneeds, <-ltZ, ≤-ltZ, ≤-leZ, <-leZ}
 use Rattle.integers.proofs.Sizes.{abs-parts, mag-parts}
 use Rattle.integers.proofs.Bits.{kept}
 use Rattle.plane.specs.Machine.{CrossSize}
-use Rattle.pair.specs.Walk.{inWord}
 use Rattle.walk_winding.specs.declared.Wound.the-variants.{Total, Leaves}
 use Rattle.walk_winding.specs.Winding.{addedOf}
 use Rattle.walk_winding.proofs.add_term.Statement.{statement}

@@ -1,5 +1,5 @@
 -- `walk_winding::term_at` meets its contract: the two corners by their places. Assumes nothing.
-use mathlib.Core.Path.{_≡_, sym, _∙_, ap, subst}
+use mathlib.Core.Path.{sym, _∙_, ap, subst}
 use Prim.Native.Nat.{_+_}
 use native.Mathlib.Omega.{arith}
 use mir.Syntax.{w64}

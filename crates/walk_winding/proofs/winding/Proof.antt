@@ -2,15 +2,15 @@
 use mathlib.Core.Path.{_≡_, refl, sym, _∙_, ap, subst}
 use Prim.Native.Nat.{_+_, _≤_, _-_}
 use native.Mathlib.Omega.{arith}
-use lib.ListN.{length, drop}
-use lib.IntN.{pos, _+ℤ_}
+use lib.ListN.{drop}
+use lib.IntN.{pos}
 use mir.Syntax.{w64}
-use mir.Val.{toZ, ofZ}
+use mir.Val.{toZ}
 use Rattle.integers.proofs.Bits.{kept, got}
 use Rattle.plane.specs.Machine.{CrossSize}
 use Rattle.table.specs.Table.{pointsOf}
 use Rattle.pair.specs.Walk.{windingTerms}
-use Rattle.walk_winding.specs.Winding.{addedOf, windingOf}
+use Rattle.walk_winding.specs.Winding.{windingOf}
 use Rattle.walk_winding.proofs.Windings.{length-terms, wound-turn, wound-leaves, wound-ends}
 use borrow.Author.Needs.{needs}
 use Rattle.walk_winding.proofs.winding.Statement.{statement}

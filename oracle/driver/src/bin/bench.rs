@@ -1,12 +1,16 @@
-//! `bench [ROUNDS]`: times the Rust's `to_convex_polygons` and ours on the same
-//! meshes of 1,024 triangles, from this one program, and prints our time over the
-//! Rust's. A line for each kind of mesh: joining alone, and with the checks that
-//! accept the mesh, which the Rust has not; both for one mesh again and again, and
-//! for another mesh each time. docs/BENCHMARKS.md says what they show.
+//! `bench [ROUNDS [joining|splits]]`: times the Rust's `to_convex_polygons` and ours on
+//! the same meshes of 1,024 triangles, and `to_convex_polygons_with_max_vertices` of
+//! both on those, on few triangles and on some, from this one program, and prints our
+//! time over the Rust's. A line for each kind of mesh: the call alone, and with the
+//! checks that accept the mesh, which the Rust has not; both for one mesh again and
+//! again, and for another mesh each time. docs/BENCHMARKS.md says what they show.
 
-use driver::boundary::{mesh_fault, to_convex_polygons};
+use driver::boundary::{mesh_fault, to_convex_polygons, to_convex_polygons_with_max_vertices};
 use driver::mesh::{rows, Row};
-use i_triangle::int::expose::{Prepared, Record};
+use driver::told::Counts;
+use i_triangle::advanced::convex::ConvexSplitStrategy::{self, Centroid, EarClipping, Fan};
+use i_triangle::int::expose::{Parts, Prepared, Record};
+use inputs::contours;
 use inputs::meshes::{self, Mesh};
 use inputs::rng::Rng;
 use judge::limits::TRIANGLES;
@@ -18,23 +22,118 @@ use std::time::{Duration, Instant};
 /// their branches, as it does of one mesh that comes again and again.
 const MESHES: usize = 64;
 
-/// How often each function is called for a kind of mesh.
+/// How often each function is called for a kind of mesh, or a quarter of that for a
+/// kind, a limit and a split.
 const ROUNDS: usize = 2_000;
 
 fn main() {
-    let rounds = env::args().nth(1).and_then(|word| word.parse().ok());
+    let words: Vec<String> = env::args().skip(1).collect();
+    let rounds = words.first().and_then(|word| word.parse().ok());
     let rounds = rounds.unwrap_or(ROUNDS);
-    println!("our time over the Rust's: joining alone, with the checks");
+    let only = words.get(1).map(String::as_str);
+    println!("our time over the Rust's: the call alone, with the checks");
     println!("one mesh     another each time");
-    for (name, kind) in KINDS {
-        let mut rng = Rng::new(1);
-        let all: Vec<Timed> = (0..MESHES).map(|_| Timed::of(&kind(&mut rng))).collect();
-        let (one, another) = (ratios(&all[..1], rounds), ratios(&all, rounds));
-        println!("{one}    {another}    {name}");
+    if only != Some("splits") {
+        for (name, kind) in KINDS {
+            print_ratios(*kind, name, &Joining, rounds);
+        }
+    }
+    if only != Some("joining") {
+        for (name, kind) in SPLIT_KINDS {
+            for (split, by) in [EarClipping, Fan, Centroid].into_iter().zip(0..) {
+                for limit in [3, 8] {
+                    let call = Splitting { limit, split, by };
+                    let name = format!("{name}; limit {limit}, {split:?}");
+                    print_ratios(*kind, &name, &call, rounds / 4);
+                }
+            }
+        }
     }
 }
 
-/// One region, some, and as many as there are triangles.
+fn print_ratios(kind: fn(&mut Rng) -> Mesh, name: &str, call: &impl Call, rounds: usize) {
+    let mut rng = Rng::new(1);
+    let all: Vec<Timed> = (0..MESHES).map(|_| Timed::of(&kind(&mut rng))).collect();
+    let one = ratios(&all[..1], call, rounds);
+    let another = ratios(&all, call, rounds);
+    println!("{one}    {another}    {name}");
+}
+
+/// The two functions that are timed.
+trait Call {
+    fn rust(&self, mesh: &Prepared) -> Parts;
+    fn ours(&self, mesh: &[Row], starts: &mut [u32], corners: &mut [i32]) -> Counts;
+}
+
+struct Joining;
+
+impl Call for Joining {
+    fn rust(&self, mesh: &Prepared) -> Parts {
+        mesh.parts()
+    }
+
+    fn ours(&self, mesh: &[Row], starts: &mut [u32], corners: &mut [i32]) -> Counts {
+        to_convex_polygons(mesh, starts, corners)
+    }
+}
+
+/// Past a limit, by a split and its number.
+struct Splitting {
+    limit: u32,
+    split: ConvexSplitStrategy,
+    by: u32,
+}
+
+impl Call for Splitting {
+    fn rust(&self, mesh: &Prepared) -> Parts {
+        mesh.split_parts(self.limit as usize, self.split)
+    }
+
+    fn ours(&self, mesh: &[Row], starts: &mut [u32], corners: &mut [i32]) -> Counts {
+        to_convex_polygons_with_max_vertices(mesh, self.limit, self.by, starts, corners)
+    }
+}
+
+/// One region, many, and meshes of few triangles.
+const SPLIT_KINDS: &[(&str, fn(&mut Rng) -> Mesh)] = &[
+    ("one region: polygon of 1,026 corners", |rng| {
+        meshes::renumbered(rng, &fan())
+    }),
+    ("128 regions of ten corners", |rng| {
+        let polygon = decagon(rng);
+        meshes::copies(rng, &polygon, TRIANGLES / 8)
+    }),
+    ("512 squares", squares),
+    ("16 triangles: polygon of 18 corners", sixteen),
+    ("2 triangles: a square", two),
+];
+
+fn sixteen(rng: &mut Rng) -> Mesh {
+    let mesh = meshes::linked(&meshes::polygon(rng, &meshes::parabola(18)));
+    meshes::renumbered(rng, &mesh)
+}
+
+fn two(rng: &mut Rng) -> Mesh {
+    let mesh = meshes::linked(&meshes::grid(rng, 1, 1, 4));
+    meshes::renumbered(rng, &mesh)
+}
+
+fn squares(rng: &mut Rng) -> Mesh {
+    let square = meshes::linked(&meshes::grid(rng, 1, 1, 3));
+    meshes::copies(rng, &square, TRIANGLES / 2)
+}
+
+/// A strictly convex contour of ten corners, cut at random: eight triangles.
+fn decagon(rng: &mut Rng) -> Mesh {
+    loop {
+        let contour = contours::convex(rng, 10, 1 << 12);
+        if contour.len() == 10 {
+            return meshes::linked(&meshes::polygon(rng, &contour));
+        }
+    }
+}
+
+/// One region, some, and as many as there are triangles; meshes of few triangles.
 const KINDS: &[(&str, fn(&mut Rng) -> Mesh)] = &[
     ("one region: polygon, a fan", |_| fan()),
     ("one region: polygon, a fan, renumbered", |rng| {
@@ -59,13 +158,12 @@ const KINDS: &[(&str, fn(&mut Rng) -> Mesh)] = &[
         let mesh = strip(rng);
         meshes::renumbered(rng, &mesh)
     }),
-    ("many regions: squares apart", |rng| {
-        let square = meshes::linked(&meshes::grid(rng, 1, 1, 3));
-        meshes::copies(rng, &square, TRIANGLES / 2)
-    }),
+    ("many regions: squares apart", squares),
     ("many regions: triangles apart", |_| {
         meshes::apart(TRIANGLES)
     }),
+    ("16 triangles: polygon of 18 corners", sixteen),
+    ("2 triangles: a square", two),
 ];
 
 fn fan() -> Mesh {
@@ -104,7 +202,7 @@ struct Timed {
 
 impl Timed {
     fn of(mesh: &Mesh) -> Self {
-        assert_eq!((mesh.len(), judge::mesh::fault(mesh)), (TRIANGLES, 0));
+        assert_eq!(judge::mesh::fault(mesh), 0);
         let records: Vec<Record> = mesh.iter().map(|t| (t.points, t.neighbours)).collect();
         Self {
             rust: Prepared::of(&records),
@@ -114,30 +212,34 @@ impl Timed {
 }
 
 /// The Rust, ours, and our checks alone, in turn, each on another of the meshes.
-fn ratios(all: &[Timed], rounds: usize) -> String {
-    let mut starts = vec![0; TRIANGLES + 1];
-    let mut corners = vec![0; 6 * TRIANGLES];
+fn ratios(all: &[Timed], call: &impl Call, rounds: usize) -> String {
+    let mut starts = vec![0; 2 * TRIANGLES + 1];
+    let mut corners = vec![0; 12 * TRIANGLES];
+    // A call on a small mesh is so short that the clock is read but once for some.
+    let times = (TRIANGLES / all[0].ours.len()).min(MESHES);
     let (mut rust, mut whole, mut checks) = (Vec::new(), Vec::new(), Vec::new());
     for round in 0..rounds {
         let at = |shift: usize| black_box(&all[(round + shift) % all.len()]);
-        rust.push(timed(|| at(0).rust.parts()));
-        whole.push(timed(|| {
-            to_convex_polygons(
-                &at(20).ours,
+        rust.push(timed(times, |k| call.rust(&at(k).rust)));
+        whole.push(timed(times, |k| {
+            call.ours(
+                &at(k + 20).ours,
                 black_box(&mut starts),
                 black_box(&mut corners),
             )
         }));
-        checks.push(timed(|| mesh_fault(&at(40).ours)));
+        checks.push(timed(times, |k| mesh_fault(&at(k + 40).ours)));
     }
     let [rust, whole, checks] = [rust, whole, checks].map(median);
     format!("{:4.2} {:4.2}", (whole - checks) / rust, whole / rust)
 }
 
-/// How long a call takes, the freeing of its answer with it.
-fn timed<A>(call: impl FnOnce() -> A) -> Duration {
+/// How long so many calls take, the freeing of their answers with them.
+fn timed<A>(times: usize, mut call: impl FnMut(usize) -> A) -> Duration {
     let begun = Instant::now();
-    drop(black_box(call()));
+    for k in 0..times {
+        drop(black_box(call(k)));
+    }
     begun.elapsed()
 }
 

@@ -1,9 +1,12 @@
 //! `sample plane FILE`, `sample tables FILE`, `sample meshes FILE`: writes the stored
 //! sample of the oracle's answers for the plane, of the judge's for part tables, or
-//! of both for joining (vectors/README.md has the layouts). The same bytes every time.
+//! of both for joining (vectors/README.md has the layouts). `sample splits FILE LINES`:
+//! what is asked of splitting, and the lines that say what both answer. The same bytes
+//! every time.
 
 use driver::mesh_sample;
 use driver::plane::{angle_cmp, area_two, cross_product};
+use driver::split_sample;
 use driver::table_sample;
 use driver::told::Told;
 use inputs::plane::{self, Four};
@@ -30,21 +33,32 @@ fn main() -> ExitCode {
             let (bytes, [right, wrong]) = mesh_sample::sample();
             (bytes, right + wrong, file)
         }
+        ["splits", file, lines] => {
+            let (bytes, text, records) = split_sample::sample();
+            if let Err(code) = write(lines, text.as_bytes()) {
+                return code;
+            }
+            (bytes, records, file)
+        }
         _ => {
-            eprintln!("usage: sample plane FILE, sample tables FILE, sample meshes FILE");
+            eprintln!("usage: sample plane|tables|meshes FILE, sample splits FILE LINES");
             return ExitCode::from(2);
         }
     };
-    match fs::write(file, &bytes) {
+    match write(file, &bytes) {
         Ok(()) => {
             println!("{records} records, {} bytes", bytes.len());
             ExitCode::SUCCESS
         }
-        Err(error) => {
-            eprintln!("sample: {file}: {error}");
-            ExitCode::FAILURE
-        }
+        Err(code) => code,
     }
+}
+
+fn write(file: &str, bytes: &[u8]) -> Result<(), ExitCode> {
+    fs::write(file, bytes).map_err(|error| {
+        eprintln!("sample: {file}: {error}");
+        ExitCode::FAILURE
+    })
 }
 
 const RECORD: usize = 52;

@@ -34,17 +34,24 @@ pub fn parts(mesh: &[Record]) -> Vec<Contour> {
 }
 
 /// A mesh in the Rust's own types, made once, so that a measurement of
-/// `to_convex_polygons` has neither the mesh's making in it nor the answer's
-/// turning into plain lists.
+/// `to_convex_polygons` or `to_convex_polygons_with_max_vertices` has neither the
+/// mesh's making in it nor the answer's turning into plain lists.
 pub struct Prepared(IntDelaunay<i32>);
+
+/// Parts in the Rust's own types.
+pub type Parts = Vec<Vec<IntPoint<i32>>>;
 
 impl Prepared {
     pub fn of(mesh: &[Record]) -> Self {
         Self(delaunay(mesh))
     }
 
-    pub fn parts(&self) -> Vec<Vec<IntPoint<i32>>> {
+    pub fn parts(&self) -> Parts {
         self.0.to_convex_polygons()
+    }
+
+    pub fn split_parts(&self, limit: usize, strategy: ConvexSplitStrategy) -> Parts {
+        self.0.to_convex_polygons_with_max_vertices(limit, strategy)
     }
 }
 

@@ -1,10 +1,10 @@
--- `replay_tables::read_record` meets its contract: a head, and no more after it than the longest record has. Assumes nothing.
+-- `records::read_record` meets its contract: a head, and no more after it than there is room for. Assumes nothing.
 use mathlib.Core.Path.{sym}
 use native.Mathlib.Omega.{arith}
 use borrow.Author.Needs.{needs}
 use lib.Seq.{length-take-le}
-use Rattle.replay_tables.proofs.read_record.Statement.{statement}
-use Rattle.replay_tables.proofs.read_record.Tie as tie
+use Rattle.records.proofs.read_record.Statement.{statement}
+use Rattle.records.proofs.read_record.Tie as tie
 
 slice-relend-prefix-read-full : tie.Need-slice-relend-prefix-read-full
 slice-relend-prefix-read-full c = search needs

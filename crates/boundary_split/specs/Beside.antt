@@ -1,0 +1,22 @@
+-- What splitting answers and leaves where the split is a number: "split: 0 ear, 1 fan, 2 centroid", and a wrong split gives 13, before the mesh's own
+-- order (document 01, "The file and its listing"). Assumes nothing.
+use mathlib.Core.Bool.{cond}
+use mathlib.Core.List.{List, []}
+use Prim.Native.Nat.{ℕ}
+use lib.Dec.{ltb}
+use lib.IntN.{ℤ}
+use Rattle.mesh.specs.Mesh.{Mesh}
+use Rattle.table.specs.declared.Counts.{Counts}
+use Rattle.table.specs.Table.{countsOf}
+use Rattle.split.specs.Splitting.{splitCounts, splitStarts, splitCorners}
+use Rattle.listing.specs.File.{strategyOf}
+
+-- "A refusal returns the number and zero counts, changes no buffer"; s and c are what the lent starts and corners held
+unfoldable pub besideCounts : ℕ → ℕ → Mesh → List ℕ → List ℤ → Counts
+besideCounts split m mesh s c = cond (ltb 2 split) (countsOf 13 []) (splitCounts (strategyOf split) m mesh s c)
+
+unfoldable pub besideStarts : ℕ → ℕ → Mesh → List ℕ → List ℤ → List ℕ
+besideStarts split m mesh s c = cond (ltb 2 split) s (splitStarts (strategyOf split) m mesh s c)
+
+unfoldable pub besideCorners : ℕ → ℕ → Mesh → List ℕ → List ℤ → List ℤ
+besideCorners split m mesh s c = cond (ltb 2 split) c (splitCorners (strategyOf split) m mesh s c)

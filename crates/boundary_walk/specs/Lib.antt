@@ -1,0 +1,2 @@
+-- What the runs beside the Rust are told.
+pub mod Beside
