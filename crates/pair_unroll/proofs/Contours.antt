@@ -1,6 +1,6 @@
 -- A contour unrolled. In order: what is answered (`told-to`, `told-leaves`); an empty contour (`none-unrolled`); where the walk begins, by what `begin_checked` answers
--- (`begun-at`, `begun-refused`, `walkable`); the walk's points are the contour unrolled (`unrolled-walk`, `walk-unrolled`), at most one more than its corners
--- (`length-unrolled`), and all in range (`unrolled-ranged`). Assumes nothing.
+-- (`begun-at`, `begun-refused`, `walkable`); the walk's points are the contour unrolled (`unrolled-walk`, `walk-unrolled`), all
+-- in range (`unrolled-ranged`). Assumes nothing.
 use mathlib.Core.Path.{_≡_, refl, sym, _∙_, ap, subst}
 use mathlib.Core.Bool.{Bool, true, false}
 use mathlib.Core.List.{List, [], _∷_}
@@ -19,7 +19,6 @@ use Rattle.pair.specs.declared.Place.{Place}
 use Rattle.pair.specs.Walk.{cornerAt, startAt, greatestAt, leastAt, windingTerms, totalLeaves, windingLeaves, begin, turned, pointOf, advance}
 use Rattle.pair.specs.Demand.{handed}
 use Rattle.pair.proofs.Places.{point-advance, begin-remaining}
-use Rattle.pair.proofs.FewCorners.{length-handed}
 use Rattle.pair_points.specs.Points.{pointsAlong, unrolled}
 use Rattle.walk.specs.declared.Begun.the-variants.{At, Refused}
 use Rattle.walk.specs.Calls.{lengthBroken, misplaced, begunOf}
@@ -30,7 +29,7 @@ use Rattle.convex_contour.specs.Contour.{Appended}
 use Rattle.convex_contour.proofs.Contours.{appended-none}
 use Rattle.pair_unroll.specs.declared.Unrolled.the-variants.{To, Leaves}
 use Rattle.pair_unroll.specs.Unroll.{Ranged, pointsFrom, Walkable, Unrollable, UnrolledTo, UnrolledBy}
-use Rattle.pair_unroll.proofs.Along.{few-points, every-point}
+use Rattle.pair_unroll.proofs.Along.{every-point}
 
 -- ---- what is answered
 
@@ -91,12 +90,6 @@ unrolled-walk reflected (c ∷ l) h = refl
 
 pub walk-unrolled : (reflected : Bool) (l : List Pt) {w : Place} {points points′ : List (List ℤ)} {from n : ℕ} → 0 < length l → w ≡ begin reflected l → Appended (pointsFrom l w) points from points′ n → Appended (unrolled reflected l) points from points′ n
 walk-unrolled reflected l {points = points} {points′ = points′} {from = from} {n = n} h e a = subst (λ m. Appended m points from points′ n) (ap (pointsFrom l) e ∙ unrolled-walk reflected l h) a
-
-pub length-unrolled : (reflected : Bool) (l : List Pt) → length (unrolled reflected l) ≤ length l + 1
-length-unrolled reflected [] = unfold unrolled in omega arith
-length-unrolled reflected (c ∷ l) =
-    let w = begin reflected (c ∷ l) in
-    omega (arith, ap length (unrolled-walk reflected (c ∷ l) (omega arith)), few-points (pointOf (c ∷ l) w) (handed (w .remaining) (c ∷ l) w), length-handed (w .remaining) (c ∷ l) w, begin-remaining reflected (c ∷ l))
 
 -- the walk from its start has what it asks
 pub walkable : (reflected : Bool) (l : List ℤ) {w : Place} {points : List (List ℤ)} {from : ℕ} → (length l ≡ 0 → ⊥) → w ≡ begin reflected (pointsOf l) → Unrollable l points from → Walkable l w points from

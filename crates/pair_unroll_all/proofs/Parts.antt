@@ -23,10 +23,11 @@ use Rattle.walk.specs.Calls.{lengthBroken}
 use Rattle.convex_gather.specs.Gather.{Gathered}
 use Rattle.convex_gather.proofs.Gathering.{part-appended}
 use Rattle.pair_points.specs.Points.{unrolled}
+use Rattle.pair_points.proofs.Merged.{length-unrolled}
 use Rattle.minkowski.specs.Pairs.{someWindingLeaves}
 use Rattle.pair_unroll.specs.declared.Unrolled.{Unrolled}
 use Rattle.pair_unroll.specs.Unroll.{Ranged, Unrollable, UnrolledTo, UnrolledBy}
-use Rattle.pair_unroll.proofs.Contours.{length-unrolled, unrolled-ranged}
+use Rattle.pair_unroll.proofs.Contours.{unrolled-ranged}
 use Rattle.pair_unroll_all.specs.Parts.{unrolledParts, tallyOf, PartAt, AllUnrolled}
 
 -- ---- a part's numbers

@@ -23,7 +23,7 @@ loop-holds c =
 visit-requires : tie.Need-visit-requires Inv-loop μ-loop
 visit-requires c κs =
     let v = c .before .before .before .before .before .before .loop .inv in
-    (v .ready, c .before .before .before .before .before .loop-test .taken, v .room)
+    (v .ready, omega (arith, c .before .before .before .before .before .loop-test .taken), v .room)
 
 add-k : tie.Need-add-k Inv-loop μ-loop
 add-k c = omega (arith, c .before .before .before .before .before .before .before .before .before .before .before .before .before .loop-test .taken)
