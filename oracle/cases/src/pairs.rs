@@ -5,8 +5,6 @@
 use crate::antt::{self, bounds, operand};
 use crate::topic::{layers, Case, Topic};
 use cli::answers::pair_contours;
-use inputs::contours;
-use inputs::coordinates::EDGE;
 use inputs::operands::{self, Pair};
 use inputs::pair_damage::{damaged, ORDER};
 use inputs::rng::Rng;
@@ -14,8 +12,6 @@ use inputs::rooms;
 use inputs::text;
 use judge::pairs::{fault, result_bounds, Operand, Operation};
 use judge::room::{self, Room, Size};
-use judge::table::Table;
-use judge::walk::winding_leaves_64_bits;
 
 /// The definitions' names, here and in `DECLARATIONS`.
 const USES: &str = "\
@@ -52,9 +48,9 @@ const WAYS: usize = 30;
 /// Result bounds at the limit and past it; windings that leave 64 bits one way
 /// only; then random pairs, and some of them with each fault and with every two.
 pub fn topic(rng: &mut Rng, count: usize) -> Topic {
-    let mut all = edges();
+    let mut all = operands::edges();
     for _ in 0..count.div_ceil(100) {
-        all.extend(one_way(rng));
+        all.extend(operands::one_way(rng));
     }
     let mut cases: Vec<Case> = all.iter().map(|pair| refused(rng, pair)).collect();
     for _ in 0..count / 3 {
@@ -154,62 +150,4 @@ fn small(rng: &mut Rng) -> Pair {
 /// Whether a damaged operand is short enough to write down.
 fn is_small(operand: &Operand) -> bool {
     operand.table.starts.len() + operand.table.corners.len() < 300
-}
-
-/// A contour whose winding leaves 64 bits from one of the two starts and not from
-/// the other, beside a point: on each side, of a sum and of a difference.
-fn one_way(rng: &mut Rng) -> Vec<Pair> {
-    let contour = loop {
-        let contour = contours::at_64_bits(rng);
-        if winding_leaves_64_bits(&contour, false) != winding_leaves_64_bits(&contour, true) {
-            break contour;
-        }
-    };
-    let far = Operand {
-        bounds: contours::bounds(&contour),
-        table: Table::of(&[contour]),
-    };
-    let near = Operand {
-        bounds: [0; 4],
-        table: Table::of(&[vec![(0, 0)]]),
-    };
-    let mut out = Vec::new();
-    for operation in [Operation::Sum, Operation::Difference] {
-        for (left, right) in [(&far, &near), (&near, &far)] {
-            out.push(Pair {
-                operation,
-                left: left.clone(),
-                right: right.clone(),
-            });
-        }
-    }
-    out
-}
-
-/// A result bound of ±(2^30 − 1), and one more, on each side and axis.
-fn edges() -> Vec<Pair> {
-    let mut out = Vec::new();
-    for operation in [Operation::Sum, Operation::Difference] {
-        for (at, by) in [(0, -1), (1, 1), (2, -1), (3, 1)] {
-            for past in [0, 1] {
-                let one = |bounds: [i32; 4]| Operand {
-                    table: Table::of(&[vec![(0, 0)]]),
-                    bounds,
-                };
-                let mut pair = Pair {
-                    operation,
-                    left: one([0; 4]),
-                    right: one([0; 4]),
-                };
-                pair.left.bounds[at] = by * EDGE;
-                let (other, sign) = match operation {
-                    Operation::Sum => (at, by),
-                    Operation::Difference => (at ^ 1, -by),
-                };
-                pair.right.bounds[other] = sign * past;
-                out.push(pair);
-            }
-        }
-    }
-    out
 }

@@ -2,6 +2,7 @@
 
 use crate::entry::{run, Report};
 use crate::mesh::{mesh_fault_beside, to_convex_polygons_beside, Row};
+use crate::pairs::{difference_parts_beside, sum_parts_beside, Bounds, ToldPairs};
 use crate::plane::{angle_cmp_beside, area_two_beside, cross_product_beside};
 use crate::split::with_max_vertices_beside;
 use crate::table::{self, ReadAnswer, ShowAnswer, WriteAnswer};
@@ -12,11 +13,12 @@ use crate::walk::{ToldEdge, ToldNext, ToldPair, ToldPlace, ToldPoint, ToldStep};
 use inputs::plane::Four;
 use inputs::table_calls::{Read, Show, Write};
 use inputs::walk_calls::{Begin, Place, Step, Two, TwoAt};
+use judge::pairs::Operand;
 use judge::shown::Side;
 use judge::Point;
 
 mod archive {
-    use super::{Counts, Place, Places, Row, Told};
+    use super::{Bounds, Counts, Place, Places, Row, Told, ToldPairs};
     use super::{ToldEdge, ToldNext, ToldPair, ToldPlace, ToldPoint, ToldStep};
     use crate::table::ToldLength;
 
@@ -115,6 +117,38 @@ mod archive {
             right_length: usize,
             at: Places,
         ) -> ToldNext;
+        pub fn beside_sum_parts(
+            left_starts: *const u32,
+            left_starts_length: usize,
+            left_corners: *const i32,
+            left_corners_length: usize,
+            left_bounds: Bounds,
+            right_starts: *const u32,
+            right_starts_length: usize,
+            right_corners: *const i32,
+            right_corners_length: usize,
+            right_bounds: Bounds,
+            starts: *mut u32,
+            starts_lent: usize,
+            corners: *mut i32,
+            corners_lent: usize,
+        ) -> ToldPairs;
+        pub fn beside_difference_parts(
+            left_starts: *const u32,
+            left_starts_length: usize,
+            left_corners: *const i32,
+            left_corners_length: usize,
+            left_bounds: Bounds,
+            right_starts: *const u32,
+            right_starts_length: usize,
+            right_corners: *const i32,
+            right_corners_length: usize,
+            right_bounds: Bounds,
+            starts: *mut u32,
+            starts_lent: usize,
+            corners: *mut i32,
+            corners_lent: usize,
+        ) -> ToldPairs;
     }
 }
 
@@ -145,6 +179,8 @@ pub const ENTRY_POINTS: &[fn(u64, u64) -> Report] = &[
         let entry = walk::difference_to_end_beside(pair_difference, pair_next);
         run(&entry, seed, count)
     },
+    |seed, count| run(&sum_parts_beside(sum_parts), seed, count),
+    |seed, count| run(&difference_parts_beside(difference_parts), seed, count),
 ];
 
 // Safe: the functions take and return plain numbers, or slices as their place and
@@ -262,8 +298,8 @@ fn show_part(input: &Show) -> ShowAnswer {
 
 /// A call on one lent contour.
 fn on_contour<T>(flat: &[i32], call: impl Fn(*const i32, usize) -> T) -> Kept<T> {
-    let lent = Lent::new(flat);
-    let told = call(lent.contour().as_ptr(), lent.contour().len());
+    let lent = Lent::numbers(flat);
+    let told = call(lent.list().as_ptr(), lent.list().len());
     Kept {
         told,
         kept: lent.kept(),
@@ -272,8 +308,8 @@ fn on_contour<T>(flat: &[i32], call: impl Fn(*const i32, usize) -> T) -> Kept<T>
 
 /// A call on two.
 fn on_two<T>(two: &Two, call: impl Fn(*const i32, usize, *const i32, usize) -> T) -> Kept<T> {
-    let (left, right) = (Lent::new(&two.left), Lent::new(&two.right));
-    let (l, r) = (left.contour(), right.contour());
+    let (left, right) = (Lent::numbers(&two.left), Lent::numbers(&two.right));
+    let (l, r) = (left.list(), right.list());
     let told = call(l.as_ptr(), l.len(), r.as_ptr(), r.len());
     Kept {
         told,
@@ -331,4 +367,86 @@ fn pair_next(input: &TwoAt) -> Kept<ToldNext> {
     on_two(&input.two, |l, n, r, m| unsafe {
         archive::beside_pair_next(l, n, r, m, at)
     })
+}
+
+/// The lists of an operand, lent.
+struct LentOperand {
+    starts: Lent<u32>,
+    corners: Lent<i32>,
+    bounds: Bounds,
+}
+
+impl LentOperand {
+    fn new(operand: &Operand) -> Self {
+        Self {
+            starts: Lent::new(&operand.table.starts, 0xa5a5_0001),
+            corners: Lent::numbers(&operand.table.corners),
+            bounds: Bounds(operand.bounds),
+        }
+    }
+
+    fn kept(&self) -> bool {
+        self.starts.kept() && self.corners.kept()
+    }
+}
+
+/// A call on two operands; the function that it asks is one of the two below.
+fn on_operands(
+    asked: unsafe extern "C" fn(
+        *const u32,
+        usize,
+        *const i32,
+        usize,
+        Bounds,
+        *const u32,
+        usize,
+        *const i32,
+        usize,
+        Bounds,
+        *mut u32,
+        usize,
+        *mut i32,
+        usize,
+    ) -> ToldPairs,
+    left: &Operand,
+    right: &Operand,
+    starts: &mut [u32],
+    corners: &mut [i32],
+) -> Kept<ToldPairs> {
+    let (left, right) = (LentOperand::new(left), LentOperand::new(right));
+    let told = unsafe {
+        asked(
+            left.starts.list().as_ptr(),
+            left.starts.list().len(),
+            left.corners.list().as_ptr(),
+            left.corners.list().len(),
+            left.bounds,
+            right.starts.list().as_ptr(),
+            right.starts.list().len(),
+            right.corners.list().as_ptr(),
+            right.corners.list().len(),
+            right.bounds,
+            starts.as_mut_ptr(),
+            starts.len(),
+            corners.as_mut_ptr(),
+            corners.len(),
+        )
+    };
+    Kept {
+        told,
+        kept: left.kept() && right.kept(),
+    }
+}
+
+fn sum_parts(l: &Operand, r: &Operand, starts: &mut [u32], corners: &mut [i32]) -> Kept<ToldPairs> {
+    on_operands(archive::beside_sum_parts, l, r, starts, corners)
+}
+
+fn difference_parts(
+    l: &Operand,
+    r: &Operand,
+    starts: &mut [u32],
+    corners: &mut [i32],
+) -> Kept<ToldPairs> {
+    on_operands(archive::beside_difference_parts, l, r, starts, corners)
 }

@@ -13,6 +13,7 @@
 //!   simpler inputs; `table_sample`: the stored sample of their answers
 //! - `walk`: one walk begun, its point, edge and advance, a walk stepped; a pair
 //!   begun, stepped, and stepped to its end
+//! - `pairs`: `sum_parts`, `difference_parts`
 //! - `sample_bytes`: the bytes of those two samples
 //! - `boundary`: the C functions of the Rattle archive and the list of entry
 //!   points, where it is linked
@@ -23,6 +24,7 @@
 pub mod entry;
 pub mod mesh;
 pub mod mesh_sample;
+pub mod pairs;
 pub mod plane;
 mod sample_bytes;
 pub mod split;

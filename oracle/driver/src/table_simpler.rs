@@ -32,7 +32,7 @@ fn lesser(value: usize) -> Vec<usize> {
     nearer.into_iter().filter(|&n| n < value).collect()
 }
 
-fn simpler_table(table: &Table) -> Vec<Table> {
+pub fn simpler_table(table: &Table) -> Vec<Table> {
     let start = |start: u32| {
         lesser(start as usize)
             .into_iter()

@@ -88,30 +88,36 @@ pub struct Kept<T> {
     pub kept: bool,
 }
 
-/// A contour lent with numbers before and after it.
-pub struct Lent {
-    before: Vec<i32>,
-    now: Vec<i32>,
+/// A list lent with numbers before and after it.
+pub struct Lent<T> {
+    before: Vec<T>,
+    now: Vec<T>,
 }
 
 const ABOUT: usize = 3;
 
-impl Lent {
-    pub fn new(flat: &[i32]) -> Self {
-        let about = [-0x5a5a_0001; ABOUT];
-        let before = [&about[..], flat, &about[..]].concat();
+impl<T: Copy + PartialEq> Lent<T> {
+    pub fn new(list: &[T], number: T) -> Self {
+        let about = [number; ABOUT];
+        let before = [&about[..], list, &about[..]].concat();
         Lent {
             now: before.clone(),
             before,
         }
     }
 
-    pub fn contour(&self) -> &[i32] {
+    pub fn list(&self) -> &[T] {
         &self.now[ABOUT..self.now.len() - ABOUT]
     }
 
     pub fn kept(&self) -> bool {
         self.before == self.now
+    }
+}
+
+impl Lent<i32> {
+    pub fn numbers(list: &[i32]) -> Self {
+        Self::new(list, -0x5a5a_0001)
     }
 }
 

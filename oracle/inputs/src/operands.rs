@@ -6,6 +6,7 @@ use crate::rng::Rng;
 use judge::limits::{CONTOUR, CORNERS, PARTS};
 use judge::pairs::{Operand, Operation};
 use judge::table::Table;
+use judge::walk::winding_leaves_64_bits;
 use judge::{Contour, Point};
 
 /// A left and a right operand and what is asked of them.
@@ -58,7 +59,7 @@ pub fn good(rng: &mut Rng, most: usize, corners: usize) -> Pair {
         };
         // A random contour of the whole range may wind too far.
         for contour in &mut parts {
-            let far = |reflected| judge::walk::winding_leaves_64_bits(contour, reflected);
+            let far = |reflected| winding_leaves_64_bits(contour, reflected);
             if far(false) || far(true) {
                 contour.truncate(4);
             }
@@ -87,6 +88,64 @@ pub fn at_limit(rng: &mut Rng, past: i32) -> Vec<Contour> {
         }
         _ => vec![contours::random(rng, at(CONTOUR), 9)],
     }
+}
+
+/// A contour whose winding leaves 64 bits from one of the two starts and not from
+/// the other, beside a point: on each side, of a sum and of a difference.
+pub fn one_way(rng: &mut Rng) -> Vec<Pair> {
+    let contour = loop {
+        let contour = contours::at_64_bits(rng);
+        if winding_leaves_64_bits(&contour, false) != winding_leaves_64_bits(&contour, true) {
+            break contour;
+        }
+    };
+    let far = Operand {
+        bounds: contours::bounds(&contour),
+        table: Table::of(&[contour]),
+    };
+    let near = Operand {
+        bounds: [0; 4],
+        table: Table::of(&[vec![(0, 0)]]),
+    };
+    let mut out = Vec::new();
+    for operation in [Operation::Sum, Operation::Difference] {
+        for (left, right) in [(&far, &near), (&near, &far)] {
+            out.push(Pair {
+                operation,
+                left: left.clone(),
+                right: right.clone(),
+            });
+        }
+    }
+    out
+}
+
+/// A result bound of ±(2^30 − 1), and one more, on each side and axis.
+pub fn edges() -> Vec<Pair> {
+    let mut out = Vec::new();
+    for operation in [Operation::Sum, Operation::Difference] {
+        for (at, by) in [(0, -1), (1, 1), (2, -1), (3, 1)] {
+            for past in [0, 1] {
+                let one = |bounds: [i32; 4]| Operand {
+                    table: Table::of(&[vec![(0, 0)]]),
+                    bounds,
+                };
+                let mut pair = Pair {
+                    operation,
+                    left: one([0; 4]),
+                    right: one([0; 4]),
+                };
+                pair.left.bounds[at] = by * EDGE;
+                let (other, sign) = match operation {
+                    Operation::Sum => (at, by),
+                    Operation::Difference => (at ^ 1, -by),
+                };
+                pair.right.bounds[other] = sign * past;
+                out.push(pair);
+            }
+        }
+    }
+    out
 }
 
 #[cfg(test)]

@@ -1,0 +1,2 @@
+-- A call's answer as it is told.
+pub mod Answer

@@ -1,0 +1,454 @@
+//! The entry points of all pairs: `sum_parts` and `difference_parts`, which write a
+//! contour for each left part and each right part to lent starts and corners.
+//! Refusals are the judge's, contours the Rust's.
+
+use crate::entry::{simpler_numbers, EntryPoint};
+use crate::mesh::SHARE;
+use crate::table_simpler::simpler_table;
+use crate::told::Counts;
+use crate::walk::Kept;
+use crate::written::Written;
+use cli::answers::pair_contours;
+use inputs::operands::{self, Pair};
+use inputs::pair_damage::{damaged, ORDER};
+use inputs::rng::Rng;
+use inputs::walk_calls::limit_windings;
+use inputs::{contours, rooms, tables, text};
+use judge::limits::CONTOUR;
+use judge::pairs::{result_bounds, Operand, Operation};
+use judge::room::{Room, Size};
+use judge::table::Table;
+use judge::Contour;
+
+/// Each is given the Rattle function that it asks.
+pub fn sum_parts_beside(rattle: WritesPairs) -> AllPairs {
+    AllPairs {
+        name: "sum_parts",
+        operation: Operation::Sum,
+        rattle,
+        small: 4,
+    }
+}
+
+pub fn difference_parts_beside(rattle: WritesPairs) -> AllPairs {
+    AllPairs {
+        name: "difference_parts",
+        operation: Operation::Difference,
+        rattle,
+        small: 4,
+    }
+}
+
+pub type WritesPairs = fn(&Operand, &Operand, &mut [u32], &mut [i32]) -> Kept<ToldPairs>;
+
+/// Least x, greatest x, least y, greatest y, as they pass to C.
+#[repr(C)]
+#[derive(Debug, Clone, Copy, PartialEq, Eq)]
+pub struct Bounds(pub [i32; 4]);
+
+/// What a call tells; all 0 but the fault where it refused.
+#[repr(C)]
+#[derive(Debug, Clone, Copy, PartialEq, Eq)]
+pub struct ToldPairs {
+    pub fault: u32,
+    pub contours: u32,
+    pub corners: u32,
+    pub bounds: Bounds,
+}
+
+/// Two operands, and the room that is lent for their pairs.
+#[derive(Debug, Clone)]
+pub struct Call {
+    pub pair: Pair,
+    pub lent: Room,
+}
+
+/// Whether the operands and the numbers about them are as they were; the result's
+/// bounds; the counts and all of the memory about the lent buffers.
+#[derive(Debug, PartialEq)]
+pub struct PairsWritten {
+    pub kept: bool,
+    pub bounds: Bounds,
+    pub written: Written,
+}
+
+/// What document 01 and the Rust say of a call.
+pub fn written(call: &Call) -> PairsWritten {
+    let Pair {
+        operation,
+        left,
+        right,
+    } = &call.pair;
+    let written = Written::after(call.lent, pair_contours(*operation, left, right));
+    let bounds = match written.counts.fault {
+        0 => result_bounds(*operation, left.bounds, right.bounds),
+        _ => [0; 4],
+    };
+    PairsWritten {
+        kept: true,
+        bounds: Bounds(bounds.map(|b| i32::try_from(b).expect("a bound in range"))),
+        written,
+    }
+}
+
+/// The size of the answer; none where it is refused.
+fn size(pair: &Pair) -> Size {
+    let contours = pair_contours(pair.operation, &pair.left, &pair.right);
+    Size::of(&contours.unwrap_or_default())
+}
+
+// ---- inputs
+
+/// An operand of these contours within bounds that are just theirs.
+fn operand(parts: &[Contour]) -> Operand {
+    Operand {
+        bounds: contours::bounds(&parts.concat()),
+        table: Table::of(parts),
+    }
+}
+
+fn pair(operation: Operation, left: &[Contour], right: &[Contour]) -> Pair {
+    Pair {
+        operation,
+        left: operand(left),
+        right: operand(right),
+    }
+}
+
+/// With every room about the answer's size.
+fn in_every_room(pair: Pair) -> impl Iterator<Item = Call> {
+    let lents = rooms::every(size(&pair)).into_iter();
+    lents.map(move |lent| Call {
+        pair: pair.clone(),
+        lent,
+    })
+}
+
+/// With one of those rooms.
+fn in_room(pair: Pair, number: usize) -> Call {
+    let lents = rooms::every(size(&pair));
+    Call {
+        lent: lents[number % lents.len()],
+        pair,
+    }
+}
+
+/// Every two contours of up to so many corners on a 2 by 2 grid, alone and among
+/// other parts, in the nine rooms by turns.
+fn small(operation: Operation, corners: usize) -> impl Iterator<Item = Call> {
+    let all = move || contours::small(2, corners).enumerate();
+    all().flat_map(move |(i, a)| {
+        all().flat_map(move |(j, b)| {
+            let alone = pair(operation, &[a.clone()], &[b.clone()]);
+            let triangle = vec![(0, 0), (3, 1), (1, 2)];
+            let left = [triangle.clone(), a.clone(), vec![]];
+            let right = [vec![(2, -1), (2, 5)], b, triangle];
+            let among = pair(operation, &left, &right);
+            [in_room(alone, i + j), in_room(among, i + 2 * j + 4)]
+        })
+    })
+}
+
+/// Every two contours of up to two corners, alone, in every room.
+fn smallest(operation: Operation) -> impl Iterator<Item = Call> {
+    let all = || contours::small(2, 2);
+    all().flat_map(move |a| {
+        all().flat_map(move |b| in_every_room(pair(operation, &[a.clone()], &[b])))
+    })
+}
+
+/// A corner each, so many parts.
+fn points(parts: usize) -> Vec<Contour> {
+    (0..parts as i32).map(|i| vec![(i % 7, i % 5)]).collect()
+}
+
+/// Operands about the limits: result bounds at the limit and past it, windings at the
+/// limits of 64 bits, tables at each limit, one fewer and one more, the longest
+/// contours, and operands of which all corners and starts are 256, which the Rattle
+/// code holds in smaller work buffers, one fewer and one more.
+fn limits(rng: &mut Rng, operation: Operation) -> Vec<Pair> {
+    let near = vec![vec![(0, 0)]];
+    let mut out = operands::edges();
+    out.extend((0..20).flat_map(|_| operands::one_way(rng)));
+    out.retain(|pair| pair.operation == operation);
+    for far in limit_windings() {
+        out.push(pair(operation, &[far.clone()], &near));
+        out.push(pair(operation, &near, &[far]));
+    }
+    for table in tables::limits() {
+        let limited = Operand {
+            table,
+            bounds: [-10, 10, -10, 10],
+        };
+        for (left, right) in [(true, false), (false, true), (true, true)] {
+            let side = |is: bool| if is { limited.clone() } else { operand(&near) };
+            // two long tables have more pairs than are worth it, but for one of few parts
+            if left && right && limited.table.starts.len() > 20 {
+                continue;
+            }
+            out.push(Pair {
+                operation,
+                left: side(left),
+                right: side(right),
+            });
+        }
+    }
+    let long = |rng: &mut Rng| contours::convex(rng, CONTOUR, 1 << 28);
+    for _ in 0..10 {
+        let (a, b) = (long(rng), long(rng));
+        out.push(pair(operation, &[a.clone()], &[b.clone()]));
+        out.push(pair(operation, &[a, vec![(5, 5)]], &[vec![], b]));
+    }
+    for parts in [127, 128] {
+        for other in [1, 127, 128] {
+            out.push(pair(operation, &points(parts), &points(other)));
+            out.push(pair(operation, &points(other), &points(parts)));
+        }
+        let mut ones = points(parts - 1);
+        ones.push(vec![(1, 1), (4, 2)]);
+        out.push(pair(operation, &ones, &points(3)));
+        out.push(pair(operation, &points(3), &ones));
+    }
+    out
+}
+
+/// An accepted pair, few of them of many parts or long ones; then, once in two times,
+/// with a fault or with two.
+fn any_call(rng: &mut Rng, operation: Operation) -> Call {
+    let (most, corners) = match rng.below(400) {
+        0 => (3, CONTOUR),
+        1 => (60, 20),
+        2..=20 => (12, 40),
+        _ => (4, 9),
+    };
+    let mut pair = operands::good(rng, most, corners);
+    pair.operation = operation;
+    let lent = rooms::about(rng, size(&pair));
+    if rng.once_in(2) {
+        let faults = [rng.pick(&ORDER), rng.pick(&ORDER)];
+        pair = damaged(rng, &pair, &faults);
+    }
+    Call { pair, lent }
+}
+
+// ---- the entry point
+
+pub struct AllPairs {
+    name: &'static str,
+    operation: Operation,
+    rattle: WritesPairs,
+    /// How many corners the small contours have at most.
+    small: usize,
+}
+
+impl EntryPoint for AllPairs {
+    type Input = Call;
+    type Answer = PairsWritten;
+
+    fn name(&self) -> &'static str {
+        self.name
+    }
+
+    fn faults(&self) -> &'static [u32] {
+        &[7, 2, 9, 8, 10, 20, 22, 21]
+    }
+
+    fn inputs<'a>(&self, rng: &'a mut Rng, count: u64) -> Box<dyn Iterator<Item = Call> + 'a> {
+        let operation = self.operation;
+        let limits = limits(rng, operation).into_iter().flat_map(in_every_room);
+        let random = (0..count / SHARE).map(move |_| any_call(rng, operation));
+        let fixed = smallest(operation).chain(small(operation, self.small));
+        Box::new(fixed.chain(limits).chain(random))
+    }
+
+    fn rattle(&self, call: &Call) -> PairsWritten {
+        let mut written = Written::before(call.lent);
+        let (starts, corners) = written.lent();
+        let Pair { left, right, .. } = &call.pair;
+        let Kept { told, kept } = (self.rattle)(left, right, starts, corners);
+        written.counts = Counts {
+            fault: told.fault,
+            parts: told.contours,
+            corners: told.corners,
+        };
+        PairsWritten {
+            kept,
+            bounds: told.bounds,
+            written,
+        }
+    }
+
+    fn rust(&self, call: &Call) -> PairsWritten {
+        written(call)
+    }
+
+    fn fault(&self, answer: &PairsWritten) -> u32 {
+        answer.written.counts.fault
+    }
+
+    fn simpler(&self, call: &Call) -> Vec<Call> {
+        let with = |change: &dyn Fn(&mut Call)| {
+            let mut changed = call.clone();
+            change(&mut changed);
+            changed
+        };
+        let Pair { left, right, .. } = &call.pair;
+        let mut out = Vec::new();
+        for simpler in simpler_operand(left) {
+            out.push(with(&|q| q.pair.left = simpler.clone()));
+        }
+        for simpler in simpler_operand(right) {
+            out.push(with(&|q| q.pair.right = simpler.clone()));
+        }
+        for lent in rooms::less(call.lent) {
+            out.push(with(&|q| q.lent = lent));
+        }
+        out
+    }
+
+    fn show(&self, call: &Call) -> String {
+        let Room { starts, numbers } = call.lent;
+        let left = text::operand(&call.pair.left);
+        let right = text::operand(&call.pair.right);
+        format!("left {left} right {right} room {starts} {numbers}")
+    }
+}
+
+/// With a part left out, where the table keeps its rules, a simpler table, or a bound
+/// nearer to 0.
+fn simpler_operand(operand: &Operand) -> Vec<Operand> {
+    let with_table = |table: Table| Operand {
+        table,
+        bounds: operand.bounds,
+    };
+    let mut out = Vec::new();
+    if !judge::table::breaks_rules(&operand.table) {
+        let parts = operand.table.contours();
+        for out_of_it in 0..parts.len() {
+            let mut fewer = parts.clone();
+            fewer.remove(out_of_it);
+            out.push(with_table(Table::of(&fewer)));
+        }
+    }
+    out.extend(simpler_table(&operand.table).into_iter().map(with_table));
+    for at in 0..4 {
+        for bound in simpler_numbers(operand.bounds[at]) {
+            let mut changed = operand.clone();
+            changed.bounds[at] = bound;
+            out.push(changed);
+        }
+    }
+    out
+}
+
+/// The driver itself, tried on functions of known worth.
+#[cfg(test)]
+mod tests {
+    use super::*;
+    use crate::entry::{run, Report};
+    use std::collections::BTreeSet;
+
+    const COUNT: u64 = 10_000;
+
+    /// With contours of up to two corners, to be quick.
+    fn beside(rattle: WritesPairs) -> AllPairs {
+        AllPairs {
+            small: 2,
+            ..difference_parts_beside(rattle)
+        }
+    }
+
+    /// What the Rust and the judge leave in the lent memory.
+    fn right(
+        left: &Operand,
+        right: &Operand,
+        starts: &mut [u32],
+        corners: &mut [i32],
+    ) -> Kept<ToldPairs> {
+        answered(Operation::Difference, left, right, starts, corners)
+    }
+
+    fn answered(
+        operation: Operation,
+        left: &Operand,
+        right: &Operand,
+        starts: &mut [u32],
+        corners: &mut [i32],
+    ) -> Kept<ToldPairs> {
+        let mut answer = written(&Call {
+            pair: Pair {
+                operation,
+                left: left.clone(),
+                right: right.clone(),
+            },
+            lent: Room {
+                starts: starts.len(),
+                numbers: corners.len(),
+            },
+        });
+        let (left_starts, left_corners) = answer.written.lent();
+        starts.copy_from_slice(left_starts);
+        corners.copy_from_slice(left_corners);
+        let Counts {
+            fault,
+            parts,
+            corners,
+        } = answer.written.counts;
+        let told = ToldPairs {
+            fault,
+            contours: parts,
+            corners,
+            bounds: answer.bounds,
+        };
+        Kept { told, kept: true }
+    }
+
+    #[test]
+    fn a_right_function_passes() {
+        let report = run(&beside(right), 1, COUNT);
+        assert!(report.passed(), "{report}");
+        assert!(report.faults.values().all(|&times| times > 20), "{report}");
+    }
+
+    fn caught(wrong: WritesPairs) -> String {
+        let report: Report = run(&beside(wrong), 1, COUNT);
+        assert!(report.differ > 0 && !report.passed());
+        report.smallest.expect("a difference is shown")
+    }
+
+    #[test]
+    fn a_sum_for_a_difference_is_caught() {
+        caught(|l, r, starts, corners| answered(Operation::Sum, l, r, starts, corners));
+    }
+
+    #[test]
+    fn a_bound_that_is_not_told_is_caught() {
+        caught(|l, r, starts, corners| {
+            let mut answer = right(l, r, starts, corners);
+            answer.told.bounds.0[3] = 0;
+            answer
+        });
+    }
+
+    /// The bounds of the results at the limits, the longest contours, and operands
+    /// about the smaller work buffers' length occur.
+    #[test]
+    fn the_limits_are_met() {
+        let mut rng = Rng::new(1);
+        let all = limits(&mut rng, Operation::Difference);
+        let accepted = all.iter().filter(|pair| size(pair).parts > 0);
+        let of = |pair: &Pair| result_bounds(pair.operation, pair.left.bounds, pair.right.bounds);
+        let met: BTreeSet<i64> = accepted.clone().flat_map(of).collect();
+        let past: BTreeSet<i64> = all.iter().flat_map(of).collect();
+        let edge = i64::from(inputs::coordinates::EDGE);
+        assert!(met.contains(&edge) && met.contains(&-edge));
+        assert!(past.contains(&(edge + 1)) && past.contains(&(-edge - 1)));
+        assert!(!met.contains(&(edge + 1)) && !met.contains(&(-edge - 1)));
+        assert!(accepted.clone().any(|pair| size(pair).corners > 2_000));
+        for places in [255, 256, 257] {
+            let about = |o: &Operand| o.table.starts.len() + o.table.corner_count() == places;
+            assert!(accepted.clone().any(|pair| about(&pair.left)));
+            assert!(accepted.clone().any(|pair| about(&pair.right)));
+        }
+    }
+}
