@@ -5,7 +5,7 @@ use mathlib.Core.List.{List, [], _∷_}
 use Prim.Native.Nat.{ℕ, zero, suc, _+_, _*_}
 use lib.Dec.{eqb, ltb}
 use lib.ListN.{length, getD, drop}
-use Rattle.integers.specs.Faults.{firstFault}
+use Rattle.integers.specs.Faults.{firstFault, faultFile, faultTriangles}
 use Rattle.plane.specs.Plane.{Pt}
 use Rattle.mesh.specs.Mesh.{Triangle, Mesh, meshKinds}
 use Rattle.table.specs.Stored.{wordsOf, wordAt, signed}
@@ -64,4 +64,4 @@ headerBroken bytes =
 
 -- "Under 20 bytes gives 13; then a count above 1,024 gives 1; then .. 13. The mesh's own order follows."
 unfoldable pub fileFault : List ℕ → ℕ
-fileFault bytes = firstFault ((13, ltb (length bytes) 20) ∷ (1, ltb 1024 (triangleCount bytes)) ∷ (13, headerBroken bytes) ∷ meshKinds (meshOf bytes))
+fileFault bytes = firstFault ((faultFile, ltb (length bytes) 20) ∷ (faultTriangles, ltb 1024 (triangleCount bytes)) ∷ (faultFile, headerBroken bytes) ∷ meshKinds (meshOf bytes))

@@ -8,7 +8,7 @@ use lib.ListN.{length, getD}
 use lib.IntN.{ℤ, pos}
 use lib.Signed.{leZ, ltZ}
 use Rattle.integers.specs.Lists.{sumℤ}
-use Rattle.integers.specs.Faults.{Kind}
+use Rattle.integers.specs.Faults.{Kind, faultEdge, faultFlat, faultNaming, faultRange, faultStray, faultTotal, faultTriangles}
 use Rattle.plane.specs.Plane.{Pt, O, eqPt, onGrid, areaTwo}
 
 -- ---- "A mesh is a list of triangles, each record with three points and three neighbours."
@@ -137,4 +137,4 @@ tooLarge m = ltZ (pos 9223372036854775807) (meshArea m)
 -- "Mesh: 1, 2, 3, 4, 5, 6, 11, 22, 21": those of the mesh itself
 abbrev pub meshKinds : Mesh → List Kind
 meshKinds m =
-    (1, tooMany m) ∷ (2, offGrid m) ∷ (3, strayNeighbour m) ∷ (4, misnamed m) ∷ (5, mismatched m) ∷ (6, flat m) ∷ (11, tooLarge m) ∷ []
+    (faultTriangles, tooMany m) ∷ (faultRange, offGrid m) ∷ (faultStray, strayNeighbour m) ∷ (faultNaming, misnamed m) ∷ (faultEdge, mismatched m) ∷ (faultFlat, flat m) ∷ (faultTotal, tooLarge m) ∷ []

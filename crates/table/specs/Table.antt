@@ -8,7 +8,7 @@ use lib.ListN.{length}
 use lib.Seq.{slice}
 use lib.IntN.{ℤ}
 use lib.Signed.{leZ, ltZ}
-use Rattle.integers.specs.Faults.{Kind}
+use Rattle.integers.specs.Faults.{Kind, faultCornerRoom, faultStartRoom}
 use Rattle.integers.specs.Lists.{overlay}
 use Rattle.plane.specs.Plane.{Pt, inRange}
 use Rattle.table.specs.declared.IntRect.{IntRect}
@@ -96,7 +96,7 @@ boundsBroken b l = cond (ltZ (b .«max_x») (b .«min_x»)) true (cond (ltZ (b .
 
 -- "22: fewer places for starts than the answer has", "21: fewer places for corners (two numbers each) than the answer has"
 abbrev pub roomKinds : List (List Pt) → ℕ → ℕ → List Kind
-roomKinds ps starts corners = (22, ltb starts (length (startsOf ps))) ∷ (21, ltb (corners / 2) (length (flatten ps))) ∷ []
+roomKinds ps starts corners = (faultStartRoom, ltb starts (length (startsOf ps))) ∷ (faultCornerRoom, ltb (corners / 2) (length (flatten ps))) ∷ []
 
 -- "A refusal returns the number and zero counts": f is the fault number, ps the parts where it is 0
 abbrev pub countsOf : ℕ → List (List Pt) → Counts

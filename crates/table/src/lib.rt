@@ -15,9 +15,6 @@ pub const MAX_CORNERS: usize = 8192;
 
 pub const MAX_CONTOUR: usize = 1026;
 
-// Document 01's fault numbers of a table, its bounds, a part asked for, and the room for an answer.
-pub const FAULT_RANGE: u32 = 2;
-
 pub const FAULT_RULES: u32 = 7;
 
 pub const FAULT_BOUNDS: u32 = 9;

@@ -13,9 +13,6 @@ use pair::Place;
 use plane::IntPoint;
 use table::MAX_CONTOUR;
 
-// Document 01's fault numbers of walks, beside table's: a winding's total, an empty contour, a place.
-pub const FAULT_WINDING: u32 = 8;
-
 pub const FAULT_EMPTY: u32 = 20;
 
 pub const FAULT_PLACE: u32 = 23;
