@@ -7,7 +7,7 @@ use lib.Dec.{eqb, ltb}
 use lib.ListN.{length, getD, drop}
 use Rattle.integers.specs.Faults.{firstFault, faultFile, faultTriangles}
 use Rattle.plane.specs.Plane.{Pt}
-use Rattle.mesh.specs.Mesh.{Triangle, Mesh, meshKinds}
+use Rattle.mesh.specs.Mesh.{Triangle, Mesh, meshKinds, maxTriangles}
 use Rattle.table.specs.Stored.{wordsOf, wordAt, signed}
 use Rattle.split.specs.declared.ConvexSplitStrategy.{ConvexSplitStrategy}
 use Rattle.split.specs.declared.ConvexSplitStrategy.the-variants.{EarClipping, Fan, Centroid}
@@ -64,4 +64,4 @@ headerBroken bytes =
 
 -- "Under 20 bytes gives 13; then a count above 1,024 gives 1; then .. 13. The mesh's own order follows."
 unfoldable pub fileFault : List ℕ → ℕ
-fileFault bytes = firstFault ((faultFile, ltb (length bytes) 20) ∷ (faultTriangles, ltb 1024 (triangleCount bytes)) ∷ (faultFile, headerBroken bytes) ∷ meshKinds (meshOf bytes))
+fileFault bytes = firstFault ((faultFile, ltb (length bytes) 20) ∷ (faultTriangles, ltb maxTriangles (triangleCount bytes)) ∷ (faultFile, headerBroken bytes) ∷ meshKinds (meshOf bytes))

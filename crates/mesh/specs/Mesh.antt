@@ -80,8 +80,11 @@ shared t test i = cond (eqb (neighbour t i) none) false (test i (neighbour t i))
 -- ---- the faults
 
 -- 1: "more than 1,024 triangles"
+abbrev pub maxTriangles : ℕ
+maxTriangles = 1024
+
 unfoldable pub tooMany : Mesh → Bool
-tooMany m = ltb 1024 (length m)
+tooMany m = ltb maxTriangles (length m)
 
 -- 2: "a coordinate .. not strictly between −2^30 and 2^30"
 abbrev pub triangleOff : Triangle → Bool

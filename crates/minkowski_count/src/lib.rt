@@ -2,8 +2,9 @@
 // buffer, by the same code that puts them into the lent one. Leans on pair_merge and minkowski_rows' definitions.
 ghost use mathlib.Core.Path.{_≡_};
 ghost use mathlib.Core.List.{[]};
-ghost use Prim.Native.Nat.{_<_, _≤_, _^_};
+ghost use Prim.Native.Nat.{_+_, _*_, _<_, _≤_, _^_};
 ghost use lib.ListN.{length, getD};
+ghost use Rattle.table.specs.Table.{maxContour};
 ghost use Rattle.pair_points.specs.Points.{mergedOf};
 ghost use Rattle.pair_merge.specs.Putting.{pointsIn, Mergeable};
 ghost use Rattle.minkowski_rows.specs.Rows.{walksIn};
@@ -18,7 +19,7 @@ fn count_one(
     q: usize,
     work: &mut [i32],
 ) -> usize
-    requires { ⌜ Mergeable (now a) × (length (now a) ≤ 1027) × Countable (now firsts) (now points) count × (q < count) × (4104 ≤ length (now work)) ⌝ }
+    requires { ⌜ Mergeable (now a) × (length (now a) ≤ maxContour + 1) × Countable (now firsts) (now points) count × (q < count) × (4 * maxContour ≤ length (now work)) ⌝ }
     ensures { λ r. ⌜ r ≡ length (mergedOf (pointsIn (now (a .entry))) (getD (walksIn (now (firsts .entry)) (now (points .entry)) count) q [])) ⌝ }
 {
     let from = firsts[q] as usize;
@@ -34,7 +35,7 @@ fn count_row(
     count: usize,
     work: &mut [i32],
 ) -> usize
-    requires { ⌜ Mergeable (now a) × (length (now a) ≤ 1027) × Countable (now firsts) (now points) count × (4104 ≤ length (now work)) × (rowCount (pointsIn (now a)) (walksIn (now firsts) (now points) count) < 2 ^ 32) ⌝ }
+    requires { ⌜ Mergeable (now a) × (length (now a) ≤ maxContour + 1) × Countable (now firsts) (now points) count × (4 * maxContour ≤ length (now work)) × (rowCount (pointsIn (now a)) (walksIn (now firsts) (now points) count) < 2 ^ 32) ⌝ }
     ensures { λ r. ⌜ r ≡ rowCount (pointsIn (now (a .entry))) (walksIn (now (firsts .entry)) (now (points .entry)) count) ⌝ }
 {
     let mut total: usize = 0;
@@ -57,7 +58,7 @@ fn count_row_of(
     right: usize,
     work: &mut [i32],
 ) -> usize
-    requires { ⌜ Countable (now lf) (now lp) left × (p < left) × Countable (now rf) (now rp) right × (4104 ≤ length (now work)) × (rowCount (getD (walksIn (now lf) (now lp) left) p []) (walksIn (now rf) (now rp) right) < 2 ^ 32) ⌝ }
+    requires { ⌜ Countable (now lf) (now lp) left × (p < left) × Countable (now rf) (now rp) right × (4 * maxContour ≤ length (now work)) × (rowCount (getD (walksIn (now lf) (now lp) left) p []) (walksIn (now rf) (now rp) right) < 2 ^ 32) ⌝ }
     ensures { λ r. ⌜ r ≡ rowCount (getD (walksIn (now (lf .entry)) (now (lp .entry)) left) p []) (walksIn (now (rf .entry)) (now (rp .entry)) right) ⌝ }
 {
     let from = lf[p] as usize;
@@ -77,7 +78,7 @@ pub fn count_all(
     requires { ⌜ Countable (now lf) (now lp) left × Countable (now rf) (now rp) right × (allCount (walksIn (now lf) (now lp) left) (walksIn (now rf) (now rp) right) < 2 ^ 32) ⌝ }
     ensures { λ r. ⌜ r ≡ allCount (walksIn (now (lf .entry)) (now (lp .entry)) left) (walksIn (now (rf .entry)) (now (rp .entry)) right) ⌝ }
 {
-    let mut work = [0i32; 4104];
+    let mut work = [0i32; 4 * table::MAX_CONTOUR];
     let mut total: usize = 0;
     let mut p: usize = 0;
     while p < left {

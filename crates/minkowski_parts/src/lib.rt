@@ -30,10 +30,10 @@ fn pairs_large(
     requires { ⌜ firstFault (operandKinds (operand (now «left_starts») (now «left_corners») «left_bounds») (operand (now «right_starts») (now «right_corners») «right_bounds»)) ≡ 0 ⌝ }
     ensures { λ r. ⌜ Answers reflected (operand (now («left_starts» .entry)) (now («left_corners» .entry)) «left_bounds») (operand (now («right_starts» .entry)) (now («right_corners» .entry)) «right_bounds») (now (starts .entry)) (now (corners .entry)) r (now (starts .exit)) (now (corners .exit)) ⌝ }
 {
-    let mut left_points = [[0i32; 2]; 10240];
-    let mut left_firsts = [0u32; 2049];
-    let mut right_points = [[0i32; 2]; 10240];
-    let mut right_firsts = [0u32; 2049];
+    let mut left_points = [[0i32; 2]; table::MAX_CORNERS + table::MAX_PARTS];
+    let mut left_firsts = [0u32; table::MAX_PARTS + 1];
+    let mut right_points = [[0i32; 2]; table::MAX_CORNERS + table::MAX_PARTS];
+    let mut right_firsts = [0u32; table::MAX_PARTS + 1];
     minkowski_work::pairs_over(
         reflected,
         left_starts,

@@ -51,6 +51,16 @@ tableParts starts corners = partsOf starts (pointsOf corners)
 
 -- ---- its rules and limits: fault 7, "a part table against its rules or limits"
 
+-- "Limits: 2,048 parts, 8,192 corners, 1,026 corners a contour."
+abbrev pub maxParts : ℕ
+maxParts = 2048
+
+abbrev pub maxCorners : ℕ
+maxCorners = 8192
+
+abbrev pub maxContour : ℕ
+maxContour = 1026
+
 -- how many parts: one fewer than starts
 abbrev pub partCount : List ℕ → ℕ
 partCount starts = length starts - 1
@@ -58,7 +68,7 @@ partCount starts = length starts - 1
 -- a start falls, or a contour has more than 1,026 corners, or the last is not the corner count n
 unfoldable pub stepsBroken : ℕ → ℕ → List ℕ → Bool
 stepsBroken n a [] = not (eqb a n)
-stepsBroken n a (b ∷ s) = cond (ltb b a) true (cond (ltb (a + 1026) b) true (stepsBroken n b s))
+stepsBroken n a (b ∷ s) = cond (ltb b a) true (cond (ltb (a + maxContour) b) true (stepsBroken n b s))
 
 unfoldable pub startsBroken : ℕ → List ℕ → Bool
 startsBroken n [] = true
@@ -67,7 +77,7 @@ startsBroken n (a ∷ s) = cond (eqb a 0) (stepsBroken n a s) true
 unfoldable pub tableBroken : List ℕ → List ℤ → Bool
 tableBroken starts corners =
     cond (eqb (length corners % 2) 0)
-    (cond (ltb 2048 (partCount starts)) true (cond (ltb 8192 (length corners / 2)) true (startsBroken (length corners / 2) starts)))
+    (cond (ltb maxParts (partCount starts)) true (cond (ltb maxCorners (length corners / 2)) true (startsBroken (length corners / 2) starts)))
     true
 
 -- ---- coordinates and bounds

@@ -6,7 +6,7 @@ ghost use mathlib.Core.Path.{_≡_};
 ghost use mathlib.Core.Bool.{true, cond};
 ghost use Prim.Native.Nat.{_+_};
 ghost use lib.Dec.{ltb};
-ghost use Rattle.table.specs.Table.{startsBroken, tableBroken, offRange, withinBounds, boundsBroken, pointsOf};
+ghost use Rattle.table.specs.Table.{startsBroken, tableBroken, offRange, withinBounds, boundsBroken, pointsOf, maxContour};
 
 // Document 01: "Limits: 2,048 parts, 8,192 corners, 1,026 corners a contour."
 pub const MAX_PARTS: usize = 2048;
@@ -43,7 +43,7 @@ pub struct IntRect {
 
 // Whether one start may not follow another: it falls, or the contour between them is too long.
 pub fn step_broken(last: usize, next: usize) -> bool
-    ensures { λ r. ⌜ r ≡ cond (ltb next last) true (ltb (last + 1026) next) ⌝ }
+    ensures { λ r. ⌜ r ≡ cond (ltb next last) true (ltb (last + maxContour) next) ⌝ }
 {
     if next < last {
         return true;

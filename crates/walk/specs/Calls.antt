@@ -11,7 +11,7 @@ use Rattle.plane.specs.Plane.{Pt, onGrid}
 use Rattle.plane.specs.Machine.{point, vector}
 use Rattle.plane.specs.declared.IntPoint.{IntPoint}
 use Rattle.plane.specs.declared.IntVector.{IntVector}
-use Rattle.table.specs.Table.{pointsOf, offRange}
+use Rattle.table.specs.Table.{pointsOf, offRange, maxContour}
 use Rattle.pair.specs.declared.Place.{Place}
 use Rattle.pair.specs.declared.ConvexSum.{ConvexSum}
 use Rattle.pair.specs.Walk.{cornerAt, windingLeaves, begin, nextIndex, edgeOf, advance}
@@ -36,7 +36,7 @@ use Rattle.walk.specs.declared.Next.the-variants as next
 
 -- "7 for length (odd, or over 1,026 corners)"
 unfoldable pub lengthBroken : List ℤ → Bool
-lengthBroken l = cond (eqb (length l % 2) 0) (ltb 1026 (length l / 2)) true
+lengthBroken l = cond (eqb (length l % 2) 0) (ltb maxContour (length l / 2)) true
 
 -- "whose place or either segment end isn't a corner of its contour", of n corners; the ends count where it walks a segment
 unfoldable pub misplaced : ℕ → Place → Bool

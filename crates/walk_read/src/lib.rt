@@ -6,7 +6,7 @@ ghost use mathlib.Core.Bool.{false};
 ghost use Prim.Native.Nat.{_<_, _≤_};
 ghost use lib.ListN.{length};
 ghost use Rattle.plane.specs.Machine.{point};
-ghost use Rattle.table.specs.Table.{pointsOf};
+ghost use Rattle.table.specs.Table.{pointsOf, maxContour};
 ghost use Rattle.pair.specs.Walk.{cornerAt, nextIndex};
 ghost use Rattle.walk.specs.Calls.{lengthBroken, misplaced, offAt};
 use pair::Place;
@@ -71,7 +71,7 @@ pub fn misplaced(n: usize, w: Place) -> bool
 
 // The next place on a contour of n corners.
 pub fn next_index(n: usize, w: Place) -> u16
-    requires { ⌜ (n ≤ 1026) × (misplaced n w ≡ false) ⌝ }
+    requires { ⌜ (n ≤ maxContour) × (misplaced n w ≡ false) ⌝ }
     ensures { λ r. ⌜ r ≡ nextIndex n w ⌝ }
 {
     let index = w.index;
