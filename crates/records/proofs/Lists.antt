@@ -1,8 +1,8 @@
--- Lists that a record holds, as the code reads them: laws of specs/Record.antt. In order: what was read (`listed`); as many words as there are
--- (`taken-words`); rows, one more a turn. Assumes nothing.
+-- Lists that a record holds, as the code reads them: laws of specs/Record.antt. In order: what was read (`listed`); how many words can be read, and that
+-- those are all that there are (`taken-words`); rows, one more a turn. Assumes nothing.
 use mathlib.Core.Path.{_≡_, refl, sym, _∙_, ap}
-use mathlib.Core.List.{List, [], _∷_, _++_, map, map-append}
-use Prim.Native.Nat.{ℕ, _+_, _*_, _-_, _/_, _≤_, _<_, min}
+use mathlib.Core.List.{List, [], _∷_, _++_, map-append}
+use Prim.Native.Nat.{ℕ, _+_, _-_, _/_, _≤_, _<_, min}
 use native.Mathlib.Numerals.{add-one}
 use native.Mathlib.Omega.{arith}
 use lib.IntN.{ℤ}
@@ -55,7 +55,7 @@ module _ (r : List ℕ) (k : ℕ) where
   unfolding numbersIn
   length-numbers n = length-map (wordsIn r k n) signed
 
--- as many words as there are, are all of them
+-- as many words as can be read are all of them
 pub taken-words : (r : List ℕ) (k n : ℕ) {told : ℕ} → told ≡ length (wordsIn r k n) → take told (drop k (wordsOf r)) ≡ wordsIn r k n
 unfolding wordsIn
 taken-words r k n e =

@@ -1,5 +1,5 @@
 -- `records::words` meets its contract: as many words as there are, and as have places. Assumes nothing.
-use mathlib.Core.Path.{_≡_, sym, _∙_, ap}
+use mathlib.Core.Path.{sym, _∙_, ap}
 use native.Mathlib.Omega.{arith}
 use Rattle.integers.specs.Lists.{overlay}
 use Rattle.records.proofs.Lists.{listed, none-listed, taken-words}
