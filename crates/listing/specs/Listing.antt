@@ -7,18 +7,15 @@ use lib.ListN.{length}
 use lib.IntN.{natAbs}
 use Rattle.plane.specs.Plane.{Pt}
 use Rattle.plane.specs.Contour.{contourArea}
-use Rattle.text.specs.Text.{decimal, space, newline, cornersText, refusal}
+use Rattle.text.specs.Text.{decimal, space, newline, cornersWord, cornersText, refusal}
 use Rattle.split.specs.Splitting.{splitParts}
 use Rattle.listing.specs.File.{fileFault, meshOf, cornerLimit, splitNumber, strategyOf}
 
 -- ---- words of the listing
 
--- "parts ", " corners ", " area2 "
+-- "parts ", " area2 "; " corners " is text's
 abbrev pub partsWord : List ℕ
 partsWord = 112 ∷ 97 ∷ 114 ∷ 116 ∷ 115 ∷ 32 ∷ []
-
-abbrev pub cornersWord : List ℕ
-cornersWord = 32 ∷ 99 ∷ 111 ∷ 114 ∷ 110 ∷ 101 ∷ 114 ∷ 115 ∷ 32 ∷ []
 
 abbrev pub areaWord : List ℕ
 areaWord = 32 ∷ 97 ∷ 114 ∷ 101 ∷ 97 ∷ 50 ∷ 32 ∷ []
