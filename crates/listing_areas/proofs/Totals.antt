@@ -1,5 +1,5 @@
--- The parts of a table that can be listed: part k can be measured (`part-measurable`), the areas added so far (`totals-turn`), a part's area is at most the
--- total, which is above 0 (`area-within`); the quotient is the share (`share-is`). Assumes nothing.
+-- The parts of a table that can be listed: the areas added part by part (`totals-turn`), a part's area is above 0 and at most the total (`area-most`,
+-- `area-some`), part k can be measured (`part-measurable`); a share is the quotient (`share-is`). Assumes nothing.
 use mathlib.Core.Path.{_≡_, refl, sym, _∙_, ap, subst}
 use mathlib.Core.Bool.{true, false}
 use mathlib.Core.List.{List, [], _∷_}
@@ -18,11 +18,16 @@ use Rattle.integers.proofs.Tests.{zneeds, ltZ-<, ≤-leZ}
 use Rattle.integers.proofs.Elements.{all-getD}
 use Rattle.plane.specs.Plane.{Pt}
 use Rattle.plane.specs.Contour.{contourArea}
+use Rattle.table.specs.Table.{pointsOf, tableParts, partCount}
+use Rattle.table.specs.Shown.{partNumbers}
+use Rattle.table.proofs.Rules.{count-parts}
+use Rattle.table.proofs.Shown.{part-is, part-ranged}
 use Rattle.wide_divide.specs.declared.Quotient.{Quotient}
 use Rattle.wide_divide.specs.Quotients.{Divided}
 use Rattle.listing.specs.Listing.{areaOf, totalArea, shareOf}
+use Rattle.listing_areas.specs.Areas.{Measurable, Listable}
 
--- ---- the total
+-- ---- the total, part by part
 
 pub totals-turn : (ps : List (List Pt)) (k : ℕ) → k < length ps → totalArea (drop k ps) ≡ areaOf (getD ps k []) + totalArea (drop (k + 1) ps)
 unfolding totalArea
@@ -45,6 +50,23 @@ area-some ps h k l = of (contourArea (getD ps k [])) (all-getD (λ p. ltZ (pos 0
   where
     of : (z : ℤ) → ltZ (pos 0) z ≡ true → 0 < natAbs z
     of z e = omega (zneeds, e, abs-parts z)
+
+-- ---- part k
+
+-- an area above 0 and at most the total is measured
+pub part-measurable : (starts : List ℕ) (corners : List ℤ) → Listable starts corners → (k : ℕ) → k < partCount starts → Measurable (partNumbers starts corners k)
+part-measurable s c h k l =
+    let ps : List (List Pt) = tableParts s c in
+    let inside : k < length ps = omega (arith, count-parts s c (h .whole)) in
+    let e : getD ps k [] ≡ pointsOf (partNumbers s c k) = sym (part-is s c k l) in
+    record {
+      ranged = part-ranged s c k (h .ranged);
+      above = subst (λ p. leZ (pos 0) (contourArea p) ≡ true) e (above (contourArea (getD ps k [])) (all-getD (λ p. ltZ (pos 0) (contourArea p) ≡ true) ps [] (h .above) k inside));
+      below = subst (λ p. natAbs (contourArea p) < 2 ^ 63) e (omega (arith, area-most ps k inside, h .below));
+    }
+  where
+    above : (z : ℤ) → ltZ (pos 0) z ≡ true → leZ (pos 0) z ≡ true
+    above z e = ≤-leZ {y = z} (<-≤ (ltZ-< (pos 0) z e))
 
 -- ---- a share
 

@@ -29,7 +29,7 @@ use Rattle.listing_areas.specs.Areas.{Wraps}
 pub wraps-up : (t : ℕ) (z : ℤ) {n r : ℕ} → n ≡ natAbs z → ltZ z (pos 0) ≡ false → r ≡ (t + n) % 2 ^ 64 → Wraps (pos t +ℤ z) r
 wraps-up t z {n} {r} e h p = record {
   turns = negℤ (pos ((t + n) / 2 ^ 64));
-  same = of t z n r ((t + n) / 2 ^ 64) e h (div-add-mod' (t + n) (2 ^ 64) ∙ refl) p;
+  same = of t z n r ((t + n) / 2 ^ 64) e h (div-add-mod' (t + n) (2 ^ 64)) p;
 }
   where
     of : (t : ℕ) (z : ℤ) (n r q : ℕ) → n ≡ natAbs z → ltZ z (pos 0) ≡ false → q * 2 ^ 64 + (t + n) % 2 ^ 64 ≡ t + n → r ≡ (t + n) % 2 ^ 64

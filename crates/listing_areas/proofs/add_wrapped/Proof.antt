@@ -1,5 +1,5 @@
 -- `listing_areas::add_wrapped` meets its contract: a term below 0 is taken away, another is added. Assumes nothing.
-use mathlib.Core.Path.{_≡_, sym, _∙_, ap}
+use mathlib.Core.Path.{sym, _∙_, ap}
 use native.Mathlib.Omega.{arith}
 use borrow.Author.Needs.{needs}
 use lib.IntN.{pos, natAbs}

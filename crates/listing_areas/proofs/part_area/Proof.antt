@@ -1,15 +1,13 @@
 -- `listing_areas::part_area` meets its contract: the invariant is `Fanning` of Wedges, the measure the corners left. Assumes nothing.
-use mathlib.Core.Path.{_≡_, sym, _∙_, ap, subst}
+use mathlib.Core.Path.{sym, _∙_, subst}
 use Prim.Native.Nat.{_+_, _-_, _^_, _≤_, _<_}
 use native.Mathlib.Omega.{arith}
 use borrow.Author.Needs.{needs}
-use lib.IntN.{pos, _+ℤ_}
 use mir.Syntax.{w64}
 use Rattle.integers.proofs.Bits.{got}
 use Rattle.plane.specs.Machine.{CrossSize}
 use Rattle.table.specs.Table.{pointsOf}
 use Rattle.table.proofs.Corners.{length-points}
-use Rattle.listing_areas.specs.Areas.{Wraps}
 use Rattle.listing_areas.proofs.Wedges.{Fanning, fanning-start, fanning-turn, fanning-end}
 use Rattle.listing_areas.proofs.part_area.Statement.{statement}
 use Rattle.listing_areas.proofs.part_area.Tie as tie
@@ -43,12 +41,10 @@ loop-less c = omega (arith, c .before .before .loop-test .taken)
 
 loop-again : tie.Need-loop-again Inv-loop μ-loop
 loop-again c =
-    let l = c .before .before .before in
-    let k = got w64 _ (c .before .wedge .ok) in
-    (
+    let l = c .before .before .before in (
       omega (arith, c .before .before .loop-test .taken),
       omega (arith, c .add-wrapped .ok),
-      fanning-turn (pointsOf (l .before .before .args .corners .now)) (omega (arith, c .before .before .loop-test .taken, l .before .corner-count .ensures)) (k ∙ c .before .wedge .ensures .0) (l .loop .inv .2) (c .add-wrapped .ensures),
+      fanning-turn (pointsOf (l .before .before .args .corners .now)) (omega (arith, c .before .before .loop-test .taken, l .before .corner-count .ensures)) (got w64 _ (c .before .wedge .ok) ∙ c .before .wedge .ensures .0) (l .loop .inv .2) (c .add-wrapped .ensures),
     )
 
 returns : tie.Need-returns Inv-loop μ-loop

@@ -27,8 +27,7 @@ corner-at-requires-3 c κs = omega (arith, c .before .before .pre .1)
 area-two-requires : tie.Need-area-two-requires
 area-two-requires c κs =
     let s = c .before .before .before in
-    let l = s .args .corners .now in
-    (
+    let l = s .args .corners .now in (
       grid-at l 0 _ (s .pre .0) (omega (arith, s .pre .1)) (c .before .before .corner-at .ensures),
       grid-at l (s .args .i) _ (s .pre .0) (omega (arith, s .pre .1)) (c .before .corner-at2 .ensures),
       grid-at l (s .args .i + 1) _ (s .pre .0) (omega (arith, s .pre .1)) (c .corner-at3 .ensures),
@@ -36,8 +35,7 @@ area-two-requires c κs =
 
 returns : tie.Need-returns
 returns c =
-    let k = got w64 _ (c .area-two .ok) in
-    (
+    let k = got w64 _ (c .area-two .ok) in (
       k ∙ c .area-two .ensures .0 ∙ (λ i. areaTwo (c .before .before .before .corner-at .ensures i) (c .before .before .corner-at2 .ensures i) (c .before .corner-at3 .ensures i)),
       subst CrossSize (sym k) (c .area-two .ensures .1),
     )
