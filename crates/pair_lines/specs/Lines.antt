@@ -1,9 +1,11 @@
 -- The lines that the pairs program prints (issue 13): "It prints `contours N corners N bounds a b c d`, then one line a pair: left part, right part,
 -- corner count, corners as in the area listing (`0 0 3 (0,0) (4,0) (0,4)`)". Assumes nothing.
 use mathlib.Core.Bool.{Bool}
-use mathlib.Core.List.{List, [], _∷_, _++_, map}
+use mathlib.Core.Path.{_≡_}
+use mathlib.Core.List.{List, [], _∷_, _++_, map, flatten}
 use Prim.Native.Nat.{ℕ, suc}
-use lib.ListN.{length}
+use lib.ListN.{length, getD}
+use Rattle.integers.specs.Lists.{upTo}
 use Rattle.plane.specs.Plane.{Pt}
 use Rattle.table.specs.declared.IntRect.{IntRect}
 use Rattle.text.specs.Text.{decimal, signedDecimal, space, newline, cornersWord, cornersText}
@@ -46,3 +48,11 @@ pairLinesFrom reflected i (a ∷ ls) rs = rowLines i 0 (map (pairContour reflect
 -- "one line a pair"
 unfoldable pub pairLines : Bool → List (List Pt) → List (List Pt) → List ℕ
 pairLines reflected ls rs = pairLinesFrom reflected 0 ls rs
+
+-- ---- the order: "one line a pair", left part 0 with each right part, then left part 1 ..
+
+abbrev pub LinesInOrder : Type 0
+LinesInOrder =
+    (reflected : Bool) (ls rs : List (List Pt)) →
+    pairLines reflected ls rs
+    ≡ flatten (map (λ i. flatten (map (λ j. pairLine i j (pairContour reflected (getD ls i []) (getD rs j []))) (upTo (length rs)))) (upTo (length ls)))
