@@ -1,55 +1,24 @@
 -- The listing (document 01, "The file and its listing"): the bytes that the area program prints. Assumes nothing.
 use mathlib.Core.Bool.{cond}
-use mathlib.Core.List.{List, [], _∷_, _++_, map, flatten}
-use Prim.Native.Nat.{ℕ, zero, suc, _+_, _*_, _/_, _%_}
-use lib.Dec.{eqb, ltb}
+use mathlib.Core.List.{List, [], _∷_, _++_, flatten}
+use Prim.Native.Nat.{ℕ, suc, _+_, _*_, _/_}
+use lib.Dec.{eqb}
 use lib.ListN.{length}
-use lib.IntN.{ℤ, pos, negsuc, natAbs}
+use lib.IntN.{natAbs}
 use Rattle.plane.specs.Plane.{Pt}
 use Rattle.plane.specs.Contour.{contourArea}
+use Rattle.text.specs.Text.{decimal, space, newline, cornersWord, cornersText, refusal}
 use Rattle.split.specs.Splitting.{splitParts}
 use Rattle.listing.specs.File.{fileFault, meshOf, cornerLimit, splitNumber, strategyOf}
 
--- ---- numbers as text
+-- ---- words of the listing
 
--- the digits of n before the text t; k is how many there are at the most
-unfoldable pub digits : ℕ → ℕ → List ℕ → List ℕ
-digits zero n t = t
-digits (suc k) n t = cond (ltb n 10) ((48 + n) ∷ t) (digits k (n / 10) ((48 + n % 10) ∷ t))
-
--- every number of the listing is below 2^63, so 20 digits are enough (proofs/Digits.antt)
-abbrev pub decimal : ℕ → List ℕ
-decimal n = digits 20 n []
-
--- a minus before a negative number
-unfoldable pub signedDecimal : ℤ → List ℕ
-signedDecimal (pos n) = decimal n
-signedDecimal (negsuc n) = 45 ∷ decimal (suc n)
-
--- ---- words and signs of the listing
-
-abbrev pub space : List ℕ
-space = 32 ∷ []
-
-abbrev pub newline : List ℕ
-newline = 10 ∷ []
-
--- "parts ", " corners ", " area2 ", "refused "
+-- "parts ", " area2 "; " corners " is text's
 abbrev pub partsWord : List ℕ
 partsWord = 112 ∷ 97 ∷ 114 ∷ 116 ∷ 115 ∷ 32 ∷ []
 
-abbrev pub cornersWord : List ℕ
-cornersWord = 32 ∷ 99 ∷ 111 ∷ 114 ∷ 110 ∷ 101 ∷ 114 ∷ 115 ∷ 32 ∷ []
-
 abbrev pub areaWord : List ℕ
 areaWord = 32 ∷ 97 ∷ 114 ∷ 101 ∷ 97 ∷ 50 ∷ 32 ∷ []
-
-abbrev pub refusedWord : List ℕ
-refusedWord = 114 ∷ 101 ∷ 102 ∷ 117 ∷ 115 ∷ 101 ∷ 100 ∷ 32 ∷ []
-
--- " (x,y)"
-unfoldable pub cornerText : Pt → List ℕ
-cornerText p = (32 ∷ 40 ∷ signedDecimal (p .x)) ++ (44 ∷ signedDecimal (p .y)) ++ (41 ∷ [])
 
 -- ---- areas and shares
 
@@ -76,7 +45,7 @@ headLine ps =
 unfoldable pub partLine : ℕ → ℕ → List Pt → List ℕ
 partLine total k p =
     decimal k ++ (space ++ decimal (length p)) ++ (space ++ decimal (areaOf p)) ++ (space ++ decimal (shareOf total (areaOf p)))
-    ++ flatten (map cornerText p) ++ newline
+    ++ cornersText p ++ newline
 
 unfoldable pub partLines : ℕ → ℕ → List (List Pt) → List ℕ
 partLines total k [] = []
@@ -84,10 +53,6 @@ partLines total k (p ∷ ps) = partLine total k p ++ partLines total (suc k) ps
 
 unfoldable pub listingOf : List (List Pt) → List ℕ
 listingOf ps = headLine ps ++ partLines (totalArea ps) 0 ps
-
--- "A refusal prints `refused` and the number."
-unfoldable pub refusal : ℕ → List ℕ
-refusal f = refusedWord ++ decimal f ++ newline
 
 -- what the area program prints for a file
 unfoldable pub areasOf : List ℕ → List ℕ

@@ -16,7 +16,8 @@ use judge::Fault;
 /// The definitions' names, here and in `DECLARATIONS`.
 const USES: &str = "\
 use Rattle.listing.specs.File.{fileFault}
-use Rattle.listing.specs.Listing.{digits, areasOf}
+use Rattle.listing.specs.Listing.{areasOf}
+use Rattle.text.specs.Text.{digits}
 ";
 
 const DECLARATIONS: &str = "

@@ -71,7 +71,8 @@ pub mod layers {
     }
 
     pub fn listing() -> Vec<Module> {
-        over(split(), &[("listing", "File"), ("listing", "Listing")])
+        let own = [("text", "Text"), ("listing", "File"), ("listing", "Listing")];
+        over(split(), &own)
     }
 
     pub fn pair() -> Vec<Module> {

@@ -9,7 +9,7 @@ use native.Mathlib.Nat.{pow-suc}
 use borrow.Author.Tests.{ltb-true, ltb-false}
 use lib.Dec.{ltb, lit<}
 use Rattle.integers.proofs.Order.{by-test}
-use Rattle.listing.specs.Listing.{digits, decimal}
+use Rattle.text.specs.Text.{digits, decimal}
 
 -- a tenth of what is below 10^(k + 1) is below 10^k
 tenth : (k n : ℕ) → n < 10 ^ suc k → n / 10 < 10 ^ k

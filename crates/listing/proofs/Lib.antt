@@ -1,2 +1,0 @@
--- Laws of the listing.
-pub mod Digits

@@ -1,0 +1,2 @@
+-- The lines of all pairs of two operands.
+pub mod Lines

@@ -1,0 +1,2 @@
+-- Laws of numbers and corners as text.
+pub mod Digits
