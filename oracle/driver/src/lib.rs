@@ -14,6 +14,7 @@
 //! - `walk`: one walk begun, its point, edge and advance, a walk stepped; a pair
 //!   begun, stepped, and stepped to its end
 //! - `pairs`: `sum_parts`, `difference_parts`
+//! - `listing`: the text that the area program prints for a file
 //! - `sample_bytes`: the bytes of those two samples
 //! - `boundary`: the C functions of the Rattle archive and the list of entry
 //!   points, where it is linked
@@ -22,6 +23,7 @@
 //! in the list of `boundary`.
 
 pub mod entry;
+pub mod listing;
 pub mod mesh;
 pub mod mesh_sample;
 pub mod pairs;
