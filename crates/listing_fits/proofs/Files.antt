@@ -62,7 +62,7 @@ module _ (how : ConvexSplitStrategy) (m : ℕ) (mesh : Mesh) (h : firstFault (me
   split-fits : length (listingOf ps) ≤ 233522
   split-fits = let t = split-table how m mesh h in listing-size ps (t .few-parts) (t .few-corners) (listing-total how m mesh h .fits) split-plain
 
-  split-listable : Listable (startsOf ps) (cornersOf ps)
+  pub split-listable : Listable (startsOf ps) (cornersOf ps)
   unfolding cornersOf offRange
   split-listable = record {
     whole = split-table how m mesh h .table;

@@ -12,8 +12,6 @@ ghost use Rattle.minkowski.specs.Pairs.{resultBounds};
 ghost use Rattle.minkowski_faults.specs.Kinds.{operand, operandKinds};
 use table::IntRect;
 
-pub const FAULT_EMPTY: u32 = 20;
-
 // Whether some bound is not strictly between the limits.
 fn bounds_off(b: IntRect) -> bool
     ensures { λ r. ⌜ r ≡ offRange (boundsList b) ⌝ }

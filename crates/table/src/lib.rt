@@ -15,16 +15,6 @@ pub const MAX_CORNERS: usize = 8192;
 
 pub const MAX_CONTOUR: usize = 1026;
 
-pub const FAULT_RULES: u32 = 7;
-
-pub const FAULT_BOUNDS: u32 = 9;
-
-pub const FAULT_PART: u32 = 12;
-
-pub const FAULT_CORNER_ROOM: u32 = 21;
-
-pub const FAULT_START_ROOM: u32 = 22;
-
 // What a call that writes a table answers: the fault number, 0 for none, and how many parts and corners were written, 0 where it refused.
 #[repr(C)]
 pub struct Counts {

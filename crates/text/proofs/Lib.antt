@@ -6,3 +6,4 @@ pub mod Corners
 pub mod Sizes
 pub mod Puts
 pub mod Signed
+pub mod Refusals

@@ -7,7 +7,7 @@ ghost use Prim.Native.Nat.{_+_, _≤_};
 ghost use lib.ListN.{length};
 ghost use lib.IntN.{natAbs};
 ghost use Rattle.table.specs.Table.{pointsOf};
-ghost use Rattle.text.specs.Text.{decimal, signedDecimal, cornerText, cornersText};
+ghost use Rattle.text.specs.Text.{decimal, signedDecimal, cornerText, cornersText, refusal};
 ghost use Rattle.text.specs.Put.{PutText};
 
 // The bytes as they are.
@@ -95,4 +95,14 @@ pub fn put_corners(corners: &[i32], out: &mut [u8], at: usize) -> usize
         k += 1;
     }
     after
+}
+
+// "refused", the number and the line's end (document 01, "The file and its listing").
+pub fn put_refusal(fault: u32, out: &mut [u8], at: usize) -> usize
+    requires { ⌜ at + length (refusal fault) ≤ length (now out) ⌝ }
+    ensures { λ r. ⌜ PutText (refusal fault) at (now (out .entry)) (now (out .exit)) r ⌝ }
+{
+    let word = put_bytes(b"refused ", out, at);
+    let number = put_decimal(fault as u64, out, word);
+    put_bytes(b"\n", out, number)
 }

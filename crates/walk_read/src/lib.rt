@@ -13,10 +13,6 @@ use pair::Place;
 use plane::IntPoint;
 use table::MAX_CONTOUR;
 
-pub const FAULT_EMPTY: u32 = 20;
-
-pub const FAULT_PLACE: u32 = 23;
-
 // How many corners a contour has; a last x without its y is no corner.
 pub fn corner_count(contour: &[i32]) -> usize
     ensures { λ r. ⌜ r ≡ length (pointsOf (now (contour .entry))) ⌝ }

@@ -1,6 +1,7 @@
 //! The C functions of the Rattle archive, and the list of entry points.
 
 use crate::entry::{run, Report};
+use crate::listing::{listing_beside, TEXT};
 use crate::mesh::{mesh_fault_beside, to_convex_polygons_beside, Row};
 use crate::pairs::{difference_parts_beside, sum_parts_beside, Bounds, ToldPairs};
 use crate::plane::{angle_cmp_beside, area_two_beside, cross_product_beside};
@@ -20,6 +21,7 @@ use judge::Point;
 mod archive {
     use super::{Bounds, Counts, Place, Places, Row, Told, ToldPairs};
     use super::{ToldEdge, ToldNext, ToldPair, ToldPlace, ToldPoint, ToldStep};
+    use crate::listing::TEXT;
     use crate::table::ToldLength;
 
     extern "C" {
@@ -133,6 +135,7 @@ mod archive {
             corners: *mut i32,
             corners_lent: usize,
         ) -> ToldPairs;
+        pub fn beside_listing(bytes: *const u8, bytes_length: usize, out: *mut [u8; TEXT]) -> usize;
         pub fn beside_difference_parts(
             left_starts: *const u32,
             left_starts_length: usize,
@@ -181,6 +184,7 @@ pub const ENTRY_POINTS: &[fn(u64, u64) -> Report] = &[
     },
     |seed, count| run(&sum_parts_beside(sum_parts), seed, count),
     |seed, count| run(&difference_parts_beside(difference_parts), seed, count),
+    |seed, count| run(&listing_beside(listing), seed, count),
 ];
 
 // Safe: the functions take and return plain numbers, or slices as their place and
@@ -449,4 +453,8 @@ fn difference_parts(
     corners: &mut [i32],
 ) -> Kept<ToldPairs> {
     on_operands(archive::beside_difference_parts, l, r, starts, corners)
+}
+
+fn listing(bytes: &[u8], out: &mut [u8; TEXT]) -> usize {
+    unsafe { archive::beside_listing(bytes.as_ptr(), bytes.len(), out) }
 }

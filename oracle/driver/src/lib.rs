@@ -12,6 +12,7 @@
 //! - `walk`: one walk begun, its point, edge and advance, a walk stepped; a pair
 //!   begun, stepped, and stepped to its end
 //! - `pairs`: `sum_parts`, `difference_parts`
+//! - `listing`: the text that the area program prints for a file
 //! - `sample`: what a stored sample is, and `SAMPLES`, all of them: `plane_sample`,
 //!   `table_sample`, `mesh_sample`, `split_sample`
 //! - `boundary`: the C functions of the Rattle archive and the list of entry
@@ -21,6 +22,7 @@
 //! in the list of `boundary`.
 
 pub mod entry;
+pub mod listing;
 pub mod mesh;
 mod mesh_sample;
 pub mod pairs;
