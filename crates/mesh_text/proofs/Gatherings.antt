@@ -21,7 +21,7 @@ use Rattle.mesh_text.specs.declared.Reading.{Reading}
 use Rattle.mesh_text.specs.Text.{fits, wrongFrom, wrongLine, telling, lineWords}
 use Rattle.mesh_text.specs.Gathering.{wordsFrom, Taken, Gathered}
 
-true-false : true ≡ false → ⊥
+pub true-false : true ≡ false → ⊥
 true-false q = let z : _≡_ {A = ℕ} 0 1 = ap (λ t. cond t 0 1) q in omega arith
 
 -- ---- a line
@@ -36,7 +36,7 @@ module _ (l : List ℕ) (ls : List (List ℕ)) where
     unfolding wordsFrom
     words-passed k = rw e
 
-    wrong-passed : (k n : ℕ) → wrongFrom k n (l ∷ ls) ≡ wrongFrom k (n + 1) ls
+    pub wrong-passed : (k n : ℕ) → wrongFrom k n (l ∷ ls) ≡ wrongFrom k (n + 1) ls
     unfolding wrongFrom
     wrong-passed k n = rw e
 
@@ -49,7 +49,7 @@ module _ (l : List ℕ) (ls : List (List ℕ)) where
     unfolding wordsFrom
     words-more k = rw e
 
-    wrong-more : (k n : ℕ) → wrongFrom k n (l ∷ ls) ≡ cond (fits k l) (wrongFrom (k + 1) (n + 1) ls) (n + 1)
+    pub wrong-more : (k n : ℕ) → wrongFrom k n (l ∷ ls) ≡ cond (fits k l) (wrongFrom (k + 1) (n + 1) ls) (n + 1)
     unfolding wrongFrom
     wrong-more k n = rw e
 
@@ -59,7 +59,7 @@ pub fits-many : (k : ℕ) (l : List ℕ) → (k ≡ 0 → ⊥) → 1025 < k → 
 unfolding fits
 fits-many k l h g = rw (ne-eqb k 0 h, lt-ltb 1025 k g)
 
-fits-few : (k : ℕ) (l : List ℕ) → fits k l ≡ true → k ≤ 1025
+pub fits-few : (k : ℕ) (l : List ℕ) → fits k l ≡ true → k ≤ 1025
 fits-few k l e =
     by-test (eqb k 0)
     (λ z. omega (arith, eqb-true k 0 z))
@@ -73,6 +73,14 @@ pub put-next : (k : ℕ) (l : List ℕ) {old new : List ℕ} {r : Bool} → (k �
     → Put (fits k l) (lineWords k l) (9 * k - 7) old new r
 unfolding fits lineWords
 put-next k l h g p = rw (ne-eqb k 0 h, le-ltb 1025 k g) p
+
+pub fits-head : (l : List ℕ) → fits 0 l ≡ true → isHead l ≡ true
+unfolding fits
+fits-head l e = e
+
+pub fits-triangle : (k : ℕ) (l : List ℕ) → fits (k + 1) l ≡ true → isTriangle l ≡ true
+unfolding fits
+fits-triangle k l e = rw (ne-eqb (k + 1) 0 (λ z. omega arith), le-ltb 1025 (k + 1) (fits-few (k + 1) l e)) at e
 
 -- behind k lines 9 k - 7 words are gathered: none, 2, 11, ..
 line-size : (k : ℕ) (l : List ℕ) → 9 * k - 7 + length (lineWords k l) ≡ 9 * (k + 1) - 7
