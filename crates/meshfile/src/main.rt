@@ -1,4 +1,4 @@
-// meshfile: turns a mesh written by hand, on standard input, into a mesh file on standard output.
+// Turns a mesh written by hand, on standard input, into a mesh file on standard output.
 // A text that is not as a mesh is written is refused by its first wrong line, on standard error, and nothing is written. Leans on mesh_text, input and lines.
 use mesh_text::Converted;
 
