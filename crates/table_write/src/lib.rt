@@ -36,14 +36,14 @@ fn write_fault(starts: &[u32], corners: &[i32], room: usize) -> u32
     0
 }
 
-// Writes the starts as words from word 2 on.
-fn write_starts(starts: &[u32], bytes: &mut [u8])
-    requires { ⌜ 4 * (length (now starts) + 2) ≤ length (now bytes) ⌝ }
-    ensures { λ _. ⌜ now (bytes .exit) ≡ putWords 2 (now (starts .entry)) (now (bytes .entry)) ⌝ }
+// Writes the words from word `from` on.
+pub fn write_words(words: &[u32], from: usize, bytes: &mut [u8])
+    requires { ⌜ 4 * (from + length (now words)) ≤ length (now bytes) ⌝ }
+    ensures { λ _. ⌜ now (bytes .exit) ≡ putWords from (now (words .entry)) (now (bytes .entry)) ⌝ }
 {
     let mut i = 0;
-    while i < starts.len() {
-        put_word(bytes, i + 2, starts[i]);
+    while i < words.len() {
+        put_word(bytes, from + i, words[i]);
         i += 1;
     }
 }
@@ -76,7 +76,7 @@ pub fn write_table(starts: &[u32], corners: &[i32], bytes: &mut [u8]) -> Stored
     let count = corners.len() / 2;
     put_word(bytes, 0, (starts.len() - 1) as u32);
     put_word(bytes, 1, count as u32);
-    write_starts(starts, bytes);
+    write_words(starts, 2, bytes);
     write_corners(corners, starts.len() + 2, bytes);
     Stored {
         fault: number,

@@ -47,8 +47,8 @@ put-word-requires-2 c κs =
     let w = writes _ _ _ (sym (f .before .write-fault .ensures) ∙ f .if1 .left) in
     omega (arith, put-whole-length 0 _ _ (omega arith) (p .put-word .ensures))
 
-write-starts-requires : tie.Need-write-starts-requires
-write-starts-requires c κs =
+write-words-requires : tie.Need-write-words-requires
+write-words-requires c κs =
     let q = c .before .before .before in
     let p = q .before .before .before .before in
     let f = p .before .before in
@@ -69,7 +69,7 @@ write-corners-requires c κs =
     let w = writes _ _ _ (sym (f .before .write-fault .ensures) ∙ f .if1 .left) in
     let l₁ = put-whole-length 0 _ _ (omega arith) (p .put-word .ensures) in
     let l₂ = put-whole-length 1 _ _ (omega arith) (q .put-word2 .ensures) in
-    let l₃ = put-whole-length 2 _ _ (omega arith) (s .write-starts .ensures) in
+    let l₃ = put-whole-length 2 _ _ (omega arith) (s .write-words .ensures) in
     omega arith
 
 mul-t6 : tie.Need-mul-t6
@@ -105,7 +105,7 @@ returns-2 c =
     let a = f .before .before .before .before .args in
     let w = writes _ _ _ (sym (f .before .write-fault .ensures) ∙ f .if1 .left) in
     accepted-write (a .starts .now) (a .corners .now) (a .bytes .now) (f .before .write-fault .ensures) (f .if1 .left)
-    (put-table (a .starts .now) (a .corners .now) (a .bytes .now) (w .fits) refl refl (p .put-word .ensures) (q .put-word2 .ensures) (s .write-starts .ensures) (z .write-corners .ensures))
+    (put-table (a .starts .now) (a .corners .now) (a .bytes .now) (w .fits) refl refl (p .put-word .ensures) (q .put-word2 .ensures) (s .write-words .ensures) (z .write-corners .ensures))
 
 pub write-table-spec : {M : Type 1} → statement M
 write-table-spec =
@@ -118,7 +118,7 @@ write-table-spec =
     put-word-requires
     cast-put-word-2
     put-word-requires-2
-    write-starts-requires
+    write-words-requires
     add-write-corners
     write-corners-requires
     mul-t6

@@ -1,24 +1,23 @@
--- `table_write::write_starts` meets its contract. The loop's invariant: the first i starts stand from word 2 on. Assumes nothing.
+-- `table_write::write_words` meets its contract. The loop's invariant: the first i words stand from word `from` on. Assumes nothing.
 use mathlib.Core.Path.{_≡_, refl, sym}
 use Prim.Native.Nat.{_+_, _≤_, _-_}
-use native.Mathlib.Nat.{add-comm}
 use native.Mathlib.Omega.{arith}
 use borrow.Author.Needs.{needs}
 use lib.ListN.{length, take}
 use Rattle.table_words.specs.Place.{putWords}
 use Rattle.table_words.proofs.Places.{put-none}
 use Rattle.table_write.proofs.Writing.{put-more, put-length, put-all}
-use Rattle.table_write.proofs.write_starts.Statement.{statement}
-use Rattle.table_write.proofs.write_starts.Tie as tie
+use Rattle.table_write.proofs.write_words.Statement.{statement}
+use Rattle.table_write.proofs.write_words.Tie as tie
 
 abbrev Inv-loop : tie.InvT-loop
-Inv-loop starts bytes₀ i₀ bytes i = (i ≤ length starts) × (length bytes ≡ length bytes₀) × (bytes ≡ putWords 2 (take i starts) bytes₀)
+Inv-loop words from bytes₀ i₀ bytes i = (i ≤ length words) × (length bytes ≡ length bytes₀) × (bytes ≡ putWords from (take i words) bytes₀)
 
 abbrev μ-loop : tie.MeasureT-loop
-μ-loop starts bytes₀ i₀ bytes i = length starts - i
+μ-loop words from bytes₀ i₀ bytes i = length words - i
 
 loop-holds : tie.Need-loop-holds Inv-loop μ-loop
-loop-holds c = (omega arith, refl, sym (put-none 2 _))
+loop-holds c = (omega arith, refl, sym (put-none _ _))
 
 add-put-word : tie.Need-add-put-word Inv-loop μ-loop
 add-put-word c = search needs
@@ -45,8 +44,8 @@ loop-again c =
     let l = test .before in
     let s = l .before .before .before in
     let i = l .loop .i in
-    let e = put-more 2 (s .args .starts .now) (s .args .bytes .now) i (test .loop-test .taken) (omega arith) (l .loop .inv .2) (add-comm i 2) refl (w .put-word .ensures) in
-    (omega arith, put-length 2 (s .args .starts .now) (s .args .bytes .now) (i + 1) (omega arith) (omega arith) e, e)
+    let e = put-more (s .args .from) (s .args .words .now) (s .args .bytes .now) i (test .loop-test .taken) (omega arith) (l .loop .inv .2) refl refl (w .put-word .ensures) in
+    (omega arith, put-length (s .args .from) (s .args .words .now) (s .args .bytes .now) (i + 1) (omega arith) (omega arith) e, e)
 
 same-length : tie.Need-same-length Inv-loop μ-loop
 same-length c = search needs
@@ -54,10 +53,10 @@ same-length c = search needs
 returns : tie.Need-returns Inv-loop μ-loop
 returns c =
     let s = c .before .before .before .before .args in
-    put-all 2 (s .starts .now) (s .bytes .now) (c .before .loop .i) (c .loop-test .left) (c .before .loop .inv .2)
+    put-all (s .from) (s .words .now) (s .bytes .now) (c .before .loop .i) (c .loop-test .left) (c .before .loop .inv .2)
 
-pub write-starts-spec : {M : Type 1} → statement M
-write-starts-spec =
+pub write-words-spec : {M : Type 1} → statement M
+write-words-spec =
     tie.close
     (tie.spec
     Inv-loop

@@ -1,0 +1,2 @@
+-- Numbers in decimal.
+pub mod Numbers

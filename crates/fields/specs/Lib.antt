@@ -1,0 +1,2 @@
+-- Lines and fields of a text.
+pub mod Fields

@@ -1,0 +1,60 @@
+-- `mesh_lines::put_neighbours` meets its contract: one put after another. Assumes nothing.
+use mathlib.Core.Path.{refl}
+use native.Mathlib.Omega.{arith}
+use borrow.Author.Needs.{needs}
+use Rattle.mesh_fields.proofs.Puts.{put-then, put-stops}
+use Rattle.mesh_lines.specs.Lines.{areNeighbours}
+use Rattle.mesh_lines.proofs.put_neighbours.Statement.{statement}
+use Rattle.mesh_lines.proofs.put_neighbours.Tie as tie
+
+put-neighbour-at-requires : tie.Need-put-neighbour-at-requires
+put-neighbour-at-requires c κs = search needs
+
+add-put-neighbour-at : tie.Need-add-put-neighbour-at
+add-put-neighbour-at c = search needs
+
+put-neighbour-at-requires-2 : tie.Need-put-neighbour-at-requires-2
+put-neighbour-at-requires-2 c κs = search needs
+
+add-put-neighbour-at-2 : tie.Need-add-put-neighbour-at-2
+add-put-neighbour-at-2 c = search needs
+
+put-neighbour-at-requires-3 : tie.Need-put-neighbour-at-requires-3
+put-neighbour-at-requires-3 c κs = search needs
+
+same-length : tie.Need-same-length
+same-length c = search needs
+
+returns : tie.Need-returns
+unfolding areNeighbours
+returns c = put-then (c .before .before .before .before .before .before .before .before .before .before .before .before .put-neighbour-at .ensures) (c .before .before .before .before .before .before .before .before .before .if1 .taken) refl (put-then (c .before .before .before .before .before .before .before .put-neighbour-at2 .ensures) (c .before .before .before .before .if2 .taken) (omega arith) (c .before .before .put-neighbour-at3 .ensures))
+
+same-length-2 : tie.Need-same-length-2
+same-length-2 c = search needs
+
+returns-2 : tie.Need-returns-2
+unfolding areNeighbours
+returns-2 c = put-then (c .before .before .before .before .before .before .before .before .put-neighbour-at .ensures) (c .before .before .before .before .before .if1 .taken) refl (put-stops (c .before .before .before .put-neighbour-at2 .ensures) _ _ (c .if2 .left))
+
+same-length-3 : tie.Need-same-length-3
+same-length-3 c = search needs
+
+returns-3 : tie.Need-returns-3
+unfolding areNeighbours
+returns-3 c = put-stops (c .before .before .before .put-neighbour-at .ensures) _ _ (c .if1 .left)
+
+pub put-neighbours-spec : {M : Type 1} → statement M
+put-neighbours-spec =
+    tie.close
+    (tie.spec
+    put-neighbour-at-requires
+    add-put-neighbour-at
+    put-neighbour-at-requires-2
+    add-put-neighbour-at-2
+    put-neighbour-at-requires-3
+    same-length
+    returns
+    same-length-2
+    returns-2
+    same-length-3
+    returns-3)

@@ -1,0 +1,4 @@
+-- Laws: a text gathered line by line; what is written of it; a text that is accepted.
+pub mod Gatherings
+pub mod Writing
+pub mod Accepted

@@ -1,0 +1,33 @@
+-- What is gathered of a text line by line, as the inner functions promise it. Assumes nothing.
+use mathlib.Core.Path.{_≡_}
+use mathlib.Core.Bool.{true, cond}
+use mathlib.Core.List.{List, [], _∷_, _++_}
+use Prim.Native.Nat.{ℕ, _+_, _*_, _-_, _≤_}
+use lib.ListN.{length, take}
+use Rattle.fields.specs.Fields.{linesOf}
+use Rattle.mesh_lines.specs.Lines.{isPassedOver}
+use Rattle.mesh_text.specs.declared.Step.{Step}
+use Rattle.mesh_text.specs.declared.Reading.{Reading}
+use Rattle.mesh_text.specs.Text.{wrongFrom, wrongLine, telling, lineWords}
+
+-- the words of lines behind k that said something
+unfoldable pub wordsFrom : ℕ → List (List ℕ) → List ℕ
+wordsFrom k [] = []
+wordsFrom k (l ∷ ls) = cond (isPassedOver l) (wordsFrom k ls) (lineWords k l ++ wordsFrom (k + 1) ls)
+
+-- what taking line l does, whatever lines ls follow: behind k lines 9 k - 7 words are gathered
+pub record Taken (l : List ℕ) (k : ℕ) (old new : List ℕ) (r : Step) : Type 0 where
+  pub judged : (n : ℕ) (ls : List (List ℕ)) → wrongFrom k n (l ∷ ls) ≡ cond (r .right) (wrongFrom (r .count) (n + 1) ls) (n + 1)
+  pub words : r .right ≡ true → (ls : List (List ℕ)) → take (9 * k - 7) old ++ wordsFrom k (l ∷ ls) ≡ take (9 * r .count - 7) new ++ wordsFrom (r .count) ls
+  pub lines : r .right ≡ true → (ls : List (List ℕ)) → k + length (telling (l ∷ ls)) ≡ r .count + length (telling ls)
+  pub few : r .right ≡ true → r .count ≤ 1026
+  pub as-many : length new ≡ length old
+
+-- what is gathered of a whole text
+pub record Gathered (text old new : List ℕ) (r : Reading) : Type 0 where
+  pub judged : r .wrong ≡ wrongLine text
+  pub lines : r .wrong ≡ 0 → r .count ≡ length (telling (linesOf text))
+  pub words : r .wrong ≡ 0 → take (9 * r .count - 7) new ≡ wordsFrom 0 (linesOf text)
+  pub some : r .wrong ≡ 0 → 1 ≤ r .count
+  pub few : r .wrong ≡ 0 → r .count ≤ 1026
+  pub as-many : length new ≡ length old

@@ -1,0 +1,4 @@
+-- A mesh written by hand: what its text says and which line is wrong; what is gathered of it; what it is turned into; what the file reads back as.
+pub mod Text
+pub mod Gathering
+pub mod Conversion

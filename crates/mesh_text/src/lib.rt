@@ -1,0 +1,152 @@
+// A mesh written by hand turned into a mesh file: `to_mesh_file`, of any bytes. Its answer and the lent bytes as it returns equal `conversion` and
+// `bytesConverted` of specs/Conversion.antt: a text that is not as a mesh is written is refused by its first wrong line and changes nothing. The words
+// are gathered line by line and written once the whole text is judged. Leans on mesh_lines, fields, table_write and table_words.
+ghost use mathlib.Core.Path.{_≡_};
+ghost use mathlib.Core.List.{_∷_};
+ghost use Prim.Native.Nat.{_+_, _*_, _-_, _≤_};
+ghost use lib.ListN.{length};
+ghost use Rattle.integers.specs.Lists.{overlay};
+ghost use Rattle.table.specs.Stored.{wordBytes};
+ghost use Rattle.mesh_fields.specs.Put.{Put};
+ghost use Rattle.mesh_text.specs.Text.{fits, lineWords};
+ghost use Rattle.mesh_text.specs.Gathering.{Taken, Gathered};
+ghost use Rattle.mesh_text.specs.Conversion.{conversion, bytesConverted};
+use fields::Run;
+
+// The longest text that is read: 1,025 of the longest lines take less than half of it.
+pub const MAX_TEXT: usize = 262144;
+
+// One triangle more than a mesh may have, so that fault 1 can be written.
+const MAX_TRIANGLES: usize = 1025;
+
+// The bytes of the longest file, 20 + 36 for each triangle, and the words of it that are gathered: two of the first line, nine of each triangle.
+pub const FILE_ROOM: usize = 36920;
+
+const GATHER_ROOM: usize = 9227;
+
+// The bytes of the header and of a record, and where the records begin (document 01).
+const HEADER: usize = 20;
+
+const RECORD: usize = 36;
+
+// What a text was turned into: a file of so many bytes; or what it was refused by: its first wrong line, counted from 1, or its length.
+pub enum Converted {
+    Written(usize),
+    Wrong(usize),
+    TooLong,
+}
+
+// A line was taken, or is wrong; and how many lines that say something have been taken with it.
+pub struct Step {
+    pub right: bool,
+    pub count: usize,
+}
+
+// The first wrong line, 0 for none, and how many lines said something.
+pub struct Reading {
+    pub wrong: usize,
+    pub count: usize,
+}
+
+// Puts the words of line number `count` of those that say something: the first line's, or a triangle's.
+fn put_line(line: &[u8], count: usize, words: &mut [u32]) -> bool
+    requires { ⌜ 9227 ≤ length (now words) ⌝ }
+    ensures { λ r. ⌜ Put (fits count (now (line .entry))) (lineWords count (now (line .entry))) (9 * count - 7) (now (words .entry)) (now (words .exit)) r ⌝ }
+{
+    if count == 0 {
+        return mesh_lines::put_head(line, words);
+    }
+    if count > MAX_TRIANGLES {
+        return false;
+    }
+    mesh_lines::put_triangle(line, 9 * count - 7, words)
+}
+
+// Takes a line, behind `count` that say something.
+fn take_line(line: &[u8], count: usize, words: &mut [u32]) -> Step
+    requires { ⌜ (9227 ≤ length (now words)) × (count ≤ 1026) ⌝ }
+    ensures { λ r. ⌜ Taken (now (line .entry)) count (now (words .entry)) (now (words .exit)) r ⌝ }
+{
+    if mesh_lines::passed_over(line) {
+        return Step {
+            right: true,
+            count: count,
+        };
+    }
+    if put_line(line, count, words) {
+        return Step {
+            right: true,
+            count: count + 1,
+        };
+    }
+    Step {
+        right: false,
+        count: count,
+    }
+}
+
+// Gathers the words of every line, up to the first that is wrong.
+fn gather(text: &[u8], words: &mut [u32]) -> Reading
+    requires { ⌜ (9227 ≤ length (now words)) × (length (now text) ≤ 262144) ⌝ }
+    ensures { λ r. ⌜ Gathered (now (text .entry)) (now (words .entry)) (now (words .exit)) r ⌝ }
+{
+    let mut at = 0;
+    let mut line: usize = 0;
+    let mut count: usize = 0;
+    while at < text.len() {
+        let end = fields::run_end(Run::Line, text, at);
+        let step = take_line(&text[at..end], count, words);
+        line += 1;
+        if step.right {
+            count = step.count;
+            at = end + 1;
+        } else {
+            return Reading {
+                wrong: line,
+                count: 0,
+            };
+        }
+    }
+    if count == 0 {
+        return Reading {
+            wrong: line + 1,
+            count: 0,
+        };
+    }
+    Reading {
+        wrong: 0,
+        count: count,
+    }
+}
+
+// Writes the file of so many triangles whose words from the corner limit on are gathered; answers how many bytes it has.
+fn write_file(count: usize, gathered: &[u32], out: &mut [u8]) -> usize
+    requires { ⌜ (count ≤ 1025) × (length (now gathered) ≡ 9 * count + 2) × (36920 ≤ length (now out)) ⌝ }
+    ensures told { λ r. ⌜ r ≡ 20 + 36 * count ⌝ }
+    ensures bytes { λ r. ⌜ now (out .exit) ≡ overlay (wordBytes ((20 + 36 * count) ∷ count ∷ 20 ∷ now (gathered .entry))) (now (out .entry)) ⌝ }
+{
+    let total = HEADER + RECORD * count;
+    table_words::put_word(out, 0, total as u32);
+    table_words::put_word(out, 1, count as u32);
+    table_words::put_word(out, 2, HEADER as u32);
+    table_write::write_words(gathered, 3, out);
+    total
+}
+
+// Turns a text into a mesh file on the front of the lent bytes. Refuses a text that is too long, and then by its first wrong line, before the first store.
+pub fn to_mesh_file(text: &[u8], out: &mut [u8; 36920]) -> Converted
+    ensures told { λ r. ⌜ r ≡ conversion (now (text .entry)) ⌝ }
+    ensures bytes { λ r. ⌜ now (out .exit) ≡ bytesConverted (now (text .entry)) (now (out .entry)) ⌝ }
+{
+    if text.len() > MAX_TEXT {
+        return Converted::TooLong;
+    }
+    let mut words = [0u32; 9227];
+    let read = gather(text, &mut words);
+    if read.wrong != 0 {
+        return Converted::Wrong(read.wrong);
+    }
+    let count = read.count - 1;
+    let size = 9 * count + 2;
+    Converted::Written(write_file(count, &words[..size], out))
+}
