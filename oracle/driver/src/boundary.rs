@@ -14,7 +14,7 @@ use crate::walk::{ToldEdge, ToldNext, ToldPair, ToldPlace, ToldPoint, ToldStep};
 use inputs::plane::Four;
 use inputs::table_calls::{Read, Show, Write};
 use inputs::walk_calls::{Begin, Place, Step, Two, TwoAt};
-use judge::pairs::Operand;
+use judge::pairs::{Operand, Operation};
 use judge::shown::Side;
 use judge::Point;
 
@@ -377,7 +377,7 @@ fn pair_next(input: &TwoAt) -> Kept<ToldNext> {
 struct LentOperand {
     starts: Lent<u32>,
     corners: Lent<i32>,
-    bounds: Bounds,
+    bounds: [i32; 4],
 }
 
 impl LentOperand {
@@ -385,8 +385,12 @@ impl LentOperand {
         Self {
             starts: Lent::new(&operand.table.starts, 0xa5a5_0001),
             corners: Lent::numbers(&operand.table.corners),
-            bounds: Bounds(operand.bounds),
+            bounds: operand.bounds,
         }
+    }
+
+    fn lists(&self) -> Lists<'_> {
+        (self.starts.list(), self.corners.list(), self.bounds)
     }
 
     fn kept(&self) -> bool {
@@ -394,48 +398,51 @@ impl LentOperand {
     }
 }
 
-/// A call on two operands; the function that it asks is one of the two below.
+/// An operand's lists as they are lent, and its bounds.
+pub type Lists<'a> = (&'a [u32], &'a [i32], [i32; 4]);
+
+/// `sum_parts` or `difference_parts`, the memory lent as it is given.
+pub fn all_pairs(
+    operation: Operation,
+    left: Lists,
+    right: Lists,
+    starts: &mut [u32],
+    corners: &mut [i32],
+) -> ToldPairs {
+    let asked = match operation {
+        Operation::Sum => archive::beside_sum_parts,
+        Operation::Difference => archive::beside_difference_parts,
+    };
+    unsafe {
+        asked(
+            left.0.as_ptr(),
+            left.0.len(),
+            left.1.as_ptr(),
+            left.1.len(),
+            Bounds(left.2),
+            right.0.as_ptr(),
+            right.0.len(),
+            right.1.as_ptr(),
+            right.1.len(),
+            Bounds(right.2),
+            starts.as_mut_ptr(),
+            starts.len(),
+            corners.as_mut_ptr(),
+            corners.len(),
+        )
+    }
+}
+
+/// The same on operands whose lists are lent with unlent numbers about them.
 fn on_operands(
-    asked: unsafe extern "C" fn(
-        *const u32,
-        usize,
-        *const i32,
-        usize,
-        Bounds,
-        *const u32,
-        usize,
-        *const i32,
-        usize,
-        Bounds,
-        *mut u32,
-        usize,
-        *mut i32,
-        usize,
-    ) -> ToldPairs,
+    operation: Operation,
     left: &Operand,
     right: &Operand,
     starts: &mut [u32],
     corners: &mut [i32],
 ) -> Kept<ToldPairs> {
     let (left, right) = (LentOperand::new(left), LentOperand::new(right));
-    let told = unsafe {
-        asked(
-            left.starts.list().as_ptr(),
-            left.starts.list().len(),
-            left.corners.list().as_ptr(),
-            left.corners.list().len(),
-            left.bounds,
-            right.starts.list().as_ptr(),
-            right.starts.list().len(),
-            right.corners.list().as_ptr(),
-            right.corners.list().len(),
-            right.bounds,
-            starts.as_mut_ptr(),
-            starts.len(),
-            corners.as_mut_ptr(),
-            corners.len(),
-        )
-    };
+    let told = all_pairs(operation, left.lists(), right.lists(), starts, corners);
     Kept {
         told,
         kept: left.kept() && right.kept(),
@@ -443,7 +450,7 @@ fn on_operands(
 }
 
 fn sum_parts(l: &Operand, r: &Operand, starts: &mut [u32], corners: &mut [i32]) -> Kept<ToldPairs> {
-    on_operands(archive::beside_sum_parts, l, r, starts, corners)
+    on_operands(Operation::Sum, l, r, starts, corners)
 }
 
 fn difference_parts(
@@ -452,7 +459,7 @@ fn difference_parts(
     starts: &mut [u32],
     corners: &mut [i32],
 ) -> Kept<ToldPairs> {
-    on_operands(archive::beside_difference_parts, l, r, starts, corners)
+    on_operands(Operation::Difference, l, r, starts, corners)
 }
 
 fn listing(bytes: &[u8], out: &mut [u8; TEXT]) -> usize {

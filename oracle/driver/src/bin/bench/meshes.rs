@@ -1,10 +1,10 @@
-//! `bench [ROUNDS [joining|splits]]`: times the Rust's `to_convex_polygons` and ours on
-//! the same meshes of 1,024 triangles, and `to_convex_polygons_with_max_vertices` of
-//! both on those, on few triangles and on some, from this one program, and prints our
-//! time over the Rust's. A line for each kind of mesh: the call alone, and with the
-//! checks that accept the mesh, which the Rust has not; both for one mesh again and
-//! again, and for another mesh each time. docs/BENCHMARKS.md says what they show.
+//! Joining and splitting, timed: the Rust's `to_convex_polygons` and ours on the same
+//! meshes of 1,024 triangles, and `to_convex_polygons_with_max_vertices` of both on
+//! those, on few triangles and on some. A line for each kind of mesh: the call alone,
+//! and with the checks that accept the mesh, which the Rust has not; both for one mesh
+//! again and again, and for another mesh each time.
 
+use crate::timing::{median, timed};
 use driver::boundary::{mesh_fault, to_convex_polygons, to_convex_polygons_with_max_vertices};
 use driver::mesh::{rows, Row};
 use driver::told::Counts;
@@ -14,41 +14,37 @@ use inputs::contours;
 use inputs::meshes::{self, Mesh};
 use inputs::rng::Rng;
 use judge::limits::TRIANGLES;
-use std::env;
 use std::hint::black_box;
-use std::time::{Duration, Instant};
 
 /// How many meshes there are of a kind, so many that the processor cannot learn
 /// their branches, as it does of one mesh that comes again and again.
 const MESHES: usize = 64;
 
-/// How often each function is called for a kind of mesh, or a quarter of that for a
-/// kind, a limit and a split.
-const ROUNDS: usize = 2_000;
-
-fn main() {
-    let words: Vec<String> = env::args().skip(1).collect();
-    let rounds = words.first().and_then(|word| word.parse().ok());
-    let rounds = rounds.unwrap_or(ROUNDS);
-    let only = words.get(1).map(String::as_str);
-    println!("our time over the Rust's: the call alone, with the checks");
-    println!("one mesh     another each time");
-    if only != Some("splits") {
-        for (name, kind) in KINDS {
-            print_ratios(*kind, name, &Joining, rounds);
-        }
+/// Joining of every kind of mesh.
+pub fn joining(rounds: usize) {
+    told();
+    for (name, kind) in KINDS {
+        print_ratios(*kind, name, &Joining, rounds);
     }
-    if only != Some("joining") {
-        for (name, kind) in SPLIT_KINDS {
-            for (split, by) in [EarClipping, Fan, Centroid].into_iter().zip(0..) {
-                for limit in [3, 8] {
-                    let call = Splitting { limit, split, by };
-                    let name = format!("{name}; limit {limit}, {split:?}");
-                    print_ratios(*kind, &name, &call, rounds / 4);
-                }
+}
+
+/// Each split, past two limits.
+pub fn splits(rounds: usize) {
+    told();
+    for (name, kind) in SPLIT_KINDS {
+        for (split, by) in [EarClipping, Fan, Centroid].into_iter().zip(0..) {
+            for limit in [3, 8] {
+                let call = Splitting { limit, split, by };
+                let name = format!("{name}; limit {limit}, {split:?}");
+                print_ratios(*kind, &name, &call, rounds / 4);
             }
         }
     }
+}
+
+fn told() {
+    println!("our time over the Rust's: the call alone, with the checks");
+    println!("one mesh     another each time");
 }
 
 fn print_ratios(kind: fn(&mut Rng) -> Mesh, name: &str, call: &impl Call, rounds: usize) {
@@ -232,18 +228,4 @@ fn ratios(all: &[Timed], call: &impl Call, rounds: usize) -> String {
     }
     let [rust, whole, checks] = [rust, whole, checks].map(median);
     format!("{:4.2} {:4.2}", (whole - checks) / rust, whole / rust)
-}
-
-/// How long so many calls take, the freeing of their answers with them.
-fn timed<A>(times: usize, mut call: impl FnMut(usize) -> A) -> Duration {
-    let begun = Instant::now();
-    for k in 0..times {
-        drop(black_box(call(k)));
-    }
-    begun.elapsed()
-}
-
-fn median(mut times: Vec<Duration>) -> f64 {
-    times.sort();
-    times[times.len() / 2].as_secs_f64()
 }
