@@ -2,6 +2,7 @@
 use mathlib.Core.Bool.{Bool, true, false, cond}
 use mathlib.Core.List.{List, [], _∷_}
 use lib.IntN.{ℤ, pos, negsuc}
+use Rattle.integers.specs.Faults.{faultRange, faultTriangles}
 use Rattle.plane.specs.declared.Ordering.{Ordering}
 use Rattle.plane.specs.declared.Ordering.the-variants.{Less, Equal, Greater}
 use Rattle.plane.specs.Plane.{Pt, _-ᵖ_, onGrid, cross, areaTwo, angleCmp}
@@ -14,7 +15,7 @@ allOn (p ∷ l) = cond (onGrid p) (allOn l) false
 
 -- a value, or 2 and the value 0
 unfoldable pub told : Bool → ℤ → Told
-told ok v = cond ok (record { fault = 0; value = v }) (record { fault = 2; value = pos 0 })
+told ok v = cond ok (record { fault = 0; value = v }) (record { fault = faultRange; value = pos 0 })
 
 -- less is -1, equal 0, greater 1
 abbrev pub orderNumber : Ordering → ℤ

@@ -15,9 +15,6 @@ pub struct Told {
     pub value: i64,
 }
 
-// Document 01's fault 2: a coordinate is not strictly between -2^30 and 2^30.
-const OFF_GRID: u32 = 2;
-
 // Whether all three points are on the grid.
 fn three_on_grid(a: IntPoint, b: IntPoint, c: IntPoint) -> bool
     ensures { λ r. ⌜ r ≡ allOn (point a ∷ point b ∷ point c ∷ []) ⌝ }
@@ -62,7 +59,7 @@ fn cross_of_edges(a: IntPoint, b: IntPoint, c: IntPoint, d: IntPoint) -> Told
         };
     }
     Told {
-        fault: OFF_GRID,
+        fault: integers::fault::RANGE,
         value: 0,
     }
 }
@@ -78,7 +75,7 @@ fn area_of_triangle(a: IntPoint, b: IntPoint, c: IntPoint) -> Told
         };
     }
     Told {
-        fault: OFF_GRID,
+        fault: integers::fault::RANGE,
         value: 0,
     }
 }
@@ -95,7 +92,7 @@ fn angle_of_edges(a: IntPoint, b: IntPoint, c: IntPoint, d: IntPoint) -> Told
         };
     }
     Told {
-        fault: OFF_GRID,
+        fault: integers::fault::RANGE,
         value: 0,
     }
 }

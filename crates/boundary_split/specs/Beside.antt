@@ -5,6 +5,7 @@ use mathlib.Core.List.{List, []}
 use Prim.Native.Nat.{ℕ}
 use lib.Dec.{ltb}
 use lib.IntN.{ℤ}
+use Rattle.integers.specs.Faults.{faultFile}
 use Rattle.mesh.specs.Mesh.{Mesh}
 use Rattle.table.specs.declared.Counts.{Counts}
 use Rattle.table.specs.Table.{countsOf}
@@ -13,7 +14,7 @@ use Rattle.listing.specs.File.{strategyOf}
 
 -- "A refusal returns the number and zero counts, changes no buffer"; s and c are what the lent starts and corners held
 unfoldable pub besideCounts : ℕ → ℕ → Mesh → List ℕ → List ℤ → Counts
-besideCounts split m mesh s c = cond (ltb 2 split) (countsOf 13 []) (splitCounts (strategyOf split) m mesh s c)
+besideCounts split m mesh s c = cond (ltb 2 split) (countsOf faultFile []) (splitCounts (strategyOf split) m mesh s c)
 
 unfoldable pub besideStarts : ℕ → ℕ → Mesh → List ℕ → List ℤ → List ℕ
 besideStarts split m mesh s c = cond (ltb 2 split) s (splitStarts (strategyOf split) m mesh s c)

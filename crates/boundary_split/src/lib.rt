@@ -9,9 +9,6 @@ use table::Counts;
 // The last split's number: "0 ear, 1 fan, 2 centroid" (document 01).
 const LAST_SPLIT: u32 = 2;
 
-// The fault of a split that is none of the three.
-const WRONG_FILE: u32 = 13;
-
 // split_parts::to_convex_polygons_with_max_vertices. Refuses with 13 before anything else where there is no such split.
 #[no_mangle]
 pub extern "C" fn beside_to_convex_polygons_with_max_vertices(
@@ -27,7 +24,7 @@ pub extern "C" fn beside_to_convex_polygons_with_max_vertices(
 {
     if split > LAST_SPLIT {
         return Counts {
-            fault: WRONG_FILE,
+            fault: integers::fault::FILE,
             parts: 0,
             corners: 0,
         };

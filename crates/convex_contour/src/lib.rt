@@ -5,6 +5,7 @@ ghost use mathlib.Core.Bool.{not};
 ghost use Prim.Native.Nat.{_+_, _<_, _≤_};
 ghost use lib.ListN.{length};
 ghost use lib.IntN.{pos};
+ghost use Rattle.table.specs.Table.{maxContour};
 ghost use Rattle.integers.specs.Test.{eqZ};
 ghost use Rattle.plane.specs.Plane.{turn};
 ghost use Rattle.plane.specs.Machine.{point, OnGrid};
@@ -16,7 +17,7 @@ use table::MAX_CONTOUR;
 
 // The place after a place of a whole region's contour, which stands from `done` to the end of the buffer; round it.
 fn place_after(done: usize, place: usize) -> usize
-    requires { ⌜ place < 1026 ⌝ }
+    requires { ⌜ place < maxContour ⌝ }
     ensures { λ r. ⌜ r ≡ placeAfter done place ⌝ }
 {
     let next = place + 1;
@@ -69,7 +70,7 @@ pub fn append_contour(
     points: &mut [[i32; 2]],
     from: usize,
 ) -> usize
-    requires { ⌜ Whole (now corners) p × (from + 1026 ≤ length (now points) + p .done) ⌝ }
+    requires { ⌜ Whole (now corners) p × (from + maxContour ≤ length (now points) + p .done) ⌝ }
     ensures { λ r. ⌜ Appended (withoutStraight (contourAt (now (corners .entry)) p)) (now (points .entry)) from (now (points .exit)) r ⌝ }
 {
     let size = MAX_CONTOUR - p.done;

@@ -85,10 +85,10 @@ pub fn hand_out(
     let parts = t.parts;
     let count = t.corners;
     if starts.len() < parts + 1 {
-        return refusal(table::FAULT_START_ROOM);
+        return refusal(integers::fault::START_ROOM);
     }
     if corners.len() / 2 < count {
-        return refusal(table::FAULT_CORNER_ROOM);
+        return refusal(integers::fault::CORNER_ROOM);
     }
     copy_starts(begins, parts + 1, starts);
     copy_points(points, count, corners);

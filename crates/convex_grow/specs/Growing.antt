@@ -6,6 +6,7 @@ use mathlib.Core.List.{List}
 use Prim.Native.Nat.{ℕ, _+_, _*_, _-_, _≤_, _<_}
 use lib.ListN.{length}
 use lib.IntN.{ℤ}
+use Rattle.table.specs.Table.{maxContour}
 use Rattle.mesh.specs.Mesh.{Mesh, triangleAt}
 use Rattle.convex.specs.Zipper.{Zipper, startZ, stepZ, growZ, zipped}
 use Rattle.convex_ring.specs.declared.Progress.{Progress}
@@ -32,7 +33,7 @@ pub record Stepped (m : Mesh) (cs : List (List ℤ)) (es : List (List ℕ)) (fla
 pub record Started (m : Mesh) (k : ℕ) (flags : List Bool) (cs′ : List (List ℤ)) (es′ : List (List ℕ)) (flags′ : List Bool) (p′ : Progress) : Type 0 where
   pub sound : Sound m cs′ es′ flags′ p′
   pub enough : p′ .pending + 2 * free flags′ ≤ 2 * length m + 3
-  pub kept : p′ .pending + free flags′ + 1026 ≡ 2 + free flags + p′ .done
+  pub kept : p′ .pending + free flags′ + maxContour ≡ 2 + free flags + p′ .done
   pub holds : (seen : List ℕ) → Marked flags seen → Holds cs′ es′ flags′ p′ seen (startZ k (triangleAt m k))
 
 -- nothing is pending any more; as many steps of the zipper as there are pending corners and twice the free triangles, or more, give the same
@@ -45,5 +46,5 @@ pub record Ran (m : Mesh) (cs : List (List ℤ)) (es : List (List ℕ)) (flags :
 pub record Grown (m : Mesh) (k : ℕ) (flags : List Bool) (cs′ : List (List ℤ)) (es′ : List (List ℕ)) (flags′ : List Bool) (p′ : Progress) : Type 0 where
   pub sound : Sound m cs′ es′ flags′ p′
   pub empty : p′ .pending ≡ 0
-  pub kept : free flags′ + 1026 ≡ 2 + free flags + p′ .done
+  pub kept : free flags′ + maxContour ≡ 2 + free flags + p′ .done
   pub holds : (seen : List ℕ) → Marked flags seen → Holds cs′ es′ flags′ p′ seen (zipped m seen k)

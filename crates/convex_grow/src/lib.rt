@@ -5,6 +5,7 @@ ghost use mathlib.Core.Bool.{false};
 ghost use mathlib.Core.List.{_∷_, []};
 ghost use Prim.Native.Nat.{_-_, _<_, _≤_};
 ghost use lib.ListN.{length, getD, set};
+ghost use Rattle.table.specs.Table.{maxContour};
 ghost use Rattle.plane.specs.Machine.{point};
 ghost use Rattle.mesh.specs.Mesh.{vertex, neighbour, after, before, triangleAt};
 ghost use Rattle.mesh.specs.Rows.{rowTriangle, rowsMesh};
@@ -17,7 +18,7 @@ use table::MAX_CONTOUR;
 
 // The top corner is done.
 fn move_top(corners: &mut [[i32; 2]], p: Progress) -> Progress
-    requires { ⌜ (length (now corners) ≡ 1026) × (0 < p .pending) × (p .pending ≤ p .done) × (p .done ≤ 1026) ⌝ }
+    requires { ⌜ (length (now corners) ≡ maxContour) × (0 < p .pending) × (p .pending ≤ p .done) × (p .done ≤ maxContour) ⌝ }
     ensures buffer { λ r. ⌜ now (corners .exit) ≡ set (now (corners .entry)) (p .done - 1) (getD (now (corners .entry)) (p .pending - 1) []) ⌝ }
     ensures counts { λ r. ⌜ r ≡ movedBy p ⌝ }
 {
@@ -59,7 +60,7 @@ fn push(
     far: IntPoint,
     p: Progress,
 ) -> Progress
-    requires { ⌜ (length (now corners) ≡ 1026) × (length (now edges) ≡ 1026) × (0 < p .pending) × (p .pending < 1026) × (k < length (now mesh)) × (v < 3) ⌝ }
+    requires { ⌜ (length (now corners) ≡ maxContour) × (length (now edges) ≡ maxContour) × (0 < p .pending) × (p .pending < maxContour) × (k < length (now mesh)) × (v < 3) ⌝ }
     ensures buffer { λ r. ⌜ now (corners .exit) ≡ set (now (corners .entry)) (p .pending) (pairOf (point far)) ⌝ }
     ensures both { λ r. ⌜ now (edges .exit) ≡ set (set (now (edges .entry)) (p .pending - 1) (k ∷ neighbour (triangleAt (rowsMesh (now (mesh .entry))) k) (after v) ∷ [])) (p .pending) (k ∷ neighbour (triangleAt (rowsMesh (now (mesh .entry))) k) (before v) ∷ []) ⌝ }
     ensures counts { λ r. ⌜ r ≡ pushedBy p ⌝ }
@@ -110,7 +111,7 @@ fn step(
 
 // Vertex i of triangle k as pending corner i, with the edge to the next vertex.
 fn put_vertex(corners: &mut [[i32; 2]], edges: &mut [[usize; 2]], row: [i32; 9], k: usize, i: usize)
-    requires { ⌜ (length (now corners) ≡ 1026) × (length (now edges) ≡ 1026) × (i < 3) ⌝ }
+    requires { ⌜ (length (now corners) ≡ maxContour) × (length (now edges) ≡ maxContour) × (i < 3) ⌝ }
     ensures buffer { λ r. ⌜ now (corners .exit) ≡ set (now (corners .entry)) i (pairOf (vertex (rowTriangle row) i)) ⌝ }
     ensures edge { λ r. ⌜ now (edges .exit) ≡ set (now (edges .entry)) i (k ∷ neighbour (rowTriangle row) (before i) ∷ []) ⌝ }
 {

@@ -6,7 +6,7 @@ use Prim.Native.Nat.{ℕ, _+_, _*_, _-_, _≤_}
 use lib.ListN.{length, take}
 use lib.IntN.{ℤ}
 use Rattle.plane.specs.Plane.{Pt}
-use Rattle.mesh.specs.Mesh.{Mesh}
+use Rattle.mesh.specs.Mesh.{Mesh, maxTriangles}
 use Rattle.table.specs.Table.{startsOf}
 use Rattle.convex.specs.Joining.{isIn}
 use Rattle.convex.specs.Zipper.{zipped, contourZ}
@@ -17,8 +17,8 @@ use Rattle.convex_contour.specs.Contour.{firstPoints}
 
 -- each triangle not taken has a place for a start, and three for corners
 pub record Room (m : Mesh) (flags : List Bool) (starts : List ℕ) (points : List (List ℤ)) (t : Tally) : Type 0 where
-  pub starts-size : length starts ≡ 1025
-  pub points-size : length points ≡ 3072
+  pub starts-size : length starts ≡ maxTriangles + 1
+  pub points-size : length points ≡ 3 * maxTriangles
   pub parts : t .parts + free flags ≤ length m
   pub corners : t .corners + 3 * free flags ≤ 3 * length m
 

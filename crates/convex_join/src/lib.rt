@@ -8,7 +8,7 @@ ghost use Prim.Native.Nat.{_+_, _<_, _≤_, _*_, _^_};
 ghost use lib.ListN.{length, getD, set, take};
 ghost use Rattle.integers.specs.Lists.{overlay};
 ghost use Rattle.integers.specs.Faults.{firstFault};
-ghost use Rattle.mesh.specs.Mesh.{meshKinds};
+ghost use Rattle.mesh.specs.Mesh.{meshKinds, maxTriangles};
 ghost use Rattle.mesh.specs.Rows.{rowsMesh};
 ghost use Rattle.table.specs.Table.{numbersOf};
 ghost use Rattle.convex.specs.Joining.{parts, partsCounts, partsStarts, partsCorners};
@@ -73,8 +73,8 @@ fn visit_all(
     starts: &mut [u32],
     points: &mut [[i32; 2]],
 ) -> Tally
-    requires { ⌜ Ready (rowsMesh (now mesh)) (now corners) (now edges) (now taken) × Marked (now taken) [] × (length (now starts) ≡ 1025) × (length (now points) ≡ 3072) × (getD (now starts) 0 0 ≡ 0) ⌝ }
-    ensures { λ r. ⌜ Gathered (now (starts .exit)) (now (points .exit)) r (parts (rowsMesh (now (mesh .entry)))) × (r .parts ≤ 1024) × (r .corners ≤ 3072) ⌝ }
+    requires { ⌜ Ready (rowsMesh (now mesh)) (now corners) (now edges) (now taken) × Marked (now taken) [] × (length (now starts) ≡ maxTriangles + 1) × (length (now points) ≡ 3 * maxTriangles) × (getD (now starts) 0 0 ≡ 0) ⌝ }
+    ensures { λ r. ⌜ Gathered (now (starts .exit)) (now (points .exit)) r (parts (rowsMesh (now (mesh .entry)))) × (r .parts ≤ maxTriangles) × (r .corners ≤ 3 * maxTriangles) ⌝ }
 {
     let mut t = Tally {
         parts: 0,
@@ -90,12 +90,12 @@ fn visit_all(
 
 // The parts of an accepted mesh, in buffers that hold the parts of any.
 pub fn gather(mesh: &[[i32; 9]], starts: &mut [u32], points: &mut [[i32; 2]]) -> Tally
-    requires { ⌜ (firstFault (meshKinds (rowsMesh (now mesh))) ≡ 0) × (length (now starts) ≡ 1025) × (length (now points) ≡ 3072) ⌝ }
-    ensures { λ r. ⌜ Gathered (now (starts .exit)) (now (points .exit)) r (parts (rowsMesh (now (mesh .entry)))) × (r .parts ≤ 1024) × (r .corners ≤ 3072) ⌝ }
+    requires { ⌜ (firstFault (meshKinds (rowsMesh (now mesh))) ≡ 0) × (length (now starts) ≡ maxTriangles + 1) × (length (now points) ≡ 3 * maxTriangles) ⌝ }
+    ensures { λ r. ⌜ Gathered (now (starts .exit)) (now (points .exit)) r (parts (rowsMesh (now (mesh .entry)))) × (r .parts ≤ maxTriangles) × (r .corners ≤ 3 * maxTriangles) ⌝ }
 {
-    let mut corners = [[0i32; 2]; 1026];
-    let mut edges = [[NIL_INDEX; 2]; 1026];
-    let mut taken = [false; 1024];
+    let mut corners = [[0i32; 2]; table::MAX_CONTOUR];
+    let mut edges = [[NIL_INDEX; 2]; table::MAX_CONTOUR];
+    let mut taken = [false; mesh::MAX_TRIANGLES];
     let n = mesh.len();
     convex_gather::put_start(starts, 0, 0);
     visit_all(
@@ -119,8 +119,8 @@ pub fn to_convex_polygons(mesh: &[[i32; 9]], starts: &mut [u32], corners: &mut [
     if fault != 0 {
         return convex_gather::refusal(fault);
     }
-    let mut begins = [0u32; 1025];
-    let mut points = [[0i32; 2]; 3072];
+    let mut begins = [0u32; mesh::MAX_TRIANGLES + 1];
+    let mut points = [[0i32; 2]; 3 * mesh::MAX_TRIANGLES];
     let t = gather(mesh, &mut begins, &mut points);
     convex_gather::hand_out(&begins, &points, t, starts, corners)
 }

@@ -5,6 +5,7 @@ use mathlib.Core.List.{List, [], _∷_, _++_, map}
 use Prim.Native.Nat.{ℕ, zero, suc, _+_, _-_, _≤_, _<_}
 use lib.ListN.{length, getD, take, drop}
 use lib.IntN.{ℤ}
+use Rattle.table.specs.Table.{maxContour}
 use Rattle.integers.specs.Faults.{firstFault}
 use Rattle.plane.specs.Plane.{Pt, onGrid}
 use Rattle.mesh.specs.Mesh.{Mesh, none, meshKinds}
@@ -57,11 +58,11 @@ pub record Grid (cs : List (List ℤ)) : Type 0 where
 
 -- what reading round the contour asks: n pending, from d on done, at least three in all
 pub record Around (cs : List (List ℤ)) (n d : ℕ) : Type 0 where
-  pub size : length cs ≡ 1026
+  pub size : length cs ≡ maxContour
   pub some : 0 < n
   pub room : n ≤ d
-  pub whole : d ≤ 1026
-  pub three : 3 + d ≤ n + 1026
+  pub whole : d ≤ maxContour
+  pub three : 3 + d ≤ n + maxContour
   pub grid : Grid cs
 
 -- ---- the buffers with their counts are a zipper
@@ -70,28 +71,28 @@ pub record Holds (cs : List (List ℤ)) (es : List (List ℕ)) (flags : List Boo
   pub pending : z .pending ≡ pendingOf cs es (p .pending)
   pub done : z .done ≡ doneOf cs (p .done)
   pub fresh : z .fresh ≡ p .fresh
-  pub last : z .last + p .last ≡ 1026
+  pub last : z .last + p .last ≡ maxContour
   pub taken : Marked flags (seen ++ z .taken)
 
 -- what a region's work asks of the buffers: an accepted mesh, and every entry on the grid and in the mesh, used or not
 pub record Ready (m : Mesh) (cs : List (List ℤ)) (es : List (List ℕ)) (flags : List Bool) : Type 0 where
   pub accepted : firstFault (meshKinds m) ≡ 0
-  pub corners : length cs ≡ 1026
-  pub edges : length es ≡ 1026
+  pub corners : length cs ≡ maxContour
+  pub edges : length es ≡ maxContour
   pub marks : length flags ≡ length m
   pub grid : Grid cs
-  pub across : (i : ℕ) → i < 1026 → (acrossAt es i ≡ none → ⊥) → acrossAt es i < length m
+  pub across : (i : ℕ) → i < maxContour → (acrossAt es i ≡ none → ⊥) → acrossAt es i < length m
 
 -- and of the counts: each triangle not taken has a place between those pending and those done; the last corner added, once done, has its own, and is
 -- done where nothing is pending
 pub record Sound (m : Mesh) (cs : List (List ℤ)) (es : List (List ℕ)) (flags : List Bool) (p : Progress) : Type 0 where
   pub ready : Ready m cs es flags
   pub room : p .pending + free flags ≤ p .done
-  pub whole : p .done ≤ 1026
-  pub three : 3 + p .done ≤ p .pending + 1026
+  pub whole : p .done ≤ maxContour
+  pub three : 3 + p .done ≤ p .pending + maxContour
   pub placed : p .done ≤ p .last
-  pub ended : p .last ≤ 1026
-  pub settled : p .fresh ≡ false → p .last < 1026
+  pub ended : p .last ≤ maxContour
+  pub settled : p .fresh ≡ false → p .last < maxContour
   pub rested : p .pending ≡ 0 → p .fresh ≡ false
 
 -- ---- round the contour

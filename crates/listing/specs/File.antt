@@ -5,9 +5,9 @@ use mathlib.Core.List.{List, [], _∷_, _++_}
 use Prim.Native.Nat.{ℕ, zero, suc, _+_, _*_}
 use lib.Dec.{eqb, ltb}
 use lib.ListN.{length, getD, drop}
-use Rattle.integers.specs.Faults.{Kind, firstFault}
+use Rattle.integers.specs.Faults.{Kind, firstFault, faultFile, faultTriangles}
 use Rattle.plane.specs.Plane.{Pt}
-use Rattle.mesh.specs.Mesh.{Triangle, Mesh, meshKinds}
+use Rattle.mesh.specs.Mesh.{Triangle, Mesh, meshKinds, maxTriangles}
 use Rattle.table.specs.Stored.{wordsOf, wordAt, signed}
 use Rattle.split.specs.declared.ConvexSplitStrategy.{ConvexSplitStrategy}
 use Rattle.split.specs.declared.ConvexSplitStrategy.the-variants.{EarClipping, Fan, Centroid}
@@ -64,7 +64,8 @@ headerBroken bytes =
 
 -- "Under 20 bytes gives 13; then a count above 1,024 gives 1; then .. 13."
 abbrev pub headerKinds : List ℕ → List Kind
-headerKinds bytes = (13, ltb (length bytes) 20) ∷ (1, ltb 1024 (triangleCount bytes)) ∷ (13, headerBroken bytes) ∷ []
+headerKinds bytes =
+    (faultFile, ltb (length bytes) 20) ∷ (faultTriangles, ltb maxTriangles (triangleCount bytes)) ∷ (faultFile, headerBroken bytes) ∷ []
 
 -- "The mesh's own order follows."
 unfoldable pub fileFault : List ℕ → ℕ

@@ -3,21 +3,21 @@
 use mathlib.Core.Path.{_≡_, refl, sym, _∙_, ap}
 use mathlib.Core.Bool.{true, false}
 use mathlib.Core.List.{List, [], _∷_}
-use Prim.Native.Nat.{ℕ, zero, suc, _+_, _-_, _*_, _/_, _%_, _^_, _≤_, _<_}
+use Prim.Native.Nat.{ℕ, suc, _+_, _*_, _/_, _%_, _^_, _≤_, _<_}
 use native.Mathlib.Nat.{div-add-mod'}
 use native.Mathlib.Numerals.{add-one}
 use native.Mathlib.Omega.{arith}
-use lib.ListN.{length, drop, getD, length-drop, drop-of-length-le}
+use lib.ListN.{length, drop, getD, length-drop}
 use lib.Seq.{drop-cons}
 use lib.IntN.{ℤ, pos, negℤ, natAbs, _+ℤ_, _*ℤ_}
-use lib.Signed.{_≤ℤ_, leZ, ltZ}
+use lib.Signed.{leZ, ltZ}
 use Rattle.integers.specs.Lists.{sumℤ, links, neighbours}
 use Rattle.integers.proofs.Ring.{con, _:+_, _:≡_, pt, ring}
 use Rattle.integers.proofs.Order.{zarith, add-parts, mul-parts, neg-parts}
 use Rattle.integers.proofs.Sizes.{abs-parts}
 use Rattle.integers.proofs.Tests.{zneeds}
 use Rattle.integers.proofs.Laws.{*ℤ-distr-r}
-use Rattle.plane.specs.Plane.{Pt, O, cross, areaTwo}
+use Rattle.plane.specs.Plane.{Pt, O, areaTwo}
 use Rattle.plane.specs.Contour.{contourArea}
 use Rattle.plane.proofs.Terms.{crossE}
 use Rattle.plane.proofs.Contours.{contour-insert}

@@ -1,8 +1,8 @@
 -- Any file: an accepted one's mesh is accepted (`accepted-mesh`), its parts can be listed (`file-listable`), and what is printed fits (`listing-fits`).
 -- Assumes nothing.
 use mathlib.Core.Path.{_≡_, refl, sym, _∙_, ap, subst}
-use mathlib.Core.Bool.{true, false, cond}
-use mathlib.Core.List.{List, [], _∷_, append-nil, flatten}
+use mathlib.Core.Bool.{true, false}
+use mathlib.Core.List.{List, [], append-nil, flatten}
 use Prim.Native.Nat.{ℕ, _^_, _≤_, _<_}
 use native.Mathlib.Omega.{arith}
 use borrow.Author.Tests.{eqb-true}
@@ -14,14 +14,14 @@ use Rattle.integers.specs.Lists.{All}
 use Rattle.integers.specs.Faults.{firstFault}
 use Rattle.integers.proofs.Order.{zarith, by-test}
 use Rattle.integers.proofs.Sizes.{abs-parts}
-use Rattle.integers.proofs.Tests.{ltZ-<, <-ltZ}
+use Rattle.integers.proofs.Tests.{<-ltZ}
 use Rattle.integers.proofs.Elements.{all-map, all-map2, all-flatten}
 use Rattle.integers.proofs.Faults.{first-none}
 use Rattle.plane.specs.Plane.{Pt, onGrid}
 use Rattle.plane.specs.Contour.{contourArea}
 use Rattle.plane.proofs.Size.{coordinate-fits, on-grid-both}
 use Rattle.mesh.specs.Mesh.{Mesh, meshKinds}
-use Rattle.table.specs.Table.{startsOf, cornersOf, numbersOf, tableParts, offRange}
+use Rattle.table.specs.Table.{startsOf, cornersOf, numbersOf, offRange}
 use Rattle.table.proofs.Rules.{parts-table}
 use Rattle.text.specs.Text.{refusal}
 use Rattle.text.proofs.Sizes.{Word32s}
@@ -30,7 +30,7 @@ use Rattle.split.specs.Splitting.{splitParts}
 use Rattle.split.proofs.Sizes.{split-table}
 use Rattle.listing.specs.File.{fileFault, meshOf, cornerLimit, splitNumber, strategyOf}
 use Rattle.listing.specs.Listing.{totalArea, listingOf, areasOf}
-use Rattle.convex_pairs.proofs.Convexity.{Polygon, polygon-area}
+use Rattle.convex_pairs.proofs.Convexity.{polygon-area}
 use Rattle.split_pairs.proofs.Theorem.{split-polygons, split-on-grid}
 use Rattle.split_operand.proofs.Operand.{numbers-range}
 use Rattle.split_operand.proofs.Total.{listing-total}

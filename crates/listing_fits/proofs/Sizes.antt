@@ -1,13 +1,12 @@
 -- How long the lines of a listing are: the first (`head-size`), a part's (`part-size`), all parts' (`lines-size`), the whole (`listing-size`). Assumes nothing.
-use mathlib.Core.Path.{_≡_, refl, sym, _∙_, ap}
-use mathlib.Core.List.{List, [], _∷_, _++_, flatten}
-use Prim.Native.Nat.{ℕ, zero, suc, _+_, _*_, _/_, _^_, _≤_, _<_}
+use mathlib.Core.List.{List, [], _∷_, flatten}
+use Prim.Native.Nat.{ℕ, suc, _+_, _*_, _^_, _≤_, _<_}
 use native.Mathlib.Nat.{div-lt-iff-lt-mul}
 use native.Mathlib.Omega.{arith}
 use lib.ListN.{length, length-append}
 use Rattle.integers.specs.Lists.{All}
 use Rattle.plane.specs.Plane.{Pt}
-use Rattle.text.specs.Text.{decimal, cornersText, refusal}
+use Rattle.text.specs.Text.{refusal}
 use Rattle.text.proofs.Sizes.{Word32s, decimal-size, decimal-below, corners-size}
 use Rattle.listing.specs.Listing.{areaOf, totalArea, shareOf, headLine, partLine, partLines, listingOf}
 

@@ -2,8 +2,8 @@
 -- In order: the first line; a part's; the room for part k's; all part lines; they come after the first (`listing-put`). Assumes nothing.
 use mathlib.Core.Path.{_≡_, refl, sym, _∙_, ap, subst}
 use mathlib.Core.Bool.{false}
-use mathlib.Core.List.{List, [], _∷_, _++_, append-assoc, append-nil, flatten}
-use Prim.Native.Nat.{ℕ, zero, suc, _+_, _-_, _/_, _≤_, _<_}
+use mathlib.Core.List.{List, [], _∷_, _++_, flatten}
+use Prim.Native.Nat.{ℕ, suc, _+_, _-_, _/_, _≤_, _<_}
 use native.Mathlib.Numerals.{add-one}
 use native.Mathlib.Omega.{arith}
 use lib.ListN.{length, drop, getD, length-append, drop-of-length-le}
@@ -21,20 +21,16 @@ use Rattle.text.proofs.Puts.{put-after, put-as, put-length, put-room}
 use Rattle.listing.specs.Listing.{partsWord, areaWord, areaOf, totalArea, shareOf, headLine, partLine, partLines, listingOf}
 use Rattle.listing_areas.proofs.Totals.{area-most, area-some, part-measurable}
 use Rattle.listing_lines.specs.Lines.{HeadRoom, PartRoom, LineRoom}
-use Rattle.listing_lines.proofs.Putting.{Putting, putting-start, putting-end}
+use Rattle.listing_lines.proofs.Putting.{joined, Putting, putting-start, putting-end}
 
 -- ---- the first line
 
 abbrev pub headPieces : ℕ → ℕ → ℕ → List (List ℕ)
 headPieces parts corners area = (partsWord ++ decimal parts) ∷ (cornersWord ++ decimal corners) ∷ (areaWord ++ decimal area) ∷ newline ∷ []
 
-four : (a b c d : List ℕ) → flatten (a ∷ b ∷ c ∷ d ∷ []) ≡ a ++ b ++ c ++ d
-unfolding flatten
-four a b c d = simp (append-assoc, append-nil)
-
 head-makes : (s : List ℕ) (c : List ℤ) (total : ℕ) → tableBroken s c ≡ false → total ≡ totalArea (tableParts s c) → flatten (headPieces (length s - 1) (length c / 2) total) ≡ headLine (tableParts s c)
 unfolding headLine
-head-makes s c total h e = (λ i. flatten (headPieces (sym (count-parts s c h) i) (sym (count-corners s c h) i) (e i))) ∙ four _ _ _ _
+head-makes s c total h e = (λ i. flatten (headPieces (sym (count-parts s c h) i) (sym (count-corners s c h) i) (e i))) ∙ joined _ _
 
 pub head-start : {s : List ℕ} {c : List ℤ} {total : ℕ} {out : List ℕ} → HeadRoom s c total out → Putting (headLine (tableParts s c)) 0 out (headPieces (length s - 1) (length c / 2) total) out 0
 head-start {s} {c} {total} h = putting-start (head-makes s c total (h .whole) (h .sum)) (omega (arith, h .room))
@@ -44,13 +40,9 @@ head-start {s} {c} {total} h = putting-start (head-makes s c total (h .whole) (h
 abbrev pub partPieces : ℕ → ℕ → ℕ → ℕ → List Pt → List (List ℕ)
 partPieces k corners area share p = decimal k ∷ (space ++ decimal corners) ∷ (space ++ decimal area) ∷ (space ++ decimal share) ∷ cornersText p ∷ newline ∷ []
 
-six : (a b c d e f : List ℕ) → flatten (a ∷ b ∷ c ∷ d ∷ e ∷ f ∷ []) ≡ a ++ b ++ c ++ d ++ e ++ f
-unfolding flatten
-six a b c d e f = simp (append-assoc, append-nil)
-
 part-makes : (k : ℕ) (part : List ℤ) (total area share : ℕ) → area ≡ areaOf (pointsOf part) → share ≡ shareOf total area → flatten (partPieces k (length part / 2) area share (pointsOf part)) ≡ partLine total k (pointsOf part)
 unfolding partLine
-part-makes k part total area share e f = (λ i. flatten (partPieces k (sym (length-points part) i) (e i) ((f ∙ ap (shareOf total) e) i) (pointsOf part))) ∙ six _ _ _ _ _ _
+part-makes k part total area share e f = (λ i. flatten (partPieces k (sym (length-points part) i) (e i) ((f ∙ ap (shareOf total) e) i) (pointsOf part))) ∙ joined _ _
 
 pub part-start : {k : ℕ} {part : List ℤ} {total : ℕ} {out : List ℕ} {at area share : ℕ} → PartRoom k part total out at → area ≡ areaOf (pointsOf part) → share ≡ shareOf total area
     → Putting (partLine total k (pointsOf part)) at out (partPieces k (length part / 2) area share (pointsOf part)) out at

@@ -1,5 +1,6 @@
--- A text put piece by piece: `Putting` says that what was put and the pieces left make the whole. In order: at the start (`putting-start`), room for the next
--- piece (`putting-room`), that piece put (`putting-step`), at the end (`putting-end`); the length is kept (`putting-length`). Assumes nothing.
+-- A text put piece by piece: `Putting` says that what was put and the pieces left make the whole. In order: pieces joined (`joined`); at the start
+-- (`putting-start`), room for the next piece (`putting-room`), that piece put (`putting-step`), at the end (`putting-end`); the length is kept
+-- (`putting-length`). Assumes nothing.
 use mathlib.Core.Path.{_≡_, sym, _∙_, ap}
 use mathlib.Core.List.{List, [], _∷_, _++_, append-assoc, append-nil, flatten}
 use Prim.Native.Nat.{ℕ, _+_, _≤_}
@@ -7,6 +8,16 @@ use native.Mathlib.Omega.{arith}
 use lib.ListN.{length, length-append}
 use Rattle.text.specs.Put.{PutText}
 use Rattle.text.proofs.Puts.{put-none, put-after, put-length, put-as}
+
+-- pieces as `_++_` joins them, from the left
+abbrev pub joinedLeft : List ℕ → List (List ℕ) → List ℕ
+joinedLeft a [] = a
+joinedLeft a (b ∷ ps) = joinedLeft (a ++ b) ps
+
+pub joined : (a : List ℕ) (ps : List (List ℕ)) → flatten (a ∷ ps) ≡ joinedLeft a ps
+unfolding flatten
+joined a [] = append-nil a
+joined a (b ∷ ps) = sym (append-assoc a b (flatten ps)) ∙ joined (a ++ b) ps
 
 -- of `whole`, from place `at` of out₀ on, all but `rest` is put, up to place m of out
 pub record Putting (whole : List ℕ) (at : ℕ) (out₀ : List ℕ) (rest : List (List ℕ)) (out : List ℕ) (m : ℕ) : Type 0 where

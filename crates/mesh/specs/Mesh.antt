@@ -8,7 +8,7 @@ use lib.ListN.{length, getD}
 use lib.IntN.{ℤ, pos}
 use lib.Signed.{leZ, ltZ}
 use Rattle.integers.specs.Lists.{sumℤ}
-use Rattle.integers.specs.Faults.{Kind}
+use Rattle.integers.specs.Faults.{Kind, faultEdge, faultFlat, faultNaming, faultRange, faultStray, faultTotal, faultTriangles}
 use Rattle.plane.specs.Plane.{Pt, O, eqPt, onGrid, areaTwo}
 
 -- ---- "A mesh is a list of triangles, each record with three points and three neighbours."
@@ -80,8 +80,11 @@ shared t test i = cond (eqb (neighbour t i) none) false (test i (neighbour t i))
 -- ---- the faults
 
 -- 1: "more than 1,024 triangles"
+abbrev pub maxTriangles : ℕ
+maxTriangles = 1024
+
 unfoldable pub tooMany : Mesh → Bool
-tooMany m = ltb 1024 (length m)
+tooMany m = ltb maxTriangles (length m)
 
 -- 2: "a coordinate .. not strictly between −2^30 and 2^30"
 abbrev pub triangleOff : Triangle → Bool
@@ -137,4 +140,4 @@ tooLarge m = ltZ (pos 9223372036854775807) (meshArea m)
 -- "Mesh: 1, 2, 3, 4, 5, 6, 11, 22, 21": those of the mesh itself
 abbrev pub meshKinds : Mesh → List Kind
 meshKinds m =
-    (1, tooMany m) ∷ (2, offGrid m) ∷ (3, strayNeighbour m) ∷ (4, misnamed m) ∷ (5, mismatched m) ∷ (6, flat m) ∷ (11, tooLarge m) ∷ []
+    (faultTriangles, tooMany m) ∷ (faultRange, offGrid m) ∷ (faultStray, strayNeighbour m) ∷ (faultNaming, misnamed m) ∷ (faultEdge, mismatched m) ∷ (faultFlat, flat m) ∷ (faultTotal, tooLarge m) ∷ []

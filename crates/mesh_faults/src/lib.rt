@@ -100,20 +100,20 @@ pub fn mesh_fault(mesh: &[[i32; 9]]) -> u32
     ensures { λ r. ⌜ r ≡ firstFault (meshKinds (rowsMesh (now (mesh .entry)))) ⌝ }
 {
     if mesh.len() > MAX_TRIANGLES {
-        return 1;
+        return integers::fault::TRIANGLES;
     }
     if off_grid(mesh) {
-        return 2;
+        return integers::fault::RANGE;
     }
     let fault = mesh_neighbors::neighbor_fault(mesh);
     if fault != 0 {
         return fault;
     }
     if flat(mesh) {
-        return 6;
+        return integers::fault::FLAT;
     }
     if too_large(mesh) {
-        return 11;
+        return integers::fault::TOTAL;
     }
     0
 }

@@ -20,11 +20,6 @@ pub const RECORD: usize = 36;
 // The last split's number: "0 ear, 1 fan, 2 centroid" (document 01).
 const LAST_SPLIT: u32 = 2;
 
-// More triangles than a mesh may have, and a file against its rules.
-const FAULT_COUNT: u32 = 1;
-
-const FAULT_FILE: u32 = 13;
-
 // How many triangles the header tells.
 pub fn triangle_count(bytes: &[u8]) -> u32
     requires { ⌜ 20 ≤ length (now bytes) ⌝ }
@@ -72,13 +67,13 @@ pub fn header_fault(bytes: &[u8]) -> u32
     ensures { λ r. ⌜ r ≡ firstFault (headerKinds (now (bytes .entry))) ⌝ }
 {
     if bytes.len() < HEADER {
-        return FAULT_FILE;
+        return integers::fault::FILE;
     }
     if triangle_count(bytes) as usize > mesh::MAX_TRIANGLES {
-        return FAULT_COUNT;
+        return integers::fault::TRIANGLES;
     }
     if header_broken(bytes) {
-        return FAULT_FILE;
+        return integers::fault::FILE;
     }
     0
 }

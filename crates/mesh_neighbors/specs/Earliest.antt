@@ -5,12 +5,12 @@ use mathlib.Core.List.{List, [], _∷_}
 use Prim.Native.Nat.{ℕ}
 use lib.Dec.{eqb, ltb}
 use lib.ListN.{length}
-use Rattle.integers.specs.Faults.{Kind, firstFault}
+use Rattle.integers.specs.Faults.{Kind, firstFault, faultEdge, faultNaming, faultStray}
 use Rattle.plane.specs.Plane.{Pt, eqPt}
 use Rattle.mesh.specs.Mesh.{Mesh, Triangle, none, triangleAt, someSide, shared, strays, misnames, mismatches, strayNeighbour, misnamed, mismatched}
 
 abbrev pub neighbourKinds : Bool → Bool → Bool → List Kind
-neighbourKinds a b c = (3, a) ∷ (4, b) ∷ (5, c) ∷ []
+neighbourKinds a b c = (faultStray, a) ∷ (faultNaming, b) ∷ (faultEdge, c) ∷ []
 
 unfoldable pub neighbourFault : Mesh → ℕ
 neighbourFault m = firstFault (neighbourKinds (strayNeighbour m) (misnamed m) (mismatched m))
@@ -26,19 +26,20 @@ rowFault m k =
 
 -- 5 where the edge from p to q is not the one from a to b
 unfoldable pub edgeFault : Pt → Pt → Pt → Pt → ℕ
-edgeFault a b p q = cond (cond (eqPt a p) (eqPt b q) false) 0 5
+edgeFault a b p q = cond (cond (eqPt a p) (eqPt b q) false) 0 faultEdge
 
 -- of triangle u, which triangle k names over the edge from a to b: 4 where u does not name k back exactly once, 5 where their edge does not run from
 -- b to a
 unfoldable pub backFault : Triangle → ℕ → Pt → Pt → ℕ
 backFault u k a b =
     cond (eqb (u .n0) k)
-    (cond (eqb (u .n1) k) 4 (cond (eqb (u .n2) k) 4 (edgeFault a b (u .v2) (u .v1))))
-    (cond (eqb (u .n1) k) (cond (eqb (u .n2) k) 4 (edgeFault a b (u .v0) (u .v2))) (cond (eqb (u .n2) k) (edgeFault a b (u .v1) (u .v0)) 4))
+    (cond (eqb (u .n1) k) faultNaming (cond (eqb (u .n2) k) faultNaming (edgeFault a b (u .v2) (u .v1))))
+    (cond (eqb (u .n1) k) (cond (eqb (u .n2) k) faultNaming (edgeFault a b (u .v0) (u .v2)))
+    (cond (eqb (u .n2) k) (edgeFault a b (u .v1) (u .v0)) faultNaming))
 
 -- of triangle k's side from a to b, across which it names n; o and p are its other two neighbours
 unfoldable pub sideFault : Mesh → ℕ → ℕ → ℕ → ℕ → Pt → Pt → ℕ
-sideFault m k n o p a b = cond (eqb n none) 0 (cond (strays (length m) k n) 3 (cond (cond (eqb o n) true (eqb p n)) 4 (backFault (triangleAt m n) k a b)))
+sideFault m k n o p a b = cond (eqb n none) 0 (cond (strays (length m) k n) faultStray (cond (cond (eqb o n) true (eqb p n)) faultNaming (backFault (triangleAt m n) k a b)))
 
 -- the lesser of two numbers, of which 0 is none
 unfoldable pub earlier : ℕ → ℕ → ℕ

@@ -35,7 +35,7 @@ fn edge_fault(a: IntPoint, b: IntPoint, p: IntPoint, q: IntPoint) -> u32
             return 0;
         }
     }
-    5
+    integers::fault::EDGE
 }
 
 // 4 where triangle n does not name k back exactly once, 5 where the edge that it shares so does not run from b to a; else 0. Each place of its row
@@ -50,23 +50,23 @@ fn back_fault(mesh: &[[i32; 9]], n: usize, k: usize, a: IntPoint, b: IntPoint) -
     let third = mesh::neighbor_of(far, 2) == k;
     if first {
         if second {
-            return 4;
+            return integers::fault::NAMING;
         }
         if third {
-            return 4;
+            return integers::fault::NAMING;
         }
         return edge_fault(a, b, mesh::vertex_of(far, 2), mesh::vertex_of(far, 1));
     }
     if second {
         if third {
-            return 4;
+            return integers::fault::NAMING;
         }
         return edge_fault(a, b, mesh::vertex_of(far, 0), mesh::vertex_of(far, 2));
     }
     if third {
         return edge_fault(a, b, mesh::vertex_of(far, 1), mesh::vertex_of(far, 0));
     }
-    4
+    integers::fault::NAMING
 }
 
 // The first of 3, 4 and 5 that holds of n, the neighbour of triangle k across the edge from a to b; o and p are its other two. 0 for none.
@@ -85,16 +85,16 @@ fn side_fault(
         return 0;
     }
     if n == k {
-        return 3;
+        return integers::fault::STRAY;
     }
     if n >= mesh.len() {
-        return 3;
+        return integers::fault::STRAY;
     }
     if o == n {
-        return 4;
+        return integers::fault::NAMING;
     }
     if p == n {
-        return 4;
+        return integers::fault::NAMING;
     }
     back_fault(mesh, n, k, a, b)
 }

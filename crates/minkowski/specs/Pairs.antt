@@ -6,7 +6,7 @@ use Prim.Native.Nat.{ℕ, _+_, _*_, _<_}
 use lib.Dec.{eqb}
 use lib.ListN.{length, getD}
 use lib.IntN.{ℤ, pos, _+ℤ_, _-ℤ_}
-use Rattle.integers.specs.Faults.{Kind, firstFault}
+use Rattle.integers.specs.Faults.{Kind, firstFault, faultBounds, faultEmpty, faultRange, faultResult, faultRules, faultWinding}
 use Rattle.plane.specs.Plane.{Pt}
 use Rattle.table.specs.declared.IntRect.{IntRect}
 use Rattle.table.specs.Table.{pointsOf, startsOf, cornersOf, written, tableParts, tableBroken, offRange, boundsList, boundsBroken, roomKinds, partCount}
@@ -67,12 +67,12 @@ someWindingLeaves reflected (p ∷ ps) = cond (windingLeaves reflected p) true (
 -- "Pairs: 7, 2, 9, 8, 10, 20, 22, 21", "left before right"; 10: "a result bound ≤ −2^30 or ≥ 2^30", 20: "an operand without parts"
 abbrev pub pairKinds : Bool → Operand → Operand → List Kind
 pairKinds reflected l r =
-    (7, tableBroken (l .starts) (l .corners)) ∷ (7, tableBroken (r .starts) (r .corners))
-    ∷ (2, operandOff l) ∷ (2, operandOff r)
-    ∷ (9, boundsBroken (l .bounds) (pointsOf (l .corners))) ∷ (9, boundsBroken (r .bounds) (pointsOf (r .corners)))
-    ∷ (8, someWindingLeaves false (operandParts l)) ∷ (8, someWindingLeaves reflected (operandParts r))
-    ∷ (10, offRange (boundsList (resultBounds reflected (l .bounds) (r .bounds))))
-    ∷ (20, eqb (partCount (l .starts)) 0) ∷ (20, eqb (partCount (r .starts)) 0)
+    (faultRules, tableBroken (l .starts) (l .corners)) ∷ (faultRules, tableBroken (r .starts) (r .corners))
+    ∷ (faultRange, operandOff l) ∷ (faultRange, operandOff r)
+    ∷ (faultBounds, boundsBroken (l .bounds) (pointsOf (l .corners))) ∷ (faultBounds, boundsBroken (r .bounds) (pointsOf (r .corners)))
+    ∷ (faultWinding, someWindingLeaves false (operandParts l)) ∷ (faultWinding, someWindingLeaves reflected (operandParts r))
+    ∷ (faultResult, offRange (boundsList (resultBounds reflected (l .bounds) (r .bounds))))
+    ∷ (faultEmpty, eqb (partCount (l .starts)) 0) ∷ (faultEmpty, eqb (partCount (r .starts)) 0)
     ∷ []
 
 unfoldable pub pairsFault : Bool → Operand → Operand → ℕ → ℕ → ℕ

@@ -66,10 +66,10 @@ pub fn hand_out(
 {
     let contours = left * right;
     if starts.len() < contours + 1 {
-        return refusal(table::FAULT_START_ROOM);
+        return refusal(integers::fault::START_ROOM);
     }
     if no_room(lf, lp, left, rf, rp, right, most, corners.len() / 2) {
-        return refusal(table::FAULT_CORNER_ROOM);
+        return refusal(integers::fault::CORNER_ROOM);
     }
     let count = minkowski_rows::append_all(lf, lp, left, rf, rp, right, starts, corners);
     PairCounts {

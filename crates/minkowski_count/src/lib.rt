@@ -1,16 +1,17 @@
 // How many corners all pairs of unrolled walks have (`count_all`), for fault 21 where the bound on corners does not tell: each pair is merged into one work
-// buffer, by the same code that puts them into the lent one. Leans on pair_merge and minkowski_rows' definitions.
+// buffer (`merge_one`, by which a pair is printed too), by the same code that puts them into the lent one. Leans on pair_merge and minkowski_rows' definitions.
 ghost use mathlib.Core.Path.{_≡_};
 ghost use mathlib.Core.List.{[]};
-ghost use Prim.Native.Nat.{_<_, _≤_, _^_};
+ghost use Prim.Native.Nat.{_+_, _*_, _<_, _≤_, _^_};
 ghost use lib.ListN.{length, getD};
+ghost use Rattle.table.specs.Table.{maxContour};
 ghost use Rattle.pair_points.specs.Points.{mergedOf};
-ghost use Rattle.pair_merge.specs.Putting.{pointsIn, Mergeable};
+ghost use Rattle.pair_merge.specs.Putting.{pointsIn, Mergeable, Put};
 ghost use Rattle.minkowski_rows.specs.Rows.{walksIn};
 ghost use Rattle.minkowski_count.specs.Counting.{Countable, rowCount, allCount};
 
-// How many corners the contour of the walk a and right walk q has.
-fn count_one(
+// The contour of the walk a and right walk q is put on the front of the work buffer; answers how many corners it has.
+pub fn merge_one(
     a: &[[i32; 2]],
     firsts: &[u32],
     points: &[[i32; 2]],
@@ -18,8 +19,8 @@ fn count_one(
     q: usize,
     work: &mut [i32],
 ) -> usize
-    requires { ⌜ Mergeable (now a) × (length (now a) ≤ 1027) × Countable (now firsts) (now points) count × (q < count) × (4104 ≤ length (now work)) ⌝ }
-    ensures { λ r. ⌜ r ≡ length (mergedOf (pointsIn (now (a .entry))) (getD (walksIn (now (firsts .entry)) (now (points .entry)) count) q [])) ⌝ }
+    requires { ⌜ Mergeable (now a) × (length (now a) ≤ maxContour + 1) × Countable (now firsts) (now points) count × (q < count) × (4 * maxContour ≤ length (now work)) ⌝ }
+    ensures { λ r. ⌜ Put (mergedOf (pointsIn (now (a .entry))) (getD (walksIn (now (firsts .entry)) (now (points .entry)) count) q [])) (now (work .entry)) 0 (now (work .exit)) r ⌝ }
 {
     let from = firsts[q] as usize;
     let to = firsts[q + 1] as usize;
@@ -34,13 +35,13 @@ fn count_row(
     count: usize,
     work: &mut [i32],
 ) -> usize
-    requires { ⌜ Mergeable (now a) × (length (now a) ≤ 1027) × Countable (now firsts) (now points) count × (4104 ≤ length (now work)) × (rowCount (pointsIn (now a)) (walksIn (now firsts) (now points) count) < 2 ^ 32) ⌝ }
+    requires { ⌜ Mergeable (now a) × (length (now a) ≤ maxContour + 1) × Countable (now firsts) (now points) count × (4 * maxContour ≤ length (now work)) × (rowCount (pointsIn (now a)) (walksIn (now firsts) (now points) count) < 2 ^ 32) ⌝ }
     ensures { λ r. ⌜ r ≡ rowCount (pointsIn (now (a .entry))) (walksIn (now (firsts .entry)) (now (points .entry)) count) ⌝ }
 {
     let mut total: usize = 0;
     let mut q: usize = 0;
     while q < count {
-        total += count_one(a, firsts, points, count, q, work);
+        total += merge_one(a, firsts, points, count, q, work);
         q += 1;
     }
     total
@@ -57,7 +58,7 @@ fn count_row_of(
     right: usize,
     work: &mut [i32],
 ) -> usize
-    requires { ⌜ Countable (now lf) (now lp) left × (p < left) × Countable (now rf) (now rp) right × (4104 ≤ length (now work)) × (rowCount (getD (walksIn (now lf) (now lp) left) p []) (walksIn (now rf) (now rp) right) < 2 ^ 32) ⌝ }
+    requires { ⌜ Countable (now lf) (now lp) left × (p < left) × Countable (now rf) (now rp) right × (4 * maxContour ≤ length (now work)) × (rowCount (getD (walksIn (now lf) (now lp) left) p []) (walksIn (now rf) (now rp) right) < 2 ^ 32) ⌝ }
     ensures { λ r. ⌜ r ≡ rowCount (getD (walksIn (now (lf .entry)) (now (lp .entry)) left) p []) (walksIn (now (rf .entry)) (now (rp .entry)) right) ⌝ }
 {
     let from = lf[p] as usize;
@@ -77,7 +78,7 @@ pub fn count_all(
     requires { ⌜ Countable (now lf) (now lp) left × Countable (now rf) (now rp) right × (allCount (walksIn (now lf) (now lp) left) (walksIn (now rf) (now rp) right) < 2 ^ 32) ⌝ }
     ensures { λ r. ⌜ r ≡ allCount (walksIn (now (lf .entry)) (now (lp .entry)) left) (walksIn (now (rf .entry)) (now (rp .entry)) right) ⌝ }
 {
-    let mut work = [0i32; 4104];
+    let mut work = [0i32; 4 * table::MAX_CONTOUR];
     let mut total: usize = 0;
     let mut p: usize = 0;
     while p < left {

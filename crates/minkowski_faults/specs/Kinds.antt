@@ -5,7 +5,7 @@ use mathlib.Core.List.{List, [], _∷_}
 use lib.Dec.{eqb}
 use lib.IntN.{ℤ}
 use Prim.Native.Nat.{ℕ}
-use Rattle.integers.specs.Faults.{Kind}
+use Rattle.integers.specs.Faults.{Kind, faultBounds, faultEmpty, faultRange, faultResult, faultRules}
 use Rattle.plane.specs.Plane.{Pt}
 use Rattle.table.specs.declared.IntRect.{IntRect}
 use Rattle.table.specs.Table.{pointsOf, tableBroken, offRange, boundsList, boundsBroken, partCount}
@@ -18,14 +18,14 @@ operand starts corners bounds = record { starts = starts; corners = corners; bou
 -- 7, 2, 9, "left before right"
 abbrev pub operandKinds : Operand → Operand → List Kind
 operandKinds l r =
-    (7, tableBroken (l .starts) (l .corners)) ∷ (7, tableBroken (r .starts) (r .corners))
-    ∷ (2, operandOff l) ∷ (2, operandOff r)
-    ∷ (9, boundsBroken (l .bounds) (pointsOf (l .corners))) ∷ (9, boundsBroken (r .bounds) (pointsOf (r .corners)))
+    (faultRules, tableBroken (l .starts) (l .corners)) ∷ (faultRules, tableBroken (r .starts) (r .corners))
+    ∷ (faultRange, operandOff l) ∷ (faultRange, operandOff r)
+    ∷ (faultBounds, boundsBroken (l .bounds) (pointsOf (l .corners))) ∷ (faultBounds, boundsBroken (r .bounds) (pointsOf (r .corners)))
     ∷ []
 
 -- 10, 20
 abbrev pub resultKinds : Bool → Operand → Operand → List Kind
 resultKinds reflected l r =
-    (10, offRange (boundsList (resultBounds reflected (l .bounds) (r .bounds))))
-    ∷ (20, eqb (partCount (l .starts)) 0) ∷ (20, eqb (partCount (r .starts)) 0)
+    (faultResult, offRange (boundsList (resultBounds reflected (l .bounds) (r .bounds))))
+    ∷ (faultEmpty, eqb (partCount (l .starts)) 0) ∷ (faultEmpty, eqb (partCount (r .starts)) 0)
     ∷ []

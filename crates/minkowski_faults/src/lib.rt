@@ -5,17 +5,12 @@ ghost use mathlib.Core.Bool.{false};
 ghost use mathlib.Core.List.{_++_, _∷_, []};
 ghost use lib.Dec.{eqb};
 ghost use lib.IntN.{_+ℤ_, _-ℤ_};
-ghost use Rattle.integers.specs.Faults.{firstFault};
+ghost use Rattle.integers.specs.Faults.{firstFault, faultEmpty, faultResult};
 ghost use Rattle.plane.specs.Machine.{Coordinate};
 ghost use Rattle.table.specs.Table.{offRange, boundsList, partCount};
 ghost use Rattle.minkowski.specs.Pairs.{resultBounds};
 ghost use Rattle.minkowski_faults.specs.Kinds.{operand, operandKinds};
 use table::IntRect;
-
-// Document 01's fault numbers of pairs, beside table's: a result bound past the range (the Rust's `CoordinateOutOfRange`), an operand without parts.
-pub const FAULT_RESULT: u32 = 10;
-
-pub const FAULT_EMPTY: u32 = 20;
 
 // Whether some bound is not strictly between the limits.
 fn bounds_off(b: IntRect) -> bool
@@ -55,22 +50,22 @@ pub fn operands_fault(
     ensures { λ r. ⌜ r ≡ firstFault (operandKinds (operand (now («left_starts» .entry)) (now («left_corners» .entry)) «left_bounds») (operand (now («right_starts» .entry)) (now («right_corners» .entry)) «right_bounds»)) ⌝ }
 {
     if table::rules_broken(left_starts, left_corners) {
-        return table::FAULT_RULES;
+        return integers::fault::RULES;
     }
     if table::rules_broken(right_starts, right_corners) {
-        return table::FAULT_RULES;
+        return integers::fault::RULES;
     }
     if operand_off(left_corners, left_bounds) {
-        return table::FAULT_RANGE;
+        return integers::fault::RANGE;
     }
     if operand_off(right_corners, right_bounds) {
-        return table::FAULT_RANGE;
+        return integers::fault::RANGE;
     }
     if table::bounds_broken(left_bounds, left_corners) {
-        return table::FAULT_BOUNDS;
+        return integers::fault::BOUNDS;
     }
     if table::bounds_broken(right_bounds, right_corners) {
-        return table::FAULT_BOUNDS;
+        return integers::fault::BOUNDS;
     }
     0
 }
@@ -114,16 +109,16 @@ pub fn result_bounds(left: IntRect, right: IntRect, reflected: bool) -> IntRect
 
 // The first of 10 and 20 that holds: `bounds` are the result's, and each operand has one part fewer than starts.
 pub fn result_fault(bounds: IntRect, left_starts: &[u32], right_starts: &[u32]) -> u32
-    ensures { λ r. ⌜ r ≡ firstFault ((10, offRange (boundsList bounds)) ∷ (20, eqb (partCount (now («left_starts» .entry))) 0) ∷ (20, eqb (partCount (now («right_starts» .entry))) 0) ∷ []) ⌝ }
+    ensures { λ r. ⌜ r ≡ firstFault ((faultResult, offRange (boundsList bounds)) ∷ (faultEmpty, eqb (partCount (now («left_starts» .entry))) 0) ∷ (faultEmpty, eqb (partCount (now («right_starts» .entry))) 0) ∷ []) ⌝ }
 {
     if bounds_off(bounds) {
-        return FAULT_RESULT;
+        return integers::fault::RESULT;
     }
     if left_starts.len() <= 1 {
-        return FAULT_EMPTY;
+        return integers::fault::EMPTY;
     }
     if right_starts.len() <= 1 {
-        return FAULT_EMPTY;
+        return integers::fault::EMPTY;
     }
     0
 }

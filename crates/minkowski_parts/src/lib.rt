@@ -1,6 +1,6 @@
 // All pair sums and differences (int/minkowski.rs): `sum_parts` and `difference_parts`, with no `requires`. Their answer and both lent buffers equal
 // `pairsCounts`, `pairsStarts` and `pairsCorners` of minkowski/specs/Pairs.antt. The pairs are made in local buffers that hold the points of any operand, or of
-// a small one, which are faster to set up. Leans on minkowski_faults and minkowski_work.
+// a small or a tiny one, which are faster to set up. Leans on minkowski_faults and minkowski_work.
 ghost use mathlib.Core.Path.{_≡_};
 ghost use mathlib.Core.Bool.{false, true};
 ghost use Prim.Native.Nat.{_+_, _/_, _≤_};
@@ -12,8 +12,10 @@ ghost use Rattle.minkowski_work.specs.Scratch.{Answers};
 use minkowski::PairCounts;
 use table::IntRect;
 
-// An operand has at most this many starts and corners together to be a small one.
+// An operand has at most this many starts and corners together to be a small one, and this many to be a tiny one, as of one triangle.
 pub const SMALL: usize = 256;
+
+pub const TINY: usize = 16;
 
 // In local buffers that hold the points of any operand: 8,192 corners, and one more point for each of 2,048 parts.
 fn pairs_large(
@@ -30,10 +32,10 @@ fn pairs_large(
     requires { ⌜ firstFault (operandKinds (operand (now «left_starts») (now «left_corners») «left_bounds») (operand (now «right_starts») (now «right_corners») «right_bounds»)) ≡ 0 ⌝ }
     ensures { λ r. ⌜ Answers reflected (operand (now («left_starts» .entry)) (now («left_corners» .entry)) «left_bounds») (operand (now («right_starts» .entry)) (now («right_corners» .entry)) «right_bounds») (now (starts .entry)) (now (corners .entry)) r (now (starts .exit)) (now (corners .exit)) ⌝ }
 {
-    let mut left_points = [[0i32; 2]; 10240];
-    let mut left_firsts = [0u32; 2049];
-    let mut right_points = [[0i32; 2]; 10240];
-    let mut right_firsts = [0u32; 2049];
+    let mut left_points = [[0i32; 2]; table::MAX_CORNERS + table::MAX_PARTS];
+    let mut left_firsts = [0u32; table::MAX_PARTS + 1];
+    let mut right_points = [[0i32; 2]; table::MAX_CORNERS + table::MAX_PARTS];
+    let mut right_firsts = [0u32; table::MAX_PARTS + 1];
     minkowski_work::pairs_over(
         reflected,
         left_starts,
@@ -51,14 +53,14 @@ fn pairs_large(
     )
 }
 
-// Whether an operand is a small one.
-fn is_small(starts: &[u32], corners: &[i32]) -> bool
-    ensures { λ r. ⌜ (r ≡ true → length (now (starts .entry)) + length (now (corners .entry)) / 2 ≤ 256) ⌝ }
+// Whether an operand has at most so many starts and corners together.
+fn fits(starts: &[u32], corners: &[i32], places: usize) -> bool
+    ensures { λ r. ⌜ (r ≡ true → length (now (starts .entry)) + length (now (corners .entry)) / 2 ≤ places) ⌝ }
 {
-    if starts.len() > SMALL {
+    if starts.len() > places {
         return false;
     }
-    starts.len() + corners.len() / 2 <= SMALL
+    corners.len() / 2 <= places - starts.len()
 }
 
 // In local buffers for two small operands.
@@ -80,6 +82,53 @@ fn pairs_small(
     let mut left_firsts = [0u32; 256];
     let mut right_points = [[0i32; 2]; 256];
     let mut right_firsts = [0u32; 256];
+    minkowski_work::pairs_over(
+        reflected,
+        left_starts,
+        left_corners,
+        left_bounds,
+        right_starts,
+        right_corners,
+        right_bounds,
+        &mut left_points,
+        &mut left_firsts,
+        &mut right_points,
+        &mut right_firsts,
+        starts,
+        corners,
+    )
+}
+
+// All pairs of two tiny operands. Apart from `all_pairs`, whose frame has the large buffers and takes longer to set up than a pair of triangles to merge.
+fn tiny_pairs(
+    reflected: bool,
+    left_starts: &[u32],
+    left_corners: &[i32],
+    left_bounds: IntRect,
+    right_starts: &[u32],
+    right_corners: &[i32],
+    right_bounds: IntRect,
+    starts: &mut [u32],
+    corners: &mut [i32],
+) -> PairCounts
+    requires { ⌜ (length (now «left_starts») + length (now «left_corners») / 2 ≤ 16) × (length (now «right_starts») + length (now «right_corners») / 2 ≤ 16) ⌝ }
+    ensures { λ r. ⌜ Answers reflected (operand (now («left_starts» .entry)) (now («left_corners» .entry)) «left_bounds») (operand (now («right_starts» .entry)) (now («right_corners» .entry)) «right_bounds») (now (starts .entry)) (now (corners .entry)) r (now (starts .exit)) (now (corners .exit)) ⌝ }
+{
+    let fault = minkowski_faults::operands_fault(
+        left_starts,
+        left_corners,
+        left_bounds,
+        right_starts,
+        right_corners,
+        right_bounds,
+    );
+    if fault != 0 {
+        return minkowski_answer::refusal(fault);
+    }
+    let mut left_points = [[0i32; 2]; 16];
+    let mut left_firsts = [0u32; 16];
+    let mut right_points = [[0i32; 2]; 16];
+    let mut right_firsts = [0u32; 16];
     minkowski_work::pairs_over(
         reflected,
         left_starts,
@@ -122,8 +171,8 @@ fn all_pairs(
     if fault != 0 {
         return minkowski_answer::refusal(fault);
     }
-    if is_small(left_starts, left_corners) {
-        if is_small(right_starts, right_corners) {
+    if fits(left_starts, left_corners, SMALL) {
+        if fits(right_starts, right_corners, SMALL) {
             return pairs_small(
                 reflected,
                 left_starts,
@@ -166,6 +215,21 @@ pub fn sum_parts(
     ensures starts { λ r. ⌜ now (starts .exit) ≡ pairsStarts false (operand (now («left_starts» .entry)) (now («left_corners» .entry)) «left_bounds») (operand (now («right_starts» .entry)) (now («right_corners» .entry)) «right_bounds») (now (starts .entry)) (now (corners .entry)) ⌝ }
     ensures corners { λ r. ⌜ now (corners .exit) ≡ pairsCorners false (operand (now («left_starts» .entry)) (now («left_corners» .entry)) «left_bounds») (operand (now («right_starts» .entry)) (now («right_corners» .entry)) «right_bounds») (now (starts .entry)) (now (corners .entry)) ⌝ }
 {
+    if fits(left_starts, left_corners, TINY) {
+        if fits(right_starts, right_corners, TINY) {
+            return tiny_pairs(
+                false,
+                left_starts,
+                left_corners,
+                left_bounds,
+                right_starts,
+                right_corners,
+                right_bounds,
+                starts,
+                corners,
+            );
+        }
+    }
     all_pairs(
         false,
         left_starts,
@@ -194,6 +258,21 @@ pub fn difference_parts(
     ensures starts { λ r. ⌜ now (starts .exit) ≡ pairsStarts true (operand (now («left_starts» .entry)) (now («left_corners» .entry)) «left_bounds») (operand (now («right_starts» .entry)) (now («right_corners» .entry)) «right_bounds») (now (starts .entry)) (now (corners .entry)) ⌝ }
     ensures corners { λ r. ⌜ now (corners .exit) ≡ pairsCorners true (operand (now («left_starts» .entry)) (now («left_corners» .entry)) «left_bounds») (operand (now («right_starts» .entry)) (now («right_corners» .entry)) «right_bounds») (now (starts .entry)) (now (corners .entry)) ⌝ }
 {
+    if fits(left_starts, left_corners, TINY) {
+        if fits(right_starts, right_corners, TINY) {
+            return tiny_pairs(
+                true,
+                left_starts,
+                left_corners,
+                left_bounds,
+                right_starts,
+                right_corners,
+                right_bounds,
+                starts,
+                corners,
+            );
+        }
+    }
     all_pairs(
         true,
         left_starts,

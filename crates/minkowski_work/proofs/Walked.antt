@@ -81,15 +81,15 @@ all-short reflected (p ∷ ps) h = (omega (arith, length-unrolled reflected p, h
 pub unrollable : (o : Operand) {points : List (List ℤ)} {firsts : List ℕ} → Judged o → Scratch o points firsts → Unrollables (o .starts) (o .corners) points firsts
 unrollable o j s = record { whole = j .sound; ranged = j .ranged; for-points = s .for-points; for-firsts = s .for-firsts }
 
--- buffers for any operand, 10,240 = 8,192 + 2,048, and for one with at most 256 starts and corners together
+-- buffers for any operand, 10,240 = 8,192 + 2,048, and for one with at most so many starts and corners together
 module _ (o : Operand) (j : Judged o) {points : List (List ℤ)} {firsts : List ℕ} where
   pub large : length points ≡ 10240 → length firsts ≡ 2049 → Scratch o points firsts
   large h k =
       let t = sound (o .starts) (o .corners) (j .sound) in
       record { for-points = omega (arith, h, t .few-corners, t .few-parts); for-firsts = omega (arith, k, t .few-parts) }
 
-  pub small : length (o .starts) + length (o .corners) / 2 ≤ 256 → length points ≡ 256 → length firsts ≡ 256 → Scratch o points firsts
-  small e h k = record { for-points = omega (arith, h, e); for-firsts = omega (arith, k, e) }
+  pub small : (places : ℕ) → length (o .starts) + length (o .corners) / 2 ≤ places → length points ≡ places → length firsts ≡ places → Scratch o points firsts
+  small places e h k = record { for-points = omega (arith, h, e); for-firsts = omega (arith, k, e) }
 
 -- the walks of an operand in its buffers
 pub record Walked (reflected : Bool) (o : Operand) (firsts : List ℕ) (points : List (List ℤ)) : Type 0 where

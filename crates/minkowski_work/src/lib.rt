@@ -11,9 +11,6 @@ ghost use Rattle.minkowski_work.specs.Scratch.{Answers, Ready};
 use minkowski::PairCounts;
 use table::IntRect;
 
-// Document 01's fault number of a winding's total that leaves 64 bits.
-pub const FAULT_WINDING: u32 = 8;
-
 // How many corners all pairs have at most: R for each left one and L for each right one.
 fn most_corners(
     left_starts: &[u32],
@@ -49,7 +46,7 @@ pub fn pairs_over(
     ensures { λ r. ⌜ Answers reflected (operand (now («left_starts» .entry)) (now («left_corners» .entry)) «left_bounds») (operand (now («right_starts» .entry)) (now («right_corners» .entry)) «right_bounds») (now (starts .entry)) (now (corners .entry)) r (now (starts .exit)) (now (corners .exit)) ⌝ }
 {
     if pair_unroll_all::unroll_all(left_starts, left_corners, false, left_points, left_firsts) {
-        return minkowski_answer::refusal(FAULT_WINDING);
+        return minkowski_answer::refusal(integers::fault::WINDING);
     }
     if pair_unroll_all::unroll_all(
         right_starts,
@@ -58,7 +55,7 @@ pub fn pairs_over(
         right_points,
         right_firsts,
     ) {
-        return minkowski_answer::refusal(FAULT_WINDING);
+        return minkowski_answer::refusal(integers::fault::WINDING);
     }
     let bounds = minkowski_faults::result_bounds(left_bounds, right_bounds, reflected);
     let fault = minkowski_faults::result_fault(bounds, left_starts, right_starts);

@@ -1,9 +1,11 @@
 -- The lines that the pairs program prints (issue 13): "It prints `contours N corners N bounds a b c d`, then one line a pair: left part, right part,
 -- corner count, corners as in the area listing (`0 0 3 (0,0) (4,0) (0,4)`)". Assumes nothing.
 use mathlib.Core.Bool.{Bool}
-use mathlib.Core.List.{List, [], _∷_, _++_, map}
+use mathlib.Core.Path.{_≡_}
+use mathlib.Core.List.{List, [], _∷_, _++_, map, flatten}
 use Prim.Native.Nat.{ℕ, suc}
-use lib.ListN.{length}
+use lib.ListN.{length, getD}
+use Rattle.integers.specs.Lists.{upTo}
 use Rattle.plane.specs.Plane.{Pt}
 use Rattle.table.specs.declared.IntRect.{IntRect}
 use Rattle.text.specs.Text.{decimal, signedDecimal, space, newline, cornersWord, cornersText}
@@ -18,15 +20,14 @@ contoursWord = 99 ∷ 111 ∷ 110 ∷ 116 ∷ 111 ∷ 117 ∷ 114 ∷ 115 ∷ 32
 abbrev pub boundsWord : List ℕ
 boundsWord = 32 ∷ 98 ∷ 111 ∷ 117 ∷ 110 ∷ 100 ∷ 115 ∷ 32 ∷ []
 
--- least x, greatest x, least y, greatest y
+-- " bounds a b c d": least x, greatest x, least y, greatest y
 unfoldable pub boundsText : IntRect → List ℕ
 boundsText b =
-    signedDecimal (b .«min_x») ++ (space ++ signedDecimal (b .«max_x»)) ++ (space ++ signedDecimal (b .«min_y»)) ++ (space ++ signedDecimal (b .«max_y»))
+    (boundsWord ++ signedDecimal (b .«min_x»)) ++ (space ++ signedDecimal (b .«max_x»)) ++ (space ++ signedDecimal (b .«min_y»)) ++ (space ++ signedDecimal (b .«max_y»))
 
 -- "contours N corners N bounds a b c d"
 unfoldable pub pairsHead : ℕ → ℕ → IntRect → List ℕ
-pairsHead contours corners b =
-    (contoursWord ++ decimal contours) ++ (cornersWord ++ decimal corners) ++ (boundsWord ++ boundsText b) ++ newline
+pairsHead contours corners b = (contoursWord ++ decimal contours) ++ (cornersWord ++ decimal corners) ++ boundsText b ++ newline
 
 -- ---- the lines
 
@@ -47,3 +48,11 @@ pairLinesFrom reflected i (a ∷ ls) rs = rowLines i 0 (map (pairContour reflect
 -- "one line a pair"
 unfoldable pub pairLines : Bool → List (List Pt) → List (List Pt) → List ℕ
 pairLines reflected ls rs = pairLinesFrom reflected 0 ls rs
+
+-- ---- the order: "one line a pair", left part 0 with each right part, then left part 1 ..
+
+abbrev pub LinesInOrder : Type 0
+LinesInOrder =
+    (reflected : Bool) (ls rs : List (List Pt)) →
+    pairLines reflected ls rs
+    ≡ flatten (map (λ i. flatten (map (λ j. pairLine i j (pairContour reflected (getD ls i []) (getD rs j []))) (upTo (length rs)))) (upTo (length ls)))

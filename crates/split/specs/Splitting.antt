@@ -11,9 +11,9 @@ use Rattle.integers.specs.Lists.{All, sumℤ, neighbours}
 use Rattle.integers.specs.Faults.{firstFault}
 use Rattle.plane.specs.Plane.{Pt, O, _+ᵖ_, _-ᵖ_, cross, areaTwo}
 use Rattle.plane.specs.Contour.{contourArea}
-use Rattle.mesh.specs.Mesh.{Mesh, meshKinds, meshArea}
+use Rattle.mesh.specs.Mesh.{Mesh, meshKinds, meshArea, maxTriangles}
 use Rattle.table.specs.declared.Counts.{Counts}
-use Rattle.table.specs.Table.{roomKinds, countsOf, written, startsOf, cornersOf, tableBroken}
+use Rattle.table.specs.Table.{roomKinds, countsOf, written, startsOf, cornersOf, tableBroken, maxParts}
 use Rattle.convex.specs.Joining.{parts}
 use Rattle.split.specs.declared.ConvexSplitStrategy.{ConvexSplitStrategy}
 use Rattle.split.specs.declared.ConvexSplitStrategy.the-variants.{EarClipping, Fan, Centroid}
@@ -165,8 +165,8 @@ SplitKeepsArea =
 -- each part has from 3 corners to the limit
 pub record SplitSized (how : ConvexSplitStrategy) (m : ℕ) (mesh : Mesh) : Type 0 where
   pub sizes : All (λ p. (3 ≤ length p) × (length p ≤ raised m)) (splitParts how m mesh)
-  pub few-parts : length (splitParts how m mesh) ≤ 2048
-  pub few-corners : length (flatten (splitParts how m mesh)) ≤ 6144
+  pub few-parts : length (splitParts how m mesh) ≤ maxParts
+  pub few-corners : length (flatten (splitParts how m mesh)) ≤ 6 * maxTriangles
   pub table : tableBroken (startsOf (splitParts how m mesh)) (cornersOf (splitParts how m mesh)) ≡ false
 
 -- and the answer is a part table within the limits: 7 never refuses it

@@ -6,6 +6,7 @@ use Prim.Native.Nat.{ℕ, _^_, _≤_, _<_}
 use lib.ListN.{length, getD}
 use lib.IntN.{ℤ, pos, natAbs, _+ℤ_, _*ℤ_}
 use lib.Signed.{leZ, ltZ}
+use Rattle.table.specs.Table.{maxContour}
 use Rattle.integers.specs.Lists.{All, neighbours}
 use Rattle.plane.specs.Plane.{Pt, O, onGrid, cross}
 use Rattle.plane.specs.Contour.{contourArea}
@@ -23,7 +24,7 @@ use Rattle.split_centre.specs.declared.Centre.the-variants.{At, Unserved
 -- Corners on the grid, as many as a part can have, no edge that runs clockwise seen from the first corner, and a doubled area above 0 that fits 64 bits.
 pub record Summable (l : List Pt) : Type 0 where
   pub grid : All (λ p. onGrid p ≡ true) l
-  pub size : length l ≤ 1026
+  pub size : length l ≤ maxContour
   pub wedges : All (λ e. leZ (pos 0) (cross (e .0) (e .1)) ≡ true) (neighbours (seenFrom (getD l 0 O) l))
   pub above : ltZ (pos 0) (contourArea l) ≡ true
   pub below : natAbs (contourArea l) < 2 ^ 63

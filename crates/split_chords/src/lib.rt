@@ -7,6 +7,7 @@ ghost use mathlib.Core.List.{_∷_, []};
 ghost use Prim.Native.Nat.{_+_, _<_, _≤_, _^_};
 ghost use lib.Dec.{ltb};
 ghost use lib.ListN.{length, set};
+ghost use Rattle.table.specs.Table.{maxContour};
 ghost use Rattle.convex_ring.specs.Buffers.{cornerAt};
 ghost use Rattle.convex_contour.specs.Contour.{Appended};
 ghost use Rattle.convex_gather.specs.Gather.{cornersIn, RoomFor, PartsAppended};
@@ -59,7 +60,7 @@ pub fn end_part(starts: &mut [u32], t: Tally, n: usize) -> Tally
 
 // How many groups of at most b hold a things.
 pub fn ceil_div(a: usize, b: usize) -> usize
-    requires { ⌜ (0 < a) × (a ≤ 1026) × (0 < b) × (b ≤ 1026) ⌝ }
+    requires { ⌜ (0 < a) × (a ≤ maxContour) × (0 < b) × (b ≤ maxContour) ⌝ }
     ensures { λ r. ⌜ (r ≡ ceilDiv a b) × (0 < r) ⌝ }
 {
     (a + (b - 1)) / b
@@ -101,7 +102,7 @@ pub fn append_fan_parts(
     points: &mut [[i32; 2]],
     t: Tally,
 ) -> Tally
-    requires { ⌜ (3 ≤ limit) × (limit < length (now contour)) × (length (now contour) ≤ 1026) × RoomFor (now starts) (now points) t (fanParts limit (cornersIn (now contour))) ⌝ }
+    requires { ⌜ (3 ≤ limit) × (limit < length (now contour)) × (length (now contour) ≤ maxContour) × RoomFor (now starts) (now points) t (fanParts limit (cornersIn (now contour))) ⌝ }
     ensures { λ r. ⌜ PartsAppended (fanParts limit (cornersIn (now (contour .entry)))) (now (starts .entry)) (now (points .entry)) t (now (starts .exit)) (now (points .exit)) r ⌝ }
 {
     let triangles = contour.len() - 2;

@@ -5,6 +5,7 @@ ghost use mathlib.Core.Path.{_≡_};
 ghost use mathlib.Core.List.{_∷_, []};
 ghost use Prim.Native.Nat.{_+_, _<_, _≤_};
 ghost use lib.ListN.{length, getD, set};
+ghost use Rattle.table.specs.Table.{maxContour};
 ghost use Rattle.convex_ring.specs.Buffers.{cornerAt};
 ghost use Rattle.convex_contour.specs.Contour.{Appended};
 ghost use Rattle.convex_gather.specs.Gather.{cornersIn, RoomFor, PartsAppended};
@@ -23,7 +24,7 @@ fn next_of(ring: &[u32], i: usize) -> usize
 
 // After corner i comes corner j.
 fn set_next(ring: &mut [u32], i: usize, j: usize)
-    requires { ⌜ (i < length (now ring)) × (j < 1026) ⌝ }
+    requires { ⌜ (i < length (now ring)) × (j < maxContour) ⌝ }
     ensures { λ r. ⌜ now (ring .exit) ≡ set (now (ring .entry)) i j ⌝ }
 {
     ring[i] = j as u32;
@@ -31,7 +32,7 @@ fn set_next(ring: &mut [u32], i: usize, j: usize)
 
 // The ring of n corners.
 fn fill_ring(ring: &mut [u32], n: usize)
-    requires { ⌜ (0 < n) × (n ≤ 1026) × (n ≤ length (now ring)) ⌝ }
+    requires { ⌜ (0 < n) × (n ≤ maxContour) × (n ≤ length (now ring)) ⌝ }
     ensures { λ r. ⌜ Fresh (now (ring .exit)) n ⌝ }
 {
     let last = n - 1;
@@ -75,7 +76,7 @@ fn append_ear(
     points: &mut [[i32; 2]],
     t: Tally,
 ) -> Tally
-    requires { ⌜ (start < length (now contour)) × (length (now contour) ≤ 1026) × Ring (now ring) (length (now contour)) × RoomFor (now starts) (now points) t ((cornerAt (now contour) start ∷ cornersAfter (now contour) (now ring) start (size + 1)) ∷ []) ⌝ }
+    requires { ⌜ (start < length (now contour)) × (length (now contour) ≤ maxContour) × Ring (now ring) (length (now contour)) × RoomFor (now starts) (now points) t ((cornerAt (now contour) start ∷ cornersAfter (now contour) (now ring) start (size + 1)) ∷ []) ⌝ }
     ensures { λ r. ⌜ (now (ring .exit) ≡ set (now (ring .entry)) start (stepped (now (ring .entry)) start (size + 1))) × PartsAppended ((cornerAt (now (contour .entry)) start ∷ cornersAfter (now (contour .entry)) (now (ring .entry)) start (size + 1)) ∷ []) (now (starts .entry)) (now (points .entry)) t (now (starts .exit)) (now (points .exit)) r ⌝ }
 {
     let first = split_chords::append_point(contour, start, points, t.corners);
@@ -94,7 +95,7 @@ fn append_ears(
     points: &mut [[i32; 2]],
     t: Tally,
 ) -> Tally
-    requires { ⌜ (3 ≤ limit) × (limit < length (now contour)) × (length (now contour) ≤ 1026) × Fresh (now ring) (length (now contour)) × RoomFor (now starts) (now points) t (earParts limit (cornersIn (now contour))) ⌝ }
+    requires { ⌜ (3 ≤ limit) × (limit < length (now contour)) × (length (now contour) ≤ maxContour) × Fresh (now ring) (length (now contour)) × RoomFor (now starts) (now points) t (earParts limit (cornersIn (now contour))) ⌝ }
     ensures { λ r. ⌜ PartsAppended (earParts limit (cornersIn (now (contour .entry)))) (now (starts .entry)) (now (points .entry)) t (now (starts .exit)) (now (points .exit)) r ⌝ }
 {
     let triangles = contour.len() - 2;
@@ -121,7 +122,7 @@ pub fn append_ear_clipping_parts(
     points: &mut [[i32; 2]],
     t: Tally,
 ) -> Tally
-    requires { ⌜ (3 ≤ limit) × (limit < length (now contour)) × (length (now contour) ≤ 1026) × RoomFor (now starts) (now points) t (earParts limit (cornersIn (now contour))) ⌝ }
+    requires { ⌜ (3 ≤ limit) × (limit < length (now contour)) × (length (now contour) ≤ maxContour) × RoomFor (now starts) (now points) t (earParts limit (cornersIn (now contour))) ⌝ }
     ensures { λ r. ⌜ PartsAppended (earParts limit (cornersIn (now (contour .entry)))) (now (starts .entry)) (now (points .entry)) t (now (starts .exit)) (now (points .exit)) r ⌝ }
 {
     let mut ring = [0u32; MAX_CONTOUR];

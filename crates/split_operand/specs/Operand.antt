@@ -4,7 +4,7 @@ use mathlib.Core.Bool.{Bool, false}
 use mathlib.Core.List.{[], _∷_, flatten}
 use Prim.Native.Nat.{ℕ}
 use lib.Dec.{eqb}
-use Rattle.integers.specs.Faults.{firstFault}
+use Rattle.integers.specs.Faults.{firstFault, faultEmpty, faultResult}
 use Rattle.mesh.specs.Mesh.{Mesh, meshKinds}
 use Rattle.table.specs.declared.IntRect.{IntRect}
 use Rattle.table.specs.Table.{pointsOf, startsOf, cornersOf, tableBroken, offRange, boundsList, boundsBroken, partCount}
@@ -34,4 +34,4 @@ abbrev pub SplitPairs : Type 0
 SplitPairs =
     (reflected : Bool) (l r : Operand) → Unfaulted l → Unfaulted r →
     firstFault (pairKinds reflected l r)
-    ≡ firstFault ((10, offRange (boundsList (resultBounds reflected (l .bounds) (r .bounds)))) ∷ (20, eqb (partCount (l .starts)) 0) ∷ (20, eqb (partCount (r .starts)) 0) ∷ [])
+    ≡ firstFault ((faultResult, offRange (boundsList (resultBounds reflected (l .bounds) (r .bounds)))) ∷ (faultEmpty, eqb (partCount (l .starts)) 0) ∷ (faultEmpty, eqb (partCount (r .starts)) 0) ∷ [])

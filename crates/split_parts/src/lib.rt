@@ -89,11 +89,11 @@ pub fn to_convex_polygons_with_max_vertices(
     if fault != 0 {
         return convex_gather::refusal(fault);
     }
-    let mut begins = [0u32; 1025];
-    let mut joined = [[0i32; 2]; 3072];
+    let mut begins = [0u32; mesh::MAX_TRIANGLES + 1];
+    let mut joined = [[0i32; 2]; 3 * mesh::MAX_TRIANGLES];
     let u = convex_join::gather(mesh, &mut begins, &mut joined);
-    let mut split_begins = [0u32; 2049];
-    let mut points = [[0i32; 2]; 6144];
+    let mut split_begins = [0u32; table::MAX_PARTS + 1];
+    let mut points = [[0i32; 2]; 6 * mesh::MAX_TRIANGLES];
     let t = split_all(
         &begins,
         &joined,

@@ -7,6 +7,7 @@ ghost use Prim.Native.Nat.{_+_, _-_, _<_, _≤_};
 ghost use lib.ListN.{length, getD, drop};
 ghost use lib.IntN.{pos};
 ghost use lib.Signed.{ltZ};
+ghost use Rattle.table.specs.Table.{maxContour};
 ghost use Rattle.plane.specs.Plane.{O, areaTwo};
 ghost use Rattle.plane.specs.Machine.{point, OnGrid};
 ghost use Rattle.convex_ring.specs.Buffers.{cornerAt, Grid};
@@ -124,7 +125,7 @@ pub fn append_sectors(
     points: &mut [[i32; 2]],
     t: Tally,
 ) -> Tally
-    requires { ⌜ (3 ≤ limit) × (limit < length (now contour)) × (length (now contour) ≤ 1026) × Grid (now contour) × OnGrid centre × RoomFor (now starts) (now points) t (centroidParts limit (point centre) (cornerAt (now contour) 0) (cornersIn (now contour))) ⌝ }
+    requires { ⌜ (3 ≤ limit) × (limit < length (now contour)) × (length (now contour) ≤ maxContour) × Grid (now contour) × OnGrid centre × RoomFor (now starts) (now points) t (centroidParts limit (point centre) (cornerAt (now contour) 0) (cornersIn (now contour))) ⌝ }
     ensures { λ r. ⌜ PartsAppended (centroidParts limit (point centre) (cornerAt (now (contour .entry)) 0) (cornersIn (now (contour .entry)))) (now (starts .entry)) (now (points .entry)) t (now (starts .exit)) (now (points .exit)) r ⌝ }
 {
     let edges = contour.len();

@@ -7,12 +7,12 @@ use lib.Dec.{eqb, leb}
 use lib.ListN.{getD}
 use lib.Seq.{slice}
 use lib.IntN.{ℤ}
-use Rattle.integers.specs.Faults.{firstFault}
+use Rattle.integers.specs.Faults.{firstFault, faultPart, faultRules}
 use Rattle.table.specs.Table.{tableBroken, partCount}
 
 -- "Part shown: 7, 12", left before right; 12: "part number past the table"
 unfoldable pub shownFault : List ℕ → List ℤ → List ℕ → List ℤ → Bool → ℕ → ℕ
-shownFault ls lc rs rc right k = firstFault ((7, tableBroken ls lc) ∷ (7, tableBroken rs rc) ∷ (12, leb (partCount (cond right rs ls)) k) ∷ [])
+shownFault ls lc rs rc right k = firstFault ((faultRules, tableBroken ls lc) ∷ (faultRules, tableBroken rs rc) ∷ (faultPart, leb (partCount (cond right rs ls)) k) ∷ [])
 
 -- the numbers of part k's corners
 unfoldable pub partNumbers : List ℕ → List ℤ → ℕ → List ℤ

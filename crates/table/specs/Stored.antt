@@ -9,7 +9,7 @@ use lib.IntN.{ℤ}
 use mir.Syntax.{w32}
 use mir.Val.{toZ}
 use Rattle.integers.specs.Word.{unsigned}
-use Rattle.integers.specs.Faults.{firstFault}
+use Rattle.integers.specs.Faults.{firstFault, faultCornerRoom, faultRange, faultRules}
 use Rattle.plane.specs.Plane.{Pt}
 use Rattle.table.specs.Table.{tableBroken, offRange, tableParts, roomKinds}
 
@@ -61,7 +61,7 @@ storedParts bytes = tableParts (storedStarts bytes) (storedCorners bytes)
 
 -- "Stored table read: 7, 2, 22, 21": the room is the lent starts' and the lent corners' length
 unfoldable pub readFault : List ℕ → ℕ → ℕ → ℕ
-readFault bytes starts corners = firstFault ((7, storedBroken bytes) ∷ (2, offRange (storedCorners bytes)) ∷ roomKinds (storedParts bytes) starts corners)
+readFault bytes starts corners = firstFault ((faultRules, storedBroken bytes) ∷ (faultRange, offRange (storedCorners bytes)) ∷ roomKinds (storedParts bytes) starts corners)
 
 -- ---- writing
 
@@ -70,4 +70,4 @@ storedOf starts corners = wordBytes ((length starts - 1) ∷ (length corners / 2
 
 -- "written: 7, 2, 21 for too few bytes"
 unfoldable pub writeFault : List ℕ → List ℤ → ℕ → ℕ
-writeFault starts corners room = firstFault ((7, tableBroken starts corners) ∷ (2, offRange corners) ∷ (21, ltb room (length (storedOf starts corners))) ∷ [])
+writeFault starts corners room = firstFault ((faultRules, tableBroken starts corners) ∷ (faultRange, offRange corners) ∷ (faultCornerRoom, ltb room (length (storedOf starts corners))) ∷ [])

@@ -8,7 +8,7 @@ use lib.ListN.{length}
 use lib.Seq.{slice}
 use lib.IntN.{ℤ}
 use lib.Signed.{leZ, ltZ}
-use Rattle.integers.specs.Faults.{Kind}
+use Rattle.integers.specs.Faults.{Kind, faultCornerRoom, faultStartRoom}
 use Rattle.integers.specs.Lists.{overlay}
 use Rattle.plane.specs.Plane.{Pt, inRange}
 use Rattle.table.specs.declared.IntRect.{IntRect}
@@ -51,6 +51,16 @@ tableParts starts corners = partsOf starts (pointsOf corners)
 
 -- ---- its rules and limits: fault 7, "a part table against its rules or limits"
 
+-- "Limits: 2,048 parts, 8,192 corners, 1,026 corners a contour."
+abbrev pub maxParts : ℕ
+maxParts = 2048
+
+abbrev pub maxCorners : ℕ
+maxCorners = 8192
+
+abbrev pub maxContour : ℕ
+maxContour = 1026
+
 -- how many parts: one fewer than starts
 abbrev pub partCount : List ℕ → ℕ
 partCount starts = length starts - 1
@@ -58,7 +68,7 @@ partCount starts = length starts - 1
 -- a start falls, or a contour has more than 1,026 corners, or the last is not the corner count n
 unfoldable pub stepsBroken : ℕ → ℕ → List ℕ → Bool
 stepsBroken n a [] = not (eqb a n)
-stepsBroken n a (b ∷ s) = cond (ltb b a) true (cond (ltb (a + 1026) b) true (stepsBroken n b s))
+stepsBroken n a (b ∷ s) = cond (ltb b a) true (cond (ltb (a + maxContour) b) true (stepsBroken n b s))
 
 unfoldable pub startsBroken : ℕ → List ℕ → Bool
 startsBroken n [] = true
@@ -67,7 +77,7 @@ startsBroken n (a ∷ s) = cond (eqb a 0) (stepsBroken n a s) true
 unfoldable pub tableBroken : List ℕ → List ℤ → Bool
 tableBroken starts corners =
     cond (eqb (length corners % 2) 0)
-    (cond (ltb 2048 (partCount starts)) true (cond (ltb 8192 (length corners / 2)) true (startsBroken (length corners / 2) starts)))
+    (cond (ltb maxParts (partCount starts)) true (cond (ltb maxCorners (length corners / 2)) true (startsBroken (length corners / 2) starts)))
     true
 
 -- ---- coordinates and bounds
@@ -96,7 +106,7 @@ boundsBroken b l = cond (ltZ (b .«max_x») (b .«min_x»)) true (cond (ltZ (b .
 
 -- "22: fewer places for starts than the answer has", "21: fewer places for corners (two numbers each) than the answer has"
 abbrev pub roomKinds : List (List Pt) → ℕ → ℕ → List Kind
-roomKinds ps starts corners = (22, ltb starts (length (startsOf ps))) ∷ (21, ltb (corners / 2) (length (flatten ps))) ∷ []
+roomKinds ps starts corners = (faultStartRoom, ltb starts (length (startsOf ps))) ∷ (faultCornerRoom, ltb (corners / 2) (length (flatten ps))) ∷ []
 
 -- "A refusal returns the number and zero counts": f is the fault number, ps the parts where it is 0
 abbrev pub countsOf : ℕ → List (List Pt) → Counts

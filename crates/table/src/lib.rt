@@ -6,7 +6,7 @@ ghost use mathlib.Core.Path.{_≡_};
 ghost use mathlib.Core.Bool.{true, cond};
 ghost use Prim.Native.Nat.{_+_};
 ghost use lib.Dec.{ltb};
-ghost use Rattle.table.specs.Table.{startsBroken, tableBroken, offRange, withinBounds, boundsBroken, pointsOf};
+ghost use Rattle.table.specs.Table.{startsBroken, tableBroken, offRange, withinBounds, boundsBroken, pointsOf, maxContour};
 
 // Document 01: "Limits: 2,048 parts, 8,192 corners, 1,026 corners a contour."
 pub const MAX_PARTS: usize = 2048;
@@ -14,19 +14,6 @@ pub const MAX_PARTS: usize = 2048;
 pub const MAX_CORNERS: usize = 8192;
 
 pub const MAX_CONTOUR: usize = 1026;
-
-// Document 01's fault numbers of a table, its bounds, a part asked for, and the room for an answer.
-pub const FAULT_RANGE: u32 = 2;
-
-pub const FAULT_RULES: u32 = 7;
-
-pub const FAULT_BOUNDS: u32 = 9;
-
-pub const FAULT_PART: u32 = 12;
-
-pub const FAULT_CORNER_ROOM: u32 = 21;
-
-pub const FAULT_START_ROOM: u32 = 22;
 
 // What a call that writes a table answers: the fault number, 0 for none, and how many parts and corners were written, 0 where it refused.
 #[repr(C)]
@@ -46,7 +33,7 @@ pub struct IntRect {
 
 // Whether one start may not follow another: it falls, or the contour between them is too long.
 pub fn step_broken(last: usize, next: usize) -> bool
-    ensures { λ r. ⌜ r ≡ cond (ltb next last) true (ltb (last + 1026) next) ⌝ }
+    ensures { λ r. ⌜ r ≡ cond (ltb next last) true (ltb (last + maxContour) next) ⌝ }
 {
     if next < last {
         return true;

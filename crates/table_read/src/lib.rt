@@ -86,18 +86,18 @@ fn read_fault(bytes: &[u8], starts: usize, corners: usize) -> u32
     ensures { λ r. ⌜ r ≡ readFault (now (bytes .entry)) starts corners ⌝ }
 {
     if stored_broken(bytes) {
-        return table::FAULT_RULES;
+        return integers::fault::RULES;
     }
     let parts = word_at(bytes, 0) as usize;
     let count = word_at(bytes, 1) as usize;
     if stored_off_range(bytes, parts + 3) {
-        return table::FAULT_RANGE;
+        return integers::fault::RANGE;
     }
     if starts < parts + 1 {
-        return table::FAULT_START_ROOM;
+        return integers::fault::START_ROOM;
     }
     if corners / 2 < count {
-        return table::FAULT_CORNER_ROOM;
+        return integers::fault::CORNER_ROOM;
     }
     0
 }

@@ -20,19 +20,19 @@ fn shown_fault(
     ensures { λ r. ⌜ r ≡ shownFault (now («left_starts» .entry)) (now («left_corners» .entry)) (now («right_starts» .entry)) (now («right_corners» .entry)) right k ⌝ }
 {
     if table::rules_broken(left_starts, left_corners) {
-        return table::FAULT_RULES;
+        return integers::fault::RULES;
     }
     if table::rules_broken(right_starts, right_corners) {
-        return table::FAULT_RULES;
+        return integers::fault::RULES;
     }
     if right {
         if right_starts.len() - 1 <= k {
-            return table::FAULT_PART;
+            return integers::fault::PART;
         }
         return 0;
     }
     if left_starts.len() - 1 <= k {
-        return table::FAULT_PART;
+        return integers::fault::PART;
     }
     0
 }

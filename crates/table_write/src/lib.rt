@@ -25,13 +25,13 @@ fn write_fault(starts: &[u32], corners: &[i32], room: usize) -> u32
     ensures { λ r. ⌜ r ≡ writeFault (now (starts .entry)) (now (corners .entry)) room ⌝ }
 {
     if table::rules_broken(starts, corners) {
-        return table::FAULT_RULES;
+        return integers::fault::RULES;
     }
     if table::off_range(corners) {
-        return table::FAULT_RANGE;
+        return integers::fault::RANGE;
     }
     if room < HEADER + WORD * starts.len() + WORD * corners.len() {
-        return table::FAULT_CORNER_ROOM;
+        return integers::fault::CORNER_ROOM;
     }
     0
 }

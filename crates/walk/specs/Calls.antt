@@ -6,12 +6,12 @@ use Prim.Native.Nat.{ℕ, _/_, _%_}
 use lib.Dec.{eqb, leb, ltb}
 use lib.ListN.{length}
 use lib.IntN.{ℤ}
-use Rattle.integers.specs.Faults.{firstFault}
+use Rattle.integers.specs.Faults.{firstFault, faultEmpty, faultPlace, faultRange, faultRules, faultWinding}
 use Rattle.plane.specs.Plane.{Pt, onGrid}
 use Rattle.plane.specs.Machine.{point, vector}
 use Rattle.plane.specs.declared.IntPoint.{IntPoint}
 use Rattle.plane.specs.declared.IntVector.{IntVector}
-use Rattle.table.specs.Table.{pointsOf, offRange}
+use Rattle.table.specs.Table.{pointsOf, offRange, maxContour}
 use Rattle.pair.specs.declared.Place.{Place}
 use Rattle.pair.specs.declared.ConvexSum.{ConvexSum}
 use Rattle.pair.specs.Walk.{cornerAt, windingLeaves, begin, nextIndex, edgeOf, advance}
@@ -36,7 +36,7 @@ use Rattle.walk.specs.declared.Next.the-variants as next
 
 -- "7 for length (odd, or over 1,026 corners)"
 unfoldable pub lengthBroken : List ℤ → Bool
-lengthBroken l = cond (eqb (length l % 2) 0) (ltb 1026 (length l / 2)) true
+lengthBroken l = cond (eqb (length l % 2) 0) (ltb maxContour (length l / 2)) true
 
 -- "whose place or either segment end isn't a corner of its contour", of n corners; the ends count where it walks a segment
 unfoldable pub misplaced : ℕ → Place → Bool
@@ -56,7 +56,7 @@ either s t = cond s true t
 
 unfoldable pub beginFault : List ℤ → Bool → ℕ
 beginFault l reflected =
-    firstFault ((7, lengthBroken l) ∷ (2, offRange l) ∷ (8, windingLeaves reflected (pointsOf l)) ∷ (20, eqb (length l) 0) ∷ [])
+    firstFault ((faultRules, lengthBroken l) ∷ (faultRange, offRange l) ∷ (faultWinding, windingLeaves reflected (pointsOf l)) ∷ (faultEmpty, eqb (length l) 0) ∷ [])
 
 unfoldable pub begunOf : List ℤ → Bool → Begun
 begunOf l reflected = cond (eqb (beginFault l reflected) 0) (begun.At (begin reflected (pointsOf l))) (begun.Refused (beginFault l reflected))
@@ -64,7 +64,7 @@ begunOf l reflected = cond (eqb (beginFault l reflected) 0) (begun.At (begin ref
 -- ---- "Its point alone needs no step left, and 2 only at its place."
 
 unfoldable pub pointFault : List ℤ → Place → ℕ
-pointFault l w = firstFault ((7, lengthBroken l) ∷ (23, misplaced (length (pointsOf l)) w) ∷ (2, offAt (pointsOf l) (w .index)) ∷ [])
+pointFault l w = firstFault ((faultRules, lengthBroken l) ∷ (faultPlace, misplaced (length (pointsOf l)) w) ∷ (faultRange, offAt (pointsOf l) (w .index)) ∷ [])
 
 abbrev pub intPoint : Pt → IntPoint
 intPoint p = record { x = p .x; y = p .y }
@@ -80,9 +80,9 @@ pointedOf l w = cond (eqb (pointFault l w) 0) (pointed.Point (intPoint (walk.poi
 unfoldable pub stepFault : List ℤ → Place → ℕ
 stepFault l w =
     firstFault (
-    (7, lengthBroken l)
-    ∷ (23, either (finished w) (misplaced (length (pointsOf l)) w))
-    ∷ (2, either (offAt (pointsOf l) (w .index)) (offAt (pointsOf l) (nextIndex (length (pointsOf l)) w)))
+    (faultRules, lengthBroken l)
+    ∷ (faultPlace, either (finished w) (misplaced (length (pointsOf l)) w))
+    ∷ (faultRange, either (offAt (pointsOf l) (w .index)) (offAt (pointsOf l) (nextIndex (length (pointsOf l)) w)))
     ∷ []
     )
 
@@ -103,10 +103,10 @@ advancedOf l w = cond (eqb (stepFault l w) 0) (advanced.At (advance (length (poi
 unfoldable pub pairBeginFault : Bool → List ℤ → List ℤ → ℕ
 pairBeginFault reflected l r =
     firstFault (
-    (7, lengthBroken l) ∷ (7, lengthBroken r)
-    ∷ (2, offRange l) ∷ (2, offRange r)
-    ∷ (8, windingLeaves false (pointsOf l)) ∷ (8, windingLeaves reflected (pointsOf r))
-    ∷ (20, eqb (length l) 0) ∷ (20, eqb (length r) 0)
+    (faultRules, lengthBroken l) ∷ (faultRules, lengthBroken r)
+    ∷ (faultRange, offRange l) ∷ (faultRange, offRange r)
+    ∷ (faultWinding, windingLeaves false (pointsOf l)) ∷ (faultWinding, windingLeaves reflected (pointsOf r))
+    ∷ (faultEmpty, eqb (length l) 0) ∷ (faultEmpty, eqb (length r) 0)
     ∷ []
     )
 
@@ -119,9 +119,9 @@ pairedOf reflected l r =
 unfoldable pub pairStepFault : List ℤ → List ℤ → ConvexSum → ℕ
 pairStepFault l r s =
     firstFault (
-    (7, lengthBroken l) ∷ (7, lengthBroken r)
-    ∷ (23, misplaced (length (pointsOf l)) (s .a)) ∷ (23, misplaced (length (pointsOf r)) (s .b))
-    ∷ (2, offRange l) ∷ (2, offRange r)
+    (faultRules, lengthBroken l) ∷ (faultRules, lengthBroken r)
+    ∷ (faultPlace, misplaced (length (pointsOf l)) (s .a)) ∷ (faultPlace, misplaced (length (pointsOf r)) (s .b))
+    ∷ (faultRange, offRange l) ∷ (faultRange, offRange r)
     ∷ []
     )
 

@@ -73,12 +73,12 @@ pub fn begin_checked(contour: &[i32], reflected: bool) -> Begun
     ensures { λ r. ⌜ r ≡ begunOf (now (contour .entry)) reflected ⌝ }
 {
     if contour.len() == 0 {
-        return Begun::Refused(walk_read::FAULT_EMPTY);
+        return Begun::Refused(integers::fault::EMPTY);
     }
     let s = walk_extremes::start_at(contour, reflected);
     let sum = walk_winding::winding(contour, s);
     let Wound::Total(total) = sum else {
-        return Begun::Refused(walk_read::FAULT_WINDING);
+        return Begun::Refused(integers::fault::WINDING);
     };
     Begun::At(place_by(contour, reflected, s, total))
 }
@@ -88,10 +88,10 @@ pub fn begin(contour: &[i32], reflected: bool) -> Begun
     ensures { λ r. ⌜ BegunBy (now (contour .entry)) reflected r ⌝ }
 {
     if walk_read::length_broken(contour) {
-        return Begun::Refused(table::FAULT_RULES);
+        return Begun::Refused(integers::fault::RULES);
     }
     if table::off_range(contour) {
-        return Begun::Refused(table::FAULT_RANGE);
+        return Begun::Refused(integers::fault::RANGE);
     }
     begin_checked(contour, reflected)
 }

@@ -6,7 +6,7 @@ ghost use Prim.Native.Nat.{_<_, _≤_};
 ghost use lib.ListN.{length};
 ghost use Rattle.plane.specs.Plane.{negᵖ};
 ghost use Rattle.plane.specs.Machine.{point, vector, OnGrid, Short};
-ghost use Rattle.table.specs.Table.{pointsOf};
+ghost use Rattle.table.specs.Table.{pointsOf, maxContour};
 ghost use Rattle.pair.specs.Walk.{pointOf, edgeOf, nextIndex, advance};
 ghost use Rattle.walk.specs.Calls.{lengthBroken, misplaced, offAt};
 use pair::Place;
@@ -52,7 +52,7 @@ pub fn edge_of(contour: &[i32], w: Place) -> IntVector
 
 // The walk one step on, on a contour of n corners.
 pub fn advance_of(n: usize, w: Place) -> Place
-    requires { ⌜ (n ≤ 1026) × (misplaced n w ≡ false) × (0 < w .remaining) ⌝ }
+    requires { ⌜ (n ≤ maxContour) × (misplaced n w ≡ false) × (0 < w .remaining) ⌝ }
     ensures { λ r. ⌜ r ≡ advance n w ⌝ }
 {
     Place {

@@ -49,24 +49,24 @@ fn pair_fault(left: &[i32], right: &[i32], s: ConvexSum) -> u32
     ensures { λ r. ⌜ r ≡ pairStepFault (now (left .entry)) (now (right .entry)) s ⌝ }
 {
     if length_broken(left) {
-        return table::FAULT_RULES;
+        return integers::fault::RULES;
     }
     if length_broken(right) {
-        return table::FAULT_RULES;
+        return integers::fault::RULES;
     }
     let a = s.a;
     if misplaced(corner_count(left), a) {
-        return walk_read::FAULT_PLACE;
+        return integers::fault::PLACE;
     }
     let b = s.b;
     if misplaced(corner_count(right), b) {
-        return walk_read::FAULT_PLACE;
+        return integers::fault::PLACE;
     }
     if table::off_range(left) {
-        return table::FAULT_RANGE;
+        return integers::fault::RANGE;
     }
     if table::off_range(right) {
-        return table::FAULT_RANGE;
+        return integers::fault::RANGE;
     }
     0
 }

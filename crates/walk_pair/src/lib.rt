@@ -46,16 +46,16 @@ fn begin_pair(left: &[i32], right: &[i32], reflected: bool) -> Paired
     ensures { λ r. ⌜ PairedBy reflected (now (left .entry)) (now (right .entry)) r ⌝ }
 {
     if length_broken(left) {
-        return Paired::Refused(table::FAULT_RULES);
+        return Paired::Refused(integers::fault::RULES);
     }
     if length_broken(right) {
-        return Paired::Refused(table::FAULT_RULES);
+        return Paired::Refused(integers::fault::RULES);
     }
     if table::off_range(left) {
-        return Paired::Refused(table::FAULT_RANGE);
+        return Paired::Refused(integers::fault::RANGE);
     }
     if table::off_range(right) {
-        return Paired::Refused(table::FAULT_RANGE);
+        return Paired::Refused(integers::fault::RANGE);
     }
     pair_checked(left, right, reflected)
 }

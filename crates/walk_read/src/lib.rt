@@ -6,19 +6,12 @@ ghost use mathlib.Core.Bool.{false};
 ghost use Prim.Native.Nat.{_<_, _≤_};
 ghost use lib.ListN.{length};
 ghost use Rattle.plane.specs.Machine.{point};
-ghost use Rattle.table.specs.Table.{pointsOf};
+ghost use Rattle.table.specs.Table.{pointsOf, maxContour};
 ghost use Rattle.pair.specs.Walk.{cornerAt, nextIndex};
 ghost use Rattle.walk.specs.Calls.{lengthBroken, misplaced, offAt};
 use pair::Place;
 use plane::IntPoint;
 use table::MAX_CONTOUR;
-
-// Document 01's fault numbers of walks, beside table's: a winding's total, an empty contour, a place.
-pub const FAULT_WINDING: u32 = 8;
-
-pub const FAULT_EMPTY: u32 = 20;
-
-pub const FAULT_PLACE: u32 = 23;
 
 // How many corners a contour has; a last x without its y is no corner.
 pub fn corner_count(contour: &[i32]) -> usize
@@ -74,7 +67,7 @@ pub fn misplaced(n: usize, w: Place) -> bool
 
 // The next place on a contour of n corners.
 pub fn next_index(n: usize, w: Place) -> u16
-    requires { ⌜ (n ≤ 1026) × (misplaced n w ≡ false) ⌝ }
+    requires { ⌜ (n ≤ maxContour) × (misplaced n w ≡ false) ⌝ }
     ensures { λ r. ⌜ r ≡ nextIndex n w ⌝ }
 {
     let index = w.index;

@@ -17,13 +17,13 @@ fn point_fault(contour: &[i32], w: Place) -> u32
     ensures { λ r. ⌜ r ≡ pointFault (now (contour .entry)) w ⌝ }
 {
     if walk_read::length_broken(contour) {
-        return table::FAULT_RULES;
+        return integers::fault::RULES;
     }
     if walk_read::misplaced(corner_count(contour), w) {
-        return walk_read::FAULT_PLACE;
+        return integers::fault::PLACE;
     }
     if off_at(contour, w.index as usize) {
-        return table::FAULT_RANGE;
+        return integers::fault::RANGE;
     }
     0
 }
@@ -33,20 +33,20 @@ fn step_fault(contour: &[i32], w: Place) -> u32
     ensures { λ r. ⌜ r ≡ stepFault (now (contour .entry)) w ⌝ }
 {
     if walk_read::length_broken(contour) {
-        return table::FAULT_RULES;
+        return integers::fault::RULES;
     }
     if w.remaining == 0 {
-        return walk_read::FAULT_PLACE;
+        return integers::fault::PLACE;
     }
     let n = corner_count(contour);
     if walk_read::misplaced(n, w) {
-        return walk_read::FAULT_PLACE;
+        return integers::fault::PLACE;
     }
     if off_at(contour, w.index as usize) {
-        return table::FAULT_RANGE;
+        return integers::fault::RANGE;
     }
     if off_at(contour, walk_read::next_index(n, w) as usize) {
-        return table::FAULT_RANGE;
+        return integers::fault::RANGE;
     }
     0
 }

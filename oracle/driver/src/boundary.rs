@@ -1,6 +1,7 @@
 //! The C functions of the Rattle archive, and the list of entry points.
 
 use crate::entry::{run, Report};
+use crate::listing::{listing_beside, TEXT};
 use crate::mesh::{mesh_fault_beside, to_convex_polygons_beside, Row};
 use crate::pairs::{difference_parts_beside, sum_parts_beside, Bounds, ToldPairs};
 use crate::plane::{angle_cmp_beside, area_two_beside, cross_product_beside};
@@ -13,13 +14,14 @@ use crate::walk::{ToldEdge, ToldNext, ToldPair, ToldPlace, ToldPoint, ToldStep};
 use inputs::plane::Four;
 use inputs::table_calls::{Read, Show, Write};
 use inputs::walk_calls::{Begin, Place, Step, Two, TwoAt};
-use judge::pairs::Operand;
+use judge::pairs::{Operand, Operation};
 use judge::shown::Side;
 use judge::Point;
 
 mod archive {
     use super::{Bounds, Counts, Place, Places, Row, Told, ToldPairs};
     use super::{ToldEdge, ToldNext, ToldPair, ToldPlace, ToldPoint, ToldStep};
+    use crate::listing::TEXT;
     use crate::table::ToldLength;
 
     extern "C" {
@@ -133,6 +135,7 @@ mod archive {
             corners: *mut i32,
             corners_lent: usize,
         ) -> ToldPairs;
+        pub fn beside_listing(bytes: *const u8, bytes_length: usize, out: *mut [u8; TEXT]) -> usize;
         pub fn beside_difference_parts(
             left_starts: *const u32,
             left_starts_length: usize,
@@ -181,6 +184,7 @@ pub const ENTRY_POINTS: &[fn(u64, u64) -> Report] = &[
     },
     |seed, count| run(&sum_parts_beside(sum_parts), seed, count),
     |seed, count| run(&difference_parts_beside(difference_parts), seed, count),
+    |seed, count| run(&listing_beside(listing), seed, count),
 ];
 
 // Safe: the functions take and return plain numbers, or slices as their place and
@@ -373,7 +377,7 @@ fn pair_next(input: &TwoAt) -> Kept<ToldNext> {
 struct LentOperand {
     starts: Lent<u32>,
     corners: Lent<i32>,
-    bounds: Bounds,
+    bounds: [i32; 4],
 }
 
 impl LentOperand {
@@ -381,8 +385,12 @@ impl LentOperand {
         Self {
             starts: Lent::new(&operand.table.starts, 0xa5a5_0001),
             corners: Lent::numbers(&operand.table.corners),
-            bounds: Bounds(operand.bounds),
+            bounds: operand.bounds,
         }
+    }
+
+    fn lists(&self) -> Lists<'_> {
+        (self.starts.list(), self.corners.list(), self.bounds)
     }
 
     fn kept(&self) -> bool {
@@ -390,48 +398,51 @@ impl LentOperand {
     }
 }
 
-/// A call on two operands; the function that it asks is one of the two below.
+/// An operand's lists as they are lent, and its bounds.
+pub type Lists<'a> = (&'a [u32], &'a [i32], [i32; 4]);
+
+/// `sum_parts` or `difference_parts`, the memory lent as it is given.
+pub fn all_pairs(
+    operation: Operation,
+    left: Lists,
+    right: Lists,
+    starts: &mut [u32],
+    corners: &mut [i32],
+) -> ToldPairs {
+    let asked = match operation {
+        Operation::Sum => archive::beside_sum_parts,
+        Operation::Difference => archive::beside_difference_parts,
+    };
+    unsafe {
+        asked(
+            left.0.as_ptr(),
+            left.0.len(),
+            left.1.as_ptr(),
+            left.1.len(),
+            Bounds(left.2),
+            right.0.as_ptr(),
+            right.0.len(),
+            right.1.as_ptr(),
+            right.1.len(),
+            Bounds(right.2),
+            starts.as_mut_ptr(),
+            starts.len(),
+            corners.as_mut_ptr(),
+            corners.len(),
+        )
+    }
+}
+
+/// The same on operands whose lists are lent with unlent numbers about them.
 fn on_operands(
-    asked: unsafe extern "C" fn(
-        *const u32,
-        usize,
-        *const i32,
-        usize,
-        Bounds,
-        *const u32,
-        usize,
-        *const i32,
-        usize,
-        Bounds,
-        *mut u32,
-        usize,
-        *mut i32,
-        usize,
-    ) -> ToldPairs,
+    operation: Operation,
     left: &Operand,
     right: &Operand,
     starts: &mut [u32],
     corners: &mut [i32],
 ) -> Kept<ToldPairs> {
     let (left, right) = (LentOperand::new(left), LentOperand::new(right));
-    let told = unsafe {
-        asked(
-            left.starts.list().as_ptr(),
-            left.starts.list().len(),
-            left.corners.list().as_ptr(),
-            left.corners.list().len(),
-            left.bounds,
-            right.starts.list().as_ptr(),
-            right.starts.list().len(),
-            right.corners.list().as_ptr(),
-            right.corners.list().len(),
-            right.bounds,
-            starts.as_mut_ptr(),
-            starts.len(),
-            corners.as_mut_ptr(),
-            corners.len(),
-        )
-    };
+    let told = all_pairs(operation, left.lists(), right.lists(), starts, corners);
     Kept {
         told,
         kept: left.kept() && right.kept(),
@@ -439,7 +450,7 @@ fn on_operands(
 }
 
 fn sum_parts(l: &Operand, r: &Operand, starts: &mut [u32], corners: &mut [i32]) -> Kept<ToldPairs> {
-    on_operands(archive::beside_sum_parts, l, r, starts, corners)
+    on_operands(Operation::Sum, l, r, starts, corners)
 }
 
 fn difference_parts(
@@ -448,5 +459,9 @@ fn difference_parts(
     starts: &mut [u32],
     corners: &mut [i32],
 ) -> Kept<ToldPairs> {
-    on_operands(archive::beside_difference_parts, l, r, starts, corners)
+    on_operands(Operation::Difference, l, r, starts, corners)
+}
+
+fn listing(bytes: &[u8], out: &mut [u8; TEXT]) -> usize {
+    unsafe { archive::beside_listing(bytes.as_ptr(), bytes.len(), out) }
 }

@@ -2,7 +2,6 @@
 use mathlib.Core.Path.{sym, _∙_, subst}
 use Prim.Native.Nat.{_+_}
 use native.Mathlib.Omega.{arith}
-use borrow.Author.Needs.{needs}
 use mir.Syntax.{w64}
 use Rattle.integers.proofs.Bits.{got}
 use Rattle.plane.specs.Plane.{areaTwo}

@@ -17,39 +17,39 @@ put-decimal-requires c κs =
     let s = c .before .before .before .before in
     putting-room (part-start (s .pre) (c .before .before .part-area .ensures) (c .before .share .ensures))
 
-slice-aggregate-put-field : tie.Need-slice-aggregate-put-field
-slice-aggregate-put-field c = search needs
+slice-aggregate-put-word-decimal : tie.Need-slice-aggregate-put-word-decimal
+slice-aggregate-put-word-decimal c = search needs
 
-put-field-requires : tie.Need-put-field-requires
-put-field-requires c κs =
+put-word-decimal-requires : tie.Need-put-word-decimal-requires
+put-word-decimal-requires c κs =
     let a = c .before .before .before .before in
     let z = a .before .before in
     putting-room (putting-step (part-start (z .before .before .before .pre) (z .before .part-area .ensures) (z .share .ensures)) (a .put-decimal .ensures))
 
-slice-aggregate-put-field-2 : tie.Need-slice-aggregate-put-field-2
-slice-aggregate-put-field-2 c = search needs
+slice-aggregate-put-word-decimal-2 : tie.Need-slice-aggregate-put-word-decimal-2
+slice-aggregate-put-word-decimal-2 c = search needs
 
-put-field-requires-2 : tie.Need-put-field-requires-2
-put-field-requires-2 c κs =
+put-word-decimal-requires-2 : tie.Need-put-word-decimal-requires-2
+put-word-decimal-requires-2 c κs =
     let b = c .before .before .before .before in
     let a = b .before .before .before .before .before in
     let z = a .before .before in
     putting-room
-    (putting-step (putting-step (part-start (z .before .before .before .pre) (z .before .part-area .ensures) (z .share .ensures)) (a .put-decimal .ensures)) (b .put-field .ensures))
+    (putting-step (putting-step (part-start (z .before .before .before .pre) (z .before .part-area .ensures) (z .share .ensures)) (a .put-decimal .ensures)) (b .put-word-decimal .ensures))
 
-slice-aggregate-put-field-3 : tie.Need-slice-aggregate-put-field-3
-slice-aggregate-put-field-3 c = search needs
+slice-aggregate-put-word-decimal-3 : tie.Need-slice-aggregate-put-word-decimal-3
+slice-aggregate-put-word-decimal-3 c = search needs
 
-put-field-requires-3 : tie.Need-put-field-requires-3
-put-field-requires-3 c κs =
+put-word-decimal-requires-3 : tie.Need-put-word-decimal-requires-3
+put-word-decimal-requires-3 c κs =
     let d = c .before .before .before .before in
     let b = d .before .before .before .before .before in
     let a = b .before .before .before .before .before in
     let z = a .before .before in
     putting-room
     (putting-step
-    (putting-step (putting-step (part-start (z .before .before .before .pre) (z .before .part-area .ensures) (z .share .ensures)) (a .put-decimal .ensures)) (b .put-field .ensures))
-    (d .put-field2 .ensures))
+    (putting-step (putting-step (part-start (z .before .before .before .pre) (z .before .part-area .ensures) (z .share .ensures)) (a .put-decimal .ensures)) (b .put-word-decimal .ensures))
+    (d .put-word-decimal2 .ensures))
 
 put-corners-requires : tie.Need-put-corners-requires
 put-corners-requires c κs =
@@ -61,9 +61,9 @@ put-corners-requires c κs =
     putting-room
     (putting-step
     (putting-step
-    (putting-step (putting-step (part-start (z .before .before .before .pre) (z .before .part-area .ensures) (z .share .ensures)) (a .put-decimal .ensures)) (b .put-field .ensures))
-    (d .put-field2 .ensures))
-    (e .put-field3 .ensures))
+    (putting-step (putting-step (part-start (z .before .before .before .pre) (z .before .part-area .ensures) (z .share .ensures)) (a .put-decimal .ensures)) (b .put-word-decimal .ensures))
+    (d .put-word-decimal2 .ensures))
+    (e .put-word-decimal3 .ensures))
 
 slice-aggregate-put-bytes : tie.Need-slice-aggregate-put-bytes
 slice-aggregate-put-bytes c = search needs
@@ -80,9 +80,9 @@ put-bytes-requires c κs =
     (putting-step
     (putting-step
     (putting-step
-    (putting-step (putting-step (part-start (z .before .before .before .pre) (z .before .part-area .ensures) (z .share .ensures)) (a .put-decimal .ensures)) (b .put-field .ensures))
-    (d .put-field2 .ensures))
-    (e .put-field3 .ensures))
+    (putting-step (putting-step (part-start (z .before .before .before .pre) (z .before .part-area .ensures) (z .share .ensures)) (a .put-decimal .ensures)) (b .put-word-decimal .ensures))
+    (d .put-word-decimal2 .ensures))
+    (e .put-word-decimal3 .ensures))
     (f .put-corners .ensures))
 
 same-length : tie.Need-same-length
@@ -102,9 +102,9 @@ returns c =
     (putting-step
     (putting-step
     (putting-step
-    (putting-step (putting-step (part-start (z .before .before .before .pre) (z .before .part-area .ensures) (z .share .ensures)) (a .put-decimal .ensures)) (b .put-field .ensures))
-    (d .put-field2 .ensures))
-    (e .put-field3 .ensures))
+    (putting-step (putting-step (part-start (z .before .before .before .pre) (z .before .part-area .ensures) (z .share .ensures)) (a .put-decimal .ensures)) (b .put-word-decimal .ensures))
+    (d .put-word-decimal2 .ensures))
+    (e .put-word-decimal3 .ensures))
     (f .put-corners .ensures))
     (g .put-bytes .ensures))
 
@@ -115,12 +115,12 @@ put-part-spec =
     part-area-requires
     share-requires
     put-decimal-requires
-    slice-aggregate-put-field
-    put-field-requires
-    slice-aggregate-put-field-2
-    put-field-requires-2
-    slice-aggregate-put-field-3
-    put-field-requires-3
+    slice-aggregate-put-word-decimal
+    put-word-decimal-requires
+    slice-aggregate-put-word-decimal-2
+    put-word-decimal-requires-2
+    slice-aggregate-put-word-decimal-3
+    put-word-decimal-requires-3
     put-corners-requires
     slice-aggregate-put-bytes
     put-bytes-requires

@@ -24,18 +24,18 @@ returns c =
     let e = operands-refused (g .reflected) l r (length (g .starts .now)) (length (g .corners .now)) (c .before .before .operands-fault .ensures) (c .before .if1 .taken) in
     refused (pairContours (g .reflected) l r) (resultBounds (g .reflected) (g .left-bounds) (g .right-bounds)) (g .starts .now) (g .corners .now) e (c .before .if1 .taken) (c .refusal .ensures)
 
-is-small-requires : tie.Need-is-small-requires
-is-small-requires c κs = search needs
+fits-requires : tie.Need-fits-requires
+fits-requires c κs = search needs
 
-is-small-requires-2 : tie.Need-is-small-requires-2
-is-small-requires-2 c κs = search needs
+fits-requires-2 : tie.Need-fits-requires-2
+fits-requires-2 c κs = search needs
 
 pairs-small-requires : tie.Need-pairs-small-requires
 pairs-small-requires c κs =
     let t = c .before .before in
     let u = t .before .before in
     let f = u .before .before in
-    (sym (f .before .operands-fault .ensures) ∙ f .if1 .left, u .before .is-small .ensures (u .if2 .taken), t .before .is-small2 .ensures (t .if3 .taken))
+    (sym (f .before .operands-fault .ensures) ∙ f .if1 .left, u .before .fits2 .ensures (u .if2 .taken), t .before .fits3 .ensures (t .if3 .taken))
 
 same-length : tie.Need-same-length
 same-length c = search needs
@@ -65,8 +65,8 @@ all-pairs-spec =
     operands-fault-requires
     refusal-requires
     returns
-    is-small-requires
-    is-small-requires-2
+    fits-requires
+    fits-requires-2
     pairs-small-requires
     same-length
     same-length-2

@@ -28,8 +28,8 @@ pairs-over-requires c κs =
     let j = judged l r (s .pre .0) in
     record {
       accepted = s .pre .0;
-      left = small l (j .0) (s .pre .1) refl refl;
-      right = small r (j .1) (s .pre .2) refl refl;
+      left = small l (j .0) 256 (s .pre .1) refl refl;
+      right = small r (j .1) 256 (s .pre .2) refl refl;
     }
 
 same-length : tie.Need-same-length

@@ -1,10 +1,19 @@
--- `minkowski_parts::sum_parts` meets its contract: the answer of `all_pairs`. Assumes nothing.
+-- `minkowski_parts::sum_parts` meets its contract: the answer of `tiny_pairs` or of `all_pairs`. Assumes nothing.
 use borrow.Author.Needs.{needs}
 use Rattle.minkowski_parts.proofs.sum_parts.Statement.{statement}
 use Rattle.minkowski_parts.proofs.sum_parts.Tie as tie
 
-all-pairs-requires : tie.Need-all-pairs-requires
-all-pairs-requires c κs = search needs
+fits-requires : tie.Need-fits-requires
+fits-requires c κs = search needs
+
+fits-requires-2 : tie.Need-fits-requires-2
+fits-requires-2 c κs = search needs
+
+tiny-pairs-requires : tie.Need-tiny-pairs-requires
+tiny-pairs-requires c κs =
+    let t = c .before .before in
+    let u = t .before .before in
+    (u .before .fits2 .ensures (u .if1 .taken), t .before .fits3 .ensures (t .if2 .taken))
 
 same-length : tie.Need-same-length
 same-length c = search needs
@@ -14,8 +23,22 @@ same-length-2 c = search needs
 
 returns : tie.Need-returns
 returns c =
+    let a = c .before .before .before .tiny-pairs .ensures in
+    (a .counts, (a .starts, a .corners))
+
+all-pairs-requires : tie.Need-all-pairs-requires
+all-pairs-requires c κs = search needs
+
+same-length-3 : tie.Need-same-length-3
+same-length-3 c = search needs
+
+same-length-4 : tie.Need-same-length-4
+same-length-4 c = search needs
+
+returns-2 : tie.Need-returns-2
+returns-2 c =
     let a = c .before .before .before .all-pairs .ensures in
     (a .counts, (a .starts, a .corners))
 
 pub sum-parts-spec : {M : Type 1} → statement M
-sum-parts-spec = tie.close (tie.spec all-pairs-requires same-length same-length-2 returns)
+sum-parts-spec = tie.close (tie.spec fits-requires fits-requires-2 tiny-pairs-requires same-length same-length-2 returns all-pairs-requires same-length-3 same-length-4 returns-2)

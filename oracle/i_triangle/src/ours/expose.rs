@@ -11,6 +11,7 @@ use crate::int::minkowski_sum::ConvexSum;
 use i_overlay::i_float::int::point::IntPoint;
 use i_overlay::i_float::int::rect::IntRect;
 use i_overlay::i_float::triangle::Triangle;
+use i_overlay::i_shape::int::shape::IntShapes;
 
 /// A point as (x, y), and a contour as a list of them.
 pub type Point = (i32, i32);
@@ -101,6 +102,50 @@ pub fn pairs(
     }
     assert!(paths.next().is_none(), "a path for each pair of contours");
     Ok(contours)
+}
+
+/// Two operands in the Rust's own types, made once, so that a measurement of all
+/// pairs has neither their making in it nor the answer's turning into plain lists.
+pub struct PreparedPairs {
+    solver: IntMinkowskiSolver<i32>,
+    left: (Parts, IntRect<i32>),
+    right: (Parts, IntRect<i32>),
+    drawn: Vec<IntPoint<i32>>,
+}
+
+impl PreparedPairs {
+    pub fn of(left: &[Contour], lb: Bounds, right: &[Contour], rb: Bounds) -> Self {
+        let side = |parts: &[Contour], bounds| -> (Parts, _) {
+            (parts.iter().map(|c| points(c)).collect(), rect(bounds))
+        };
+        Self {
+            solver: IntMinkowskiSolver::default(),
+            left: side(left, lb),
+            right: side(right, rb),
+            drawn: Vec::new(),
+        }
+    }
+
+    /// `sum_parts`, with the stand-in overlay, which keeps each path as a list.
+    pub fn sum_parts(&mut self) -> Result<IntShapes<i32>, MinkowskiError> {
+        let ((left, lb), (right, rb)) = (&self.left, &self.right);
+        self.solver.sum_parts(left, *lb, right, *rb)
+    }
+
+    /// The pairs' walks alone, the loops of `sum_parts` without an overlay: drawn
+    /// into one list, which is kept from one call to the next. Answers how many
+    /// corners they have.
+    pub fn draw(&mut self) -> usize {
+        self.drawn.clear();
+        for a in &self.left.0 {
+            for b in &self.right.0 {
+                if let Some(path) = ConvexSum::new(a, b) {
+                    self.drawn.extend(path);
+                }
+            }
+        }
+        self.drawn.len()
+    }
 }
 
 /// `ConvexSum::new` or `ConvexSum::difference`, drawn to its end.

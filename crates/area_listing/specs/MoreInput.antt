@@ -1,0 +1,10 @@
+-- Why the area program reads no more than one byte past the longest good file, 20 + 36 · 1,024 = 36,884 bytes (issue 14: "that more input cannot change the
+-- answer is a law"). Assumes nothing.
+use mathlib.Core.Path.{_≡_}
+use mathlib.Core.List.{List, _++_}
+use Prim.Native.Nat.{ℕ}
+use lib.ListN.{length}
+use Rattle.listing.specs.Listing.{areasOf}
+
+abbrev pub MoreInput : Type 0
+MoreInput = (bytes more : List ℕ) → length bytes ≡ 36885 → areasOf (bytes ++ more) ≡ areasOf bytes

@@ -1,0 +1,13 @@
+// The area program (document 01, "The file and its listing"): reads a mesh file from standard input and prints its convex parts with their areas, or its
+// refusal. It reads at most one byte more than the longest good file; more input would change nothing (area_listing/specs/MoreInput.antt). Leans on input
+// and area_listing.
+use area_listing::INPUT;
+use area_listing::LISTING;
+
+fn main() {
+    let mut bytes = [0u8; INPUT];
+    let n = input::read_input(&mut bytes);
+    let mut text = [0u8; LISTING];
+    let length = area_listing::listing(&bytes[..n], &mut text);
+    input::write_output(&text[..length]);
+}

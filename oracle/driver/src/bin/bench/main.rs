@@ -1,0 +1,31 @@
+//! `bench [ROUNDS [joining|splits|pairs]]`: times our calls, the Rust's and, of all
+//! pairs, a C++ one from this one program on the same inputs, in turn, and prints our
+//! time over theirs. docs/BENCHMARKS.md says what they show.
+
+mod meshes;
+mod pairs;
+mod peers;
+mod timing;
+
+use std::env;
+
+/// How often each function is called for a kind of mesh, or a quarter of that for a
+/// kind, a limit and a split; fewer times for all pairs of many corners.
+const ROUNDS: usize = 2_000;
+
+fn main() {
+    let words: Vec<String> = env::args().skip(1).collect();
+    let rounds = words.first().and_then(|word| word.parse().ok());
+    let rounds = rounds.unwrap_or(ROUNDS);
+    let only = words.get(1).map(String::as_str);
+    let topics: [(&str, fn(usize)); 3] = [
+        ("joining", meshes::joining),
+        ("splits", meshes::splits),
+        ("pairs", pairs::pairs),
+    ];
+    for (name, topic) in topics {
+        if only.is_none() || only == Some(name) {
+            topic(rounds);
+        }
+    }
+}

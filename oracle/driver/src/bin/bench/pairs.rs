@@ -1,0 +1,262 @@
+//! All pair sums, timed: our `sum_parts`, whole and with all its checks, the Rust's and
+//! a textbook merge in C++ on the same operands.
+
+use crate::peers;
+use crate::timing::{median, timed};
+use driver::boundary::{all_pairs, Lists};
+use i_triangle::int::expose::PreparedPairs;
+use inputs::contours;
+use inputs::rng::Rng;
+use judge::pairs::Operation::Sum;
+use judge::table::Table;
+use judge::Contour;
+use std::hint::black_box;
+use std::time::Duration;
+
+/// How many left parts and right parts of how many corners each.
+type Size = (usize, usize, usize);
+
+const SIZES: [Size; 5] = [
+    (64, 64, 8),
+    (64, 64, 64),
+    (64, 64, 128),
+    (16, 16, 512),
+    (2_048, 16, 4),
+];
+
+/// The same contours, four times as many pairs from line to line.
+const GROWING: [Size; 3] = [(16, 16, 8), (32, 32, 8), (64, 64, 8)];
+
+/// How many pairs of triangles take turns, so many that the processor cannot learn
+/// their branches.
+const TRIANGLES: usize = 256;
+
+pub fn pairs(rounds: usize) {
+    println!("our whole sum_parts: its time over that of the C++, of the Rust's walks alone,");
+    println!("of the Rust's sum_parts; CGAL's time over ours where it is installed");
+    println!("ample room            exact room");
+    for size in SIZES {
+        let mut subject = Subject::of(&mut Rng::new(1), size);
+        // As many calls of a size as take about as long as those of another.
+        let rounds = (rounds * 20_000 / subject.corners).clamp(101, rounds.max(101));
+        let times = subject.times(rounds, 1);
+        println!("{}    {}", times.told(), name(size));
+    }
+    triangles(rounds);
+    growth(rounds);
+}
+
+fn name((left, right, corners): Size) -> String {
+    format!("{left} by {right} of {corners} corners")
+}
+
+/// One pair of triangles, the same one or another each time.
+fn triangles(rounds: usize) {
+    let mut rng = Rng::new(1);
+    let mut all: Vec<Subject> = (0..TRIANGLES)
+        .map(|_| Subject::of(&mut rng, (1, 1, 3)))
+        .collect();
+    for (count, name) in [(1, "the same"), (TRIANGLES, "another each time")] {
+        let mut times = Times::default();
+        for _ in 0..rounds {
+            times.add_turns(&mut all[..count], TRIANGLES);
+        }
+        println!("{}    one pair of triangles, {name}", times.told());
+    }
+}
+
+/// The time for each result corner at three sizes over that at the first.
+fn growth(rounds: usize) {
+    println!("our time for each result corner over that of the first");
+    println!("ample room    exact room");
+    let mut rng = Rng::new(1);
+    let mut all = GROWING.map(|size| Subject::of(&mut rng, size));
+    let mut times = GROWING.map(|_| Times::default());
+    for _ in 0..(rounds / 4).max(101) {
+        for (subject, times) in all.iter_mut().zip(&mut times) {
+            times.add_ours(subject);
+        }
+    }
+    let each: Vec<[f64; 2]> = times
+        .into_iter()
+        .zip(&all)
+        .map(|(t, s)| [t.ample, t.exact].map(|t| median(t) / s.corners as f64))
+        .collect();
+    for (size, now) in GROWING.into_iter().zip(&each) {
+        let [ample, exact] = [0, 1].map(|k| now[k] / each[0][k]);
+        println!("{ample:4.2}          {exact:4.2}          {}", name(size));
+    }
+}
+
+/// Two operands as each side takes them, made before anything is timed.
+struct Subject {
+    left: Side,
+    right: Side,
+    rust: PreparedPairs,
+    /// How many corners all pairs have.
+    corners: usize,
+    /// Lent: places for the starts, and for as many corners as there can be.
+    starts: Vec<u32>,
+    numbers: Vec<i32>,
+}
+
+struct Side {
+    table: Table,
+    bounds: [i32; 4],
+    peer: Option<peers::Operand>,
+}
+
+impl Side {
+    fn of(parts: &[Contour]) -> Self {
+        let table = Table::of(parts);
+        Self {
+            bounds: contours::bounds(&parts.concat()),
+            peer: peers::Operand::new(&table),
+            table,
+        }
+    }
+
+    fn lists(&self) -> Lists<'_> {
+        (&self.table.starts, &self.table.corners, self.bounds)
+    }
+}
+
+impl Subject {
+    /// Of strictly convex parts. The first right part is the first left one, whose edges
+    /// all tie: so the pairs have fewer corners than there could be, and exact room
+    /// makes the call count them.
+    fn of(rng: &mut Rng, (left, right, corners): Size) -> Self {
+        let mut parts = |count| -> Vec<Contour> { (0..count).map(|_| convex(rng, corners)).collect() };
+        let (left, mut right) = (parts(left), parts(right));
+        right[0].clone_from(&left[0]);
+        let (l, r) = (Side::of(&left), Side::of(&right));
+        let mut rust = PreparedPairs::of(&left, l.bounds, &right, r.bounds);
+        let most = right.len() * l.table.corner_count() + left.len() * r.table.corner_count();
+        let corners = rust.draw();
+        assert!(corners < most);
+        let mut subject = Self {
+            starts: vec![0; left.len() * right.len() + 1],
+            numbers: vec![0; 2 * most],
+            left: l,
+            right: r,
+            rust,
+            corners,
+        };
+        subject.agree();
+        subject
+    }
+
+    /// All that is timed answers alike.
+    fn agree(&mut self) {
+        let shapes = self.rust.sum_parts().expect("an accepted pair");
+        let rust: Vec<i32> = shapes
+            .iter()
+            .flatten()
+            .flatten()
+            .flat_map(|p| [p.x, p.y])
+            .collect();
+        for room in [self.numbers.len(), 2 * self.corners] {
+            assert_eq!(self.ours(room), self.corners);
+            assert!(self.numbers.starts_with(&rust));
+        }
+        self.numbers.fill(0);
+        if let Some(count) = self.textbook() {
+            assert_eq!(count, self.corners);
+            assert!(self.numbers.starts_with(&rust));
+        }
+    }
+
+    fn ours(&mut self, room: usize) -> usize {
+        let (left, right) = (self.left.lists(), self.right.lists());
+        let numbers = black_box(&mut self.numbers[..room]);
+        let told = all_pairs(Sum, left, right, black_box(&mut self.starts), numbers);
+        assert_eq!(told.fault, 0);
+        told.corners as usize
+    }
+
+    fn textbook(&mut self) -> Option<usize> {
+        let (left, right) = (self.left.peer.as_ref()?, self.right.peer.as_ref()?);
+        Some(left.textbook(right, black_box(&mut self.numbers)))
+    }
+
+    fn cgal(&self) -> Option<usize> {
+        self.left.peer.as_ref()?.cgal(self.right.peer.as_ref()?)
+    }
+
+    fn times(&mut self, rounds: usize, calls: usize) -> Times {
+        let mut times = Times::default();
+        for _ in 0..rounds {
+            times.add_turns(std::slice::from_mut(self), calls);
+        }
+        times
+    }
+}
+
+/// A strictly convex contour of just so many corners.
+fn convex(rng: &mut Rng, corners: usize) -> Contour {
+    loop {
+        let contour = contours::convex(rng, corners, 1 << 28);
+        if contour.len() == corners {
+            return contour;
+        }
+    }
+}
+
+/// How long each took, round by round.
+#[derive(Default)]
+struct Times {
+    ample: Vec<Duration>,
+    exact: Vec<Duration>,
+    textbook: Vec<Duration>,
+    walks: Vec<Duration>,
+    rust: Vec<Duration>,
+    cgal: Vec<Duration>,
+}
+
+impl Times {
+    /// So many calls of each, in turn, on one subject after another.
+    fn add_turns(&mut self, all: &mut [Subject], calls: usize) {
+        let n = all.len();
+        if all[0].left.peer.is_some() {
+            self.textbook.push(timed(calls, |k| all[k % n].textbook()));
+        }
+        let ample = timed(calls, |k| {
+            let room = all[k % n].numbers.len();
+            all[k % n].ours(room)
+        });
+        self.ample.push(ample);
+        self.walks.push(timed(calls, |k| all[k % n].rust.draw()));
+        let exact = timed(calls, |k| {
+            let room = 2 * all[k % n].corners;
+            all[k % n].ours(room)
+        });
+        self.exact.push(exact);
+        self.rust.push(timed(calls, |k| all[k % n].rust.sum_parts()));
+        // CGAL takes so long that three rounds are enough.
+        if self.cgal.len() < 3 && all[0].cgal().is_some() {
+            self.cgal.push(timed(calls, |k| all[k % n].cgal()));
+        }
+    }
+
+    /// Ours alone.
+    fn add_ours(&mut self, subject: &mut Subject) {
+        let room = subject.numbers.len();
+        self.ample.push(timed(1, |_| subject.ours(room)));
+        let room = 2 * subject.corners;
+        self.exact.push(timed(1, |_| subject.ours(room)));
+    }
+
+    fn told(self) -> String {
+        let of = |times: Vec<Duration>| (!times.is_empty()).then(|| median(times));
+        let theirs = [self.textbook, self.walks, self.rust].map(of);
+        let cgal = of(self.cgal);
+        let ours = [self.ample, self.exact].map(median);
+        let over = |ours: f64, theirs: Option<f64>| match theirs {
+            Some(theirs) => format!("{:4.2}", ours / theirs),
+            None => "none".into(),
+        };
+        let told = ours.map(|ours| theirs.map(|theirs| over(ours, theirs)).join(" "));
+        let cgal = cgal.map_or("none".into(), |cgal| format!("{:.0}", cgal / ours[0]));
+        format!("{}        {}        {cgal}", told[0], told[1])
+    }
+}

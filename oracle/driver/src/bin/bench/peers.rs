@@ -1,0 +1,93 @@
+//! The C++ beside ours (oracle/peers), where a compiler was found.
+
+pub use linked::Operand;
+
+#[cfg(peers)]
+mod linked {
+    use judge::table::Table;
+    use std::ffi::c_void;
+
+    extern "C" {
+        fn peers_operand(starts: *const u32, parts: usize, corners: *const i32) -> *mut c_void;
+        fn peers_free(operand: *mut c_void);
+        fn peers_t1_all(left: *const c_void, right: *const c_void, out: *mut i32) -> usize;
+    }
+
+    /// An operand as the C++ takes it, and as CGAL does where it is installed.
+    pub struct Operand {
+        made: *mut c_void,
+        #[cfg(cgal)]
+        exact: *mut c_void,
+    }
+
+    impl Operand {
+        // Safe: the C++ reads the lists within the starts and keeps a copy.
+        pub fn new(table: &Table) -> Option<Self> {
+            let (starts, corners) = (&table.starts, &table.corners);
+            let parts = table.parts();
+            let made = unsafe { peers_operand(starts.as_ptr(), parts, corners.as_ptr()) };
+            Some(Self {
+                made,
+                #[cfg(cgal)]
+                exact: unsafe { cgal_operand(made) },
+            })
+        }
+
+        /// All pairs by the textbook merge, into a list that has room for them.
+        pub fn textbook(&self, other: &Self, out: &mut [i32]) -> usize {
+            unsafe { peers_t1_all(self.made, other.made, out.as_mut_ptr()) }
+        }
+    }
+
+    impl Drop for Operand {
+        fn drop(&mut self) {
+            unsafe { peers_free(self.made) };
+            #[cfg(cgal)]
+            unsafe {
+                cgal_free(self.exact)
+            };
+        }
+    }
+
+    #[cfg(cgal)]
+    extern "C" {
+        fn cgal_operand(operand: *const c_void) -> *mut c_void;
+        fn cgal_free(operand: *mut c_void);
+        fn cgal_all(left: *const c_void, right: *const c_void) -> usize;
+    }
+
+    impl Operand {
+        /// All pairs by CGAL; none where it is not installed.
+        #[cfg(cgal)]
+        pub fn cgal(&self, other: &Self) -> Option<usize> {
+            Some(unsafe { cgal_all(self.exact, other.exact) })
+        }
+
+        #[cfg(not(cgal))]
+        pub fn cgal(&self, _other: &Self) -> Option<usize> {
+            None
+        }
+    }
+}
+
+#[cfg(not(peers))]
+mod linked {
+    use judge::table::Table;
+
+    /// There was no C++ compiler, so there is none of these.
+    pub enum Operand {}
+
+    impl Operand {
+        pub fn new(_table: &Table) -> Option<Self> {
+            None
+        }
+
+        pub fn textbook(&self, _other: &Self, _out: &mut [i32]) -> usize {
+            match *self {}
+        }
+
+        pub fn cgal(&self, _other: &Self) -> Option<usize> {
+            match *self {}
+        }
+    }
+}
