@@ -6,6 +6,7 @@ use mathlib.Core.Bool.{Bool, true, false}
 use mathlib.Core.List.{List, [], _∷_, _++_}
 use Prim.Native.Nat.{ℕ}
 use native.Mathlib.Omega.{arith}
+use borrow.Author.Tests.{eqb-true, eqb-false}
 use lib.Dec.{eqb, lit<}
 use Rattle.integers.specs.Faults.{Kind, firstFault}
 use Rattle.integers.proofs.Faults.{first-this, first-next, first-none, append-some, append-none}
@@ -26,7 +27,7 @@ module _ (reflected : Bool) (l r : Operand) (rest : List Kind) where
   operands-first e d = e ∙ sym (append-some (operandKinds l r) (walkKinds reflected l r ++ rest) (λ q. d (e ∙ q)))
 
   module _ (e : firstFault (operandKinds l r) ≡ 0) where
-    past-operands : firstFault (pairKinds reflected l r ++ rest) ≡ firstFault (walkKinds reflected l r ++ rest)
+    pub past-operands : firstFault (pairKinds reflected l r ++ rest) ≡ firstFault (walkKinds reflected l r ++ rest)
     past-operands = append-none (operandKinds l r) (walkKinds reflected l r ++ rest) (lit< tt, (lit< tt, (lit< tt, (lit< tt, (lit< tt, (lit< tt, tt)))))) e
 
     -- 8, 10 and 20
@@ -35,6 +36,12 @@ module _ (reflected : Bool) (l r : Operand) (rest : List Kind) where
 
     pub rest-decides : firstFault (walkKinds reflected l r) ≡ 0 → firstFault (pairKinds reflected l r ++ rest) ≡ firstFault rest
     rest-decides h = past-operands ∙ append-none (walkKinds reflected l r) rest (lit< tt, (lit< tt, (lit< tt, (lit< tt, (lit< tt, tt))))) h
+
+-- where nothing is told of two operands, none of 7, 2 and 9 is
+pub operands-none : (reflected : Bool) (l r : Operand) → firstFault (pairKinds reflected l r) ≡ 0 → firstFault (operandKinds l r) ≡ 0
+operands-none reflected l r e =
+    by-test (eqb (firstFault (operandKinds l r)) 0) (λ t. eqb-true _ 0 t)
+    (λ t. absurd (eqb-false _ 0 t (sym (append-some (operandKinds l r) (walkKinds reflected l r) (eqb-false _ 0 t)) ∙ e)))
 
 -- before those of the room
 module _ (reflected : Bool) (l r : Operand) (s c : ℕ) where

@@ -112,7 +112,7 @@ module _ (reflected : Bool) (l r : Operand) {lf rf : List ℕ} {lp rp : List (Li
   abbrev contours : List (List Pt)
   contours = contoursIn lf lp (partCount (l .starts)) rf rp (partCount (r .starts))
 
-  contours-in : contours ≡ pairContours reflected l r
+  pub contours-in : contours ≡ pairContours reflected l r
   contours-in = ap₂ mergedAll (v .read) (w .read) ∙ merged-pairs reflected (operandParts l) (operandParts r)
 
   pub unrolleds : Judged l → Judged r → {most : ℕ} → most ≡ partCount (r .starts) * (length (l .corners) / 2) + partCount (l .starts) * (length (r .corners) / 2) → Unrolleds lf lp (partCount (l .starts)) rf rp (partCount (r .starts)) most
