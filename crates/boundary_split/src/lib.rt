@@ -1,11 +1,9 @@
 // Splitting as the runs beside the Rust call it (oracle/beside links this crate as a static library): one thin function, with no `requires`,
 // that takes the split as the number which document 01's file has for it and refuses any other number with 13. Its answer and both lent buffers
-// as it returns equal the definitions of specs/Beside.antt. Leans on split_parts and, for the numbers' definition, on listing.
+// as it returns equal the definitions of specs/Beside.antt. Leans on split_parts and, for the numbers, on listing.
 ghost use mathlib.Core.Path.{_≡_};
 ghost use Rattle.mesh.specs.Rows.{rowsMesh};
-ghost use Rattle.listing.specs.File.{strategyOf};
 ghost use Rattle.boundary_split.specs.Beside.{besideCounts, besideStarts, besideCorners};
-use split::ConvexSplitStrategy;
 use table::Counts;
 
 // The last split's number: "0 ear, 1 fan, 2 centroid" (document 01).
@@ -13,19 +11,6 @@ const LAST_SPLIT: u32 = 2;
 
 // The fault of a split that is none of the three.
 const WRONG_FILE: u32 = 13;
-
-// The split of a number.
-fn strategy(n: u32) -> ConvexSplitStrategy
-    ensures { λ r. ⌜ r ≡ strategyOf n ⌝ }
-{
-    if n == 0 {
-        return ConvexSplitStrategy::EarClipping;
-    }
-    if n == 1 {
-        return ConvexSplitStrategy::Fan;
-    }
-    ConvexSplitStrategy::Centroid
-}
 
 // split_parts::to_convex_polygons_with_max_vertices. Refuses with 13 before anything else where there is no such split.
 #[no_mangle]
@@ -47,5 +32,11 @@ pub extern "C" fn beside_to_convex_polygons_with_max_vertices(
             corners: 0,
         };
     }
-    split_parts::to_convex_polygons_with_max_vertices(mesh, limit, strategy(split), starts, corners)
+    split_parts::to_convex_polygons_with_max_vertices(
+        mesh,
+        limit,
+        listing::strategy(split),
+        starts,
+        corners,
+    )
 }

@@ -1,11 +1,11 @@
 -- The mesh file (document 01, "The file and its listing"): "a header of five little-endian u32 (total bytes, triangle count, offset of records,
 -- corner limit, split: 0 ear, 1 fan, 2 centroid), then records of six i32 (x, y of the three points) and three u32". Assumes nothing.
 use mathlib.Core.Bool.{Bool, true, not, cond}
-use mathlib.Core.List.{List, [], _∷_}
+use mathlib.Core.List.{List, [], _∷_, _++_}
 use Prim.Native.Nat.{ℕ, zero, suc, _+_, _*_}
 use lib.Dec.{eqb, ltb}
 use lib.ListN.{length, getD, drop}
-use Rattle.integers.specs.Faults.{firstFault}
+use Rattle.integers.specs.Faults.{Kind, firstFault}
 use Rattle.plane.specs.Plane.{Pt}
 use Rattle.mesh.specs.Mesh.{Triangle, Mesh, meshKinds}
 use Rattle.table.specs.Stored.{wordsOf, wordAt, signed}
@@ -62,6 +62,10 @@ headerBroken bytes =
     (cond (eqb (totalBytes bytes) (20 + 36 * triangleCount bytes)) (not (eqb (totalBytes bytes) (length bytes))) true))
     true
 
--- "Under 20 bytes gives 13; then a count above 1,024 gives 1; then .. 13. The mesh's own order follows."
+-- "Under 20 bytes gives 13; then a count above 1,024 gives 1; then .. 13."
+abbrev pub headerKinds : List ℕ → List Kind
+headerKinds bytes = (13, ltb (length bytes) 20) ∷ (1, ltb 1024 (triangleCount bytes)) ∷ (13, headerBroken bytes) ∷ []
+
+-- "The mesh's own order follows."
 unfoldable pub fileFault : List ℕ → ℕ
-fileFault bytes = firstFault ((13, ltb (length bytes) 20) ∷ (1, ltb 1024 (triangleCount bytes)) ∷ (13, headerBroken bytes) ∷ meshKinds (meshOf bytes))
+fileFault bytes = firstFault (headerKinds bytes ++ meshKinds (meshOf bytes))

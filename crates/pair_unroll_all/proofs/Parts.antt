@@ -1,9 +1,9 @@
--- All parts of a table unrolled. In order: a part's numbers are a contour of sound length and range (`part-short`, `part-ranged`, `part-unrollable`); the loop over the
+-- All parts of a table unrolled. In order: a part's numbers are a contour of sound length and range (`part-short`, `part-unrollable`); the loop over the
 -- parts (`Unrolling`: `unrolling-start`, `unrolling-part`, `unrolling-leaves`, `unrolling-turn`, `unrolling-end`); every point in range (`parts-ranged`). Assumes nothing.
 use mathlib.Core.Path.{_≡_, refl, sym, _∙_, ap, subst}
 use mathlib.Core.Bool.{Bool, true, false, cond}
 use mathlib.Core.List.{List, [], _∷_, _++_, map-append, flatten}
-use Prim.Native.Nat.{ℕ, zero, suc, _+_, _-_, _*_, _/_, _%_, _≤_, _<_}
+use Prim.Native.Nat.{ℕ, suc, _+_, _-_, _*_, _/_, _%_, _≤_, _<_}
 use native.Mathlib.Numerals.{add-one}
 use native.Mathlib.Omega.{arith}
 use borrow.Author.Tests.{eq-eqb, le-ltb}
@@ -13,11 +13,11 @@ use lib.IntN.{ℤ}
 use Rattle.integers.specs.Lists.{All}
 use Rattle.integers.proofs.Tests.{differ}
 use Rattle.integers.proofs.Elements.{all-image, getD-all}
-use Rattle.plane.specs.Plane.{Pt, inRange}
+use Rattle.plane.specs.Plane.{Pt}
 use Rattle.table.specs.Table.{startsFrom, startsOf, tableParts, tableBroken, partCount, offRange}
 use Rattle.table.specs.Shown.{partNumbers}
-use Rattle.table.proofs.Rules.{was-taken, sound, count-parts}
-use Rattle.table.proofs.Shown.{part-is}
+use Rattle.table.proofs.Rules.{sound, count-parts}
+use Rattle.table.proofs.Shown.{part-is, part-ranged}
 use Rattle.pair.specs.Walk.{windingLeaves}
 use Rattle.walk.specs.Calls.{lengthBroken}
 use Rattle.convex_gather.specs.Gather.{Gathered}
@@ -45,23 +45,6 @@ part-short s c k e h =
     let rises : a ≤ b = t .rises k (omega arith) in
     let fits : 2 * b ≤ length c = omega (arith, t .bounded (suc k) (omega arith)) in
     even-short (slice (2 * a) (2 * b) c) (b - a) (omega (arith, length-slice (2 * a) (2 * b) c fits, rises)) (omega (arith, t .short k (omega arith), rises))
-
--- some of a list in range is in range
-off-take : (n : ℕ) (l : List ℤ) → offRange l ≡ false → offRange (take n l) ≡ false
-unfolding offRange
-off-take zero l h = refl
-off-take (suc n) [] h = refl
-off-take (suc n) (z ∷ l) h = let q = was-taken (inRange z) (offRange l) h in rw (q .0) (off-take n l (q .1))
-
-off-drop : (n : ℕ) (l : List ℤ) → offRange l ≡ false → offRange (drop n l) ≡ false
-unfolding offRange
-off-drop zero l h = h
-off-drop (suc n) [] h = refl
-off-drop (suc n) (z ∷ l) h = off-drop n l (was-taken (inRange z) (offRange l) h .1)
-
-pub part-ranged : (starts : List ℕ) (corners : List ℤ) (k : ℕ) → offRange corners ≡ false → offRange (partNumbers starts corners k) ≡ false
-unfolding partNumbers
-part-ranged s c k h = off-drop (2 * getD s k 0) (take (2 * getD s (suc k) 0) c) (off-take (2 * getD s (suc k) 0) c h)
 
 pub part-unrollable : {starts : List ℕ} {corners : List ℤ} {p : ℕ} {points : List (List ℤ)} {from : ℕ} → PartAt starts corners p points from → Unrollable (partNumbers starts corners p) points from
 part-unrollable {starts} {corners} {p} {points} {from} a = record {

@@ -37,7 +37,7 @@ grid-range : (p : Pt) → onGrid p ≡ true → (inRange (p .x) ≡ true) × (in
 unfolding onGrid
 grid-range p h = by-test (inRange (p .x)) (λ e. (e, rw e at h)) (λ e. differ (rw e at h))
 
-numbers-range : (l : List Pt) (more : List ℤ) → All (λ p. onGrid p ≡ true) l → offRange more ≡ false → offRange (numbersOf l ++ more) ≡ false
+pub numbers-range : (l : List Pt) (more : List ℤ) → All (λ p. onGrid p ≡ true) l → offRange more ≡ false → offRange (numbersOf l ++ more) ≡ false
 unfolding numbersOf offRange
 numbers-range [] more h k = k
 numbers-range (p ∷ l) more h k = let g = grid-range p (h .0) in rw (g .0, g .1) (numbers-range l more (h .1) k)

@@ -1,6 +1,6 @@
 -- The part shown: laws of `shownFault`, `partNumbers` and `shownPart` of `specs/Shown.antt`.
 -- In order: the fault by the tests that code makes; what no fault tells (`Shows`); where part k lies in the numbers (`Placed`); a part of
--- a slice as the machine takes it; the part shown is part k of the operand (`part-is`). Assumes nothing.
+-- a slice as the machine takes it; the part shown is part k of the operand (`part-is`), in range where all numbers are (`part-ranged`). Assumes nothing.
 use mathlib.Core.Path.{_≡_, refl, sym, _∙_, ap}
 use mathlib.Core.Bool.{Bool, true, false, cond}
 use mathlib.Core.List.{List, [], _∷_}
@@ -12,12 +12,12 @@ use lib.Dec.{leb}
 use lib.ListN.{length, take, drop, getD}
 use lib.Seq.{slice, take-nil}
 use lib.IntN.{ℤ}
-use Rattle.plane.specs.Plane.{Pt}
-use Rattle.table.specs.Table.{pointsOf, partsOf, tableParts, partCount, tableBroken}
+use Rattle.plane.specs.Plane.{Pt, inRange}
+use Rattle.table.specs.Table.{pointsOf, partsOf, tableParts, partCount, tableBroken, offRange}
 use Rattle.table.specs.Shown.{shownFault, partNumbers, shownPart}
 use Rattle.integers.proofs.Faults.{first-this, first-next, first-empty, first-none}
 use Rattle.table.proofs.Corners.{points-slice}
-use Rattle.table.proofs.Rules.{sound}
+use Rattle.table.proofs.Rules.{was-taken, sound}
 
 -- ---- the fault
 
@@ -103,3 +103,21 @@ parts-at (a ∷ b ∷ s) l (suc k) h = parts-at (b ∷ s) l k (omega arith)
 pub part-is : (starts : List ℕ) (corners : List ℤ) (k : ℕ) → k < partCount starts → pointsOf (partNumbers starts corners k) ≡ getD (tableParts starts corners) k []
 unfolding partNumbers tableParts
 part-is s c k h = points-slice (getD s k 0) (getD s (suc k) 0) c ∙ sym (parts-at s (pointsOf c) k h)
+
+-- ---- some of a list in range is in range
+
+off-take : (n : ℕ) (l : List ℤ) → offRange l ≡ false → offRange (take n l) ≡ false
+unfolding offRange
+off-take zero l h = refl
+off-take (suc n) [] h = refl
+off-take (suc n) (z ∷ l) h = let q = was-taken (inRange z) (offRange l) h in rw (q .0) (off-take n l (q .1))
+
+off-drop : (n : ℕ) (l : List ℤ) → offRange l ≡ false → offRange (drop n l) ≡ false
+unfolding offRange
+off-drop zero l h = h
+off-drop (suc n) [] h = refl
+off-drop (suc n) (z ∷ l) h = off-drop n l (was-taken (inRange z) (offRange l) h .1)
+
+pub part-ranged : (starts : List ℕ) (corners : List ℤ) (k : ℕ) → offRange corners ≡ false → offRange (partNumbers starts corners k) ≡ false
+unfolding partNumbers
+part-ranged s c k h = off-drop (2 * getD s k 0) (take (2 * getD s (suc k) 0) c) (off-take (2 * getD s (suc k) 0) c h)

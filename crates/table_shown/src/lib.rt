@@ -38,7 +38,7 @@ fn shown_fault(
 }
 
 // The numbers of part k's corners, in the lent corners.
-fn part_of<'a>(starts: &[u32], corners: &'a [i32], k: usize) -> &'a [i32]
+pub fn part_of<'a>(starts: &[u32], corners: &'a [i32], k: usize) -> &'a [i32]
     requires { ⌜ (tableBroken (now starts) (now corners) ≡ false) × (k < partCount (now starts)) ⌝ }
     ensures { λ r. ⌜ now r ≡ partNumbers (now (starts .entry)) (now (corners .entry)) k ⌝ }
 {

@@ -12,7 +12,7 @@ use Rattle.integers.proofs.Order.{by-test}
 use Rattle.text.specs.Text.{digits, decimal}
 
 -- a tenth of what is below 10^(k + 1) is below 10^k
-tenth : (k n : ℕ) → n < 10 ^ suc k → n / 10 < 10 ^ k
+pub tenth : (k n : ℕ) → n < 10 ^ suc k → n / 10 < 10 ^ k
 tenth k n h = omega (arith, h, pow-suc 10 k)
 
 -- one digit is enough for what is below 10

@@ -1,1 +1,91 @@
-// Numbers and corners as text. The definitions are in specs/. Leans on table, plane and integers.
+// Numbers and corners as text (specs/Text.antt), put at a place of lent bytes: each `put_..` tells the place after its text and leaves every other byte
+// as it was (`PutText`, specs/Put.antt); the caller has shown that there is room. That the digits denote the number is specs/Denotes.antt. Leans on the
+// kit's io for digits, and on table, plane and integers.
+ghost use mathlib.Core.Path.{_≡_};
+ghost use Prim.Native.Nat.{_+_, _≤_};
+ghost use lib.ListN.{length};
+ghost use lib.IntN.{natAbs};
+ghost use Rattle.table.specs.Table.{pointsOf};
+ghost use Rattle.text.specs.Text.{decimal, signedDecimal, cornerText, cornersText, refusal};
+ghost use Rattle.text.specs.Put.{PutText};
+
+// The bytes as they are.
+pub fn put_bytes(from: &[u8], out: &mut [u8], at: usize) -> usize
+    requires { ⌜ at + length (now from) ≤ length (now out) ⌝ }
+    ensures { λ r. ⌜ PutText (now (from .entry)) at (now (out .entry)) (now (out .exit)) r ⌝ }
+{
+    let mut i = 0;
+    while i < from.len() {
+        out[at + i] = from[i];
+        i += 1;
+    }
+    at + from.len()
+}
+
+// A number in base ten.
+pub fn put_decimal(n: u64, out: &mut [u8], at: usize) -> usize
+    requires { ⌜ at + length (decimal n) ≤ length (now out) ⌝ }
+    ensures { λ r. ⌜ PutText (decimal n) at (now (out .entry)) (now (out .exit)) r ⌝ }
+{
+    let mut digits = [0u8; 20];
+    let places = io::decimal(n, &mut digits);
+    put_bytes(&digits[..places], out, at)
+}
+
+// How far a number is from 0.
+fn size(n: i32) -> u64
+    ensures { λ r. ⌜ r ≡ natAbs n ⌝ }
+{
+    let bits = integers::unsigned(n) as u64;
+    if n < 0 { 4294967296 - bits } else { bits }
+}
+
+// A number in base ten, with a minus where it is below 0.
+pub fn put_signed(n: i32, out: &mut [u8], at: usize) -> usize
+    requires { ⌜ at + length (signedDecimal n) ≤ length (now out) ⌝ }
+    ensures { λ r. ⌜ PutText (signedDecimal n) at (now (out .entry)) (now (out .exit)) r ⌝ }
+{
+    if n < 0 {
+        let after = put_bytes(b"-", out, at);
+        return put_decimal(size(n), out, after);
+    }
+    put_decimal(size(n), out, at)
+}
+
+// " (x,y)".
+pub fn put_corner(x: i32, y: i32, out: &mut [u8], at: usize) -> usize
+    requires { ⌜ at + length (cornerText (record { x = x; y = y })) ≤ length (now out) ⌝ }
+    ensures { λ r. ⌜ PutText (cornerText (record { x = x; y = y })) at (now (out .entry)) (now (out .exit)) r ⌝ }
+{
+    let open = put_bytes(b" (", out, at);
+    let first = put_signed(x, out, open);
+    let comma = put_bytes(b",", out, first);
+    let second = put_signed(y, out, comma);
+    put_bytes(b")", out, second)
+}
+
+// The corners of numbers, x and y in turn; a last x without its y is none.
+pub fn put_corners(corners: &[i32], out: &mut [u8], at: usize) -> usize
+    requires { ⌜ at + length (cornersText (pointsOf (now corners))) ≤ length (now out) ⌝ }
+    ensures { λ r. ⌜ PutText (cornersText (pointsOf (now (corners .entry)))) at (now (out .entry)) (now (out .exit)) r ⌝ }
+{
+    let count = corners.len() / 2;
+    let mut after = at;
+    let mut k = 0;
+    while k < count {
+        let x = 2 * k;
+        after = put_corner(corners[x], corners[x + 1], out, after);
+        k += 1;
+    }
+    after
+}
+
+// "refused", the number and the line's end (document 01, "The file and its listing").
+pub fn put_refusal(fault: u32, out: &mut [u8], at: usize) -> usize
+    requires { ⌜ at + length (refusal fault) ≤ length (now out) ⌝ }
+    ensures { λ r. ⌜ PutText (refusal fault) at (now (out .entry)) (now (out .exit)) r ⌝ }
+{
+    let word = put_bytes(b"refused ", out, at);
+    let number = put_decimal(fault as u64, out, word);
+    put_bytes(b"\n", out, number)
+}

@@ -1,10 +1,10 @@
--- `boundary_split::strategy` meets its contract: the three cases of its definition. Assumes nothing.
+-- `listing::strategy` meets its contract: the three cases of its definition. Assumes nothing.
 use mathlib.Core.Path.{_≡_, refl, sym, _∙_, ap}
 use Prim.Native.Nat.{ℕ, zero, suc}
 use Rattle.split.specs.declared.ConvexSplitStrategy.the-variants.{EarClipping, Fan, Centroid}
 use Rattle.listing.specs.File.{strategyOf}
-use Rattle.boundary_split.proofs.strategy.Statement.{statement}
-use Rattle.boundary_split.proofs.strategy.Tie as tie
+use Rattle.listing.proofs.strategy.Statement.{statement}
+use Rattle.listing.proofs.strategy.Tie as tie
 
 ear : EarClipping ≡ strategyOf 0
 unfolding strategyOf

@@ -1,0 +1,3 @@
+-- Laws of the listing's areas.
+pub mod Wedges
+pub mod Totals

@@ -1,0 +1,2 @@
+-- What the areas of a listing ask and answer.
+pub mod Areas

@@ -1,0 +1,2 @@
+-- What holds of every file's listing.
+pub mod Fits

@@ -1,0 +1,3 @@
+-- Laws of the listing's lines.
+pub mod Putting
+pub mod Lines

@@ -1,0 +1,2 @@
+-- What the lines of a listing ask.
+pub mod Lines
