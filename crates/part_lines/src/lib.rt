@@ -58,11 +58,48 @@ fn print_parts(starts: &[u32], corners: &[i32], parts: u32) {
     }
 }
 
-// Writes the counts, the parts that lent starts and corners hold, and the line's end.
-pub fn print_answer(counts: Counts, starts: &[u32], corners: &[i32]) {
+// Writes the fault and the counts.
+pub fn print_counts(counts: Counts) {
     lines::print(b"fault ", counts.fault as u64, b"");
     lines::print(b", parts ", counts.parts as u64, b"");
     lines::print(b", corners ", counts.corners as u64, b"");
+}
+
+// Writes the counts, the parts that lent starts and corners hold, and the line's end.
+pub fn print_answer(counts: Counts, starts: &[u32], corners: &[i32]) {
+    print_counts(counts);
     print_parts(starts, corners, counts.parts);
+    io::write_all(1, b"\n");
+}
+
+fn print_start(n: u32) {
+    lines::print(b" ", n as u64, b"");
+}
+
+// Writes a name and the starts, each after a space.
+pub fn print_starts(name: &[u8], starts: &[u32]) {
+    io::write_all(1, name);
+    let mut i = 0;
+    while i < starts.len() {
+        print_start(starts[i]);
+        i += 1;
+    }
+}
+
+// The same of the numbers of corners.
+pub fn print_numbers(name: &[u8], numbers: &[i32]) {
+    io::write_all(1, name);
+    let mut i = 0;
+    while i < numbers.len() {
+        lines::print_coordinate(numbers[i]);
+        i += 1;
+    }
+}
+
+// Writes the counts, all that the lent starts and corners hold, written or not, and the line's end.
+pub fn print_lent(counts: Counts, starts: &[u32], corners: &[i32]) {
+    print_counts(counts);
+    print_starts(b"; starts", starts);
+    print_numbers(b"; corners", corners);
     io::write_all(1, b"\n");
 }

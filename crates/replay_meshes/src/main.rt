@@ -1,55 +1,46 @@
-// Replays a stored sample of joining, from standard input to its end: how many records hold what joining answers, and how
-// many do not. A record says first how many bytes it has; one that says what cannot be, or that the input ends within, is wrong.
-// Leans on vectors_mesh, records and lines.
-ghost use Prim.Native.Nat.{_+_, _≤_};
-use vectors_mesh::RECORD;
+// Replays a stored sample of joining, from standard input to its end: asks each case again and prints a line with what was answered and what the
+// lent places hold then. What it prints is its file `stdout`, which the oracle wrote with the answers of the Rust and of the judge
+// (vectors/README.md). Leans on convex_join, records, part_lines and lines.
+use records::HEAD;
 
-// A proved loop has to end: so many turns, of a record each, that no input has more.
-const TURNS: u64 = 1099511627776;
+// As many triangles, lent starts and lent numbers as a record may have.
+const TRIANGLES: usize = 24;
 
-// How many records are right, and how many are wrong.
-struct Tally {
-    right: u64,
-    wrong: u64,
+const STARTS: usize = 32;
+
+const NUMBERS: usize = 160;
+
+// The bytes of the longest record.
+const RECORD: usize = HEAD + 36 * TRIANGLES + 4 * STARTS + 4 * NUMBERS;
+
+// Joins the rows into the lent places, and writes the case's line.
+fn print_joined(k: u64, rows: &[[i32; 9]], starts: &mut [u32], corners: &mut [i32]) {
+    let counts = convex_join::to_convex_polygons(rows, starts, corners);
+    lines::print(b"case ", k, b": ");
+    part_lines::print_lent(counts, starts, corners);
 }
 
-// The tally of the next record of standard input, 0 of both at its end.
-fn replay_one() -> Tally
-    ensures { λ r. ⌜ r .right + r .wrong ≤ 1 ⌝ }
-{
-    let mut buf = [0u8; RECORD];
-    let n = records::read_record(&mut buf);
-    if n == 0 {
-        return Tally { right: 0, wrong: 0 };
-    }
-    if vectors_mesh::right(&buf[..n]) {
-        return Tally { right: 1, wrong: 0 };
-    }
-    Tally { right: 0, wrong: 1 }
-}
-
-// The tally of all of standard input.
-fn replay_all() -> Tally {
-    let mut right: u64 = 0;
-    let mut wrong: u64 = 0;
-    let mut turns: u64 = TURNS;
-    while turns > 0 {
-        let one = replay_one();
-        if one.right + one.wrong == 0 {
-            break;
-        }
-        right += one.right;
-        wrong += one.wrong;
-        turns -= 1;
-    }
-    Tally {
-        right: right,
-        wrong: wrong,
-    }
+// Takes the case out of its record and asks it.
+fn print_case(k: u64, record: &[u8]) {
+    let mut rows = [[0i32; 9]; TRIANGLES];
+    let mut starts = [0u32; STARTS];
+    let mut corners = [0i32; NUMBERS];
+    let n = records::rows(record, records::word(record, 1), &mut rows);
+    let at = HEAD / 4 + 9 * n;
+    let s = records::words(record, at, records::word(record, 2), &mut starts);
+    let m = records::numbers(record, at + s, records::word(record, 3), &mut corners);
+    print_joined(k, &rows[..n], &mut starts[..s], &mut corners[..m]);
 }
 
 fn main() {
-    let all = replay_all();
-    lines::print(b"right ", all.right, b"\n");
-    lines::print(b"wrong ", all.wrong, b"\n");
+    let mut k: u64 = 0;
+    while k < records::MOST {
+        let mut buf = [0u8; RECORD];
+        let n = records::read_record(&mut buf);
+        if n == 0 {
+            break;
+        }
+        print_case(k, &buf[..n]);
+        k += 1;
+    }
 }

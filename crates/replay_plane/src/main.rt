@@ -1,85 +1,75 @@
-// Replays a stored sample of plane's functions, from standard input to its end: how many records there are, and how many of them do not
-// hold what the boundary answers. A ragged last record counts as wrong. Leans on vectors and lines.
-ghost use Prim.Native.Nat.{_≤_, _<_};
-ghost use lib.ListN.{length};
-use vectors::RECORD;
+// Replays a stored sample of plane's functions, from standard input to its end: asks each case again and prints a line with what was answered. What
+// it prints is its file `stdout`, which the oracle wrote with the answers of the Rust and of the judge (vectors/README.md). Leans on
+// boundary_plane, records and lines.
+use boundary_plane::Told;
 
-// The bytes of the buffer: 1,260 records.
-const BUFFER: usize = 1260 * RECORD;
+// The bytes of a record: its size, the kind and eight coordinates, a word each.
+const RECORD: usize = 40;
 
-// A proved loop has to end: so many turns, of a buffer each, that no input has more.
-const TURNS: u64 = 1099511627776;
+// What a record's second word asks for; any other number asks for the order of directions.
+const CROSS_PRODUCT: u32 = 0;
 
-// How many records, and how many of them are wrong.
-struct Tally {
-    cases: u64,
-    wrong: u64,
+const AREA_TWO: u32 = 1;
+
+// Writes a value. Below 0 it is one more below than what -1 less the value is.
+fn print_value(n: i64) {
+    if n >= 0 {
+        lines::print(b"", n as u64, b"");
+        return;
+    }
+    lines::print(b"-", (-1 - n) as u64 + 1, b"");
 }
 
-// Where the record that starts at `at` ends: the last may be short.
-fn end_of_record(at: usize, len: usize) -> usize
-    requires { ⌜ at < len ⌝ }
-    ensures { λ r. ⌜ (at < r) × (r ≤ len) ⌝ }
-{
-    if RECORD < len - at {
-        return at + RECORD;
-    }
-    len
+// Writes a case's line.
+fn print_told(k: u64, name: &[u8], told: Told) {
+    lines::print(b"case ", k, b", ");
+    io::write_all(1, name);
+    lines::print(b": fault ", told.fault as u64, b", value ");
+    print_value(told.value);
+    io::write_all(1, b"\n");
 }
 
-// The tally of the records in bytes.
-fn replay(bytes: &[u8]) -> Tally
-    requires { ⌜ length (now bytes) ≤ 65520 ⌝ }
-    ensures { λ r. ⌜ (r .cases ≤ 65520) × (r .wrong ≤ 65520) ⌝ }
-{
-    let mut cases: u64 = 0;
-    let mut wrong: u64 = 0;
-    let mut at: usize = 0;
-    while at < bytes.len() {
-        let end = end_of_record(at, bytes.len());
-        cases += 1;
-        if !vectors::right(&bytes[at..end]) {
-            wrong += 1;
-        }
-        at = end;
+// Asks about a, b, c and d, whose coordinates these are, and writes the line.
+fn print_asked(k: u64, kind: u32, p: [i32; 8]) {
+    if kind == CROSS_PRODUCT {
+        let told = boundary_plane::beside_cross_product(
+            p[0],
+            p[1],
+            p[2],
+            p[3],
+            p[4],
+            p[5],
+            p[6],
+            p[7],
+        );
+        print_told(k, b"cross_product", told);
+        return;
     }
-    Tally {
-        cases: cases,
-        wrong: wrong,
+    if kind == AREA_TWO {
+        let told = boundary_plane::beside_area_two(p[0], p[1], p[2], p[3], p[4], p[5]);
+        print_told(k, b"area_two", told);
+        return;
     }
+    let told = boundary_plane::beside_angle_cmp(p[0], p[1], p[2], p[3], p[4], p[5], p[6], p[7]);
+    print_told(k, b"angle_cmp", told);
 }
 
-// The tally of the next buffer of standard input, 0 at its end.
-fn replay_some() -> Tally
-    ensures { λ r. ⌜ (r .cases ≤ 65520) × (r .wrong ≤ 65520) ⌝ }
-{
-    let mut buf = [0u8; BUFFER];
-    let n = io::read_full(0, &mut buf);
-    replay(&buf[..n])
-}
-
-// The tally of all of standard input.
-fn replay_all() -> Tally {
-    let mut cases: u64 = 0;
-    let mut wrong: u64 = 0;
-    let mut turns: u64 = TURNS;
-    while turns > 0 {
-        let some = replay_some();
-        if some.cases == 0 {
-            break;
-        }
-        cases += some.cases;
-        wrong += some.wrong;
-        turns -= 1;
-    }
-    Tally {
-        cases: cases,
-        wrong: wrong,
-    }
+// Takes the case out of its record and asks it.
+fn print_case(k: u64, record: &[u8]) {
+    let mut p = [0i32; 8];
+    records::numbers(record, 2, 8, &mut p);
+    print_asked(k, records::word(record, 1), p);
 }
 
 fn main() {
-    let all = replay_all();
-    lines::print(b"cases ", all.cases, b"\n");
-    lines::print(b"wrong ", all.wrong, b"\n");
+    let mut k: u64 = 0;
+    while k < records::MOST {
+        let mut buf = [0u8; RECORD];
+        let n = records::read_record(&mut buf);
+        if n == 0 {
+            break;
+        }
+        print_case(k, &buf[..n]);
+        k += 1;
+    }
 }

@@ -5,16 +5,15 @@
 //! - `told`: what the boundary's functions hand back; `written`: the memory about
 //!   lent starts and corners after a call
 //! - `plane`: `cross_product`, `area_two`, `angle_cmp`
-//! - `mesh`: `mesh_fault`, `to_convex_polygons`; `mesh_sample`: the stored sample of
-//!   the latter's answers
-//! - `split`: `to_convex_polygons_with_max_vertices`; `split_sample`: the stored sample
-//!   of its answers, as text
+//! - `mesh`: `mesh_fault`, `to_convex_polygons`
+//! - `split`: `to_convex_polygons_with_max_vertices`
 //! - `table`: `read_table`, `write_table`, `show_part`; `table_simpler`: their
-//!   simpler inputs; `table_sample`: the stored sample of their answers
+//!   simpler inputs
 //! - `walk`: one walk begun, its point, edge and advance, a walk stepped; a pair
 //!   begun, stepped, and stepped to its end
 //! - `pairs`: `sum_parts`, `difference_parts`
-//! - `sample_bytes`: the bytes of those two samples
+//! - `sample`: what a stored sample is, and `SAMPLES`, all of them: `plane_sample`,
+//!   `table_sample`, `mesh_sample`, `split_sample`
 //! - `boundary`: the C functions of the Rattle archive and the list of entry
 //!   points, where it is linked
 //!
@@ -23,14 +22,15 @@
 
 pub mod entry;
 pub mod mesh;
-pub mod mesh_sample;
+mod mesh_sample;
 pub mod pairs;
 pub mod plane;
-mod sample_bytes;
+mod plane_sample;
+pub mod sample;
 pub mod split;
-pub mod split_sample;
+mod split_sample;
 pub mod table;
-pub mod table_sample;
+mod table_sample;
 mod table_simpler;
 pub mod told;
 pub mod walk;

@@ -1,9 +1,9 @@
-//! The stored sample of joining (vectors/README.md has the layout): right records
-//! of every fault that fits in one, then wrong ones, the last of them cut short.
-//! The same bytes every time.
+//! The stored sample of joining: what is asked, of every fault that fits in a record,
+//! and what the Rust and the judge answer. The same every time.
 
-use crate::mesh::{rows, size, written, Call, Row};
-use crate::sample_bytes;
+use crate::mesh::{rows, size, written, Call};
+use crate::sample::{left, numbers, record, words, Case, Sample};
+use crate::written::Written;
 use inputs::mesh_damage::{damaged, ORDER};
 use inputs::meshes::{self, Mesh};
 use inputs::rng::Rng;
@@ -24,52 +24,27 @@ const TRIANGLES: usize = 24;
 const STARTS: usize = 32;
 const NUMBERS: usize = 160;
 
-#[derive(Debug, Clone, PartialEq, Eq)]
-struct Record {
-    rows: Vec<Row>,
-    /// What the lent places hold after the call.
-    starts: Vec<u32>,
-    numbers: Vec<i32>,
-    /// The fault, and the counts of parts and corners.
-    told: [u32; 3],
-    /// The head's last word.
-    last: u32,
+/// The record of a mesh, two words that say more of it, and the lent places as they
+/// are before the call.
+pub(crate) fn mesh_record(mesh: &Mesh, more: [u32; 2], lent: Room) -> Vec<u8> {
+    let Room { starts, numbers: n } = lent;
+    let head = [mesh.len(), starts, n].map(|n| n as u32);
+    let mut before = Written::before(lent);
+    let (starts, corners) = before.lent();
+    record(&[
+        words(&head),
+        words(&more),
+        words(&[0, 0]),
+        numbers(rows(mesh).as_flattened()),
+        words(starts),
+        numbers(corners),
+    ])
 }
 
-impl Record {
-    fn of(call: &Call) -> Self {
-        let mut answer = written(call);
-        let counts = answer.counts;
-        let (starts, numbers) = answer.lent();
-        Self {
-            rows: rows(&call.mesh),
-            starts: starts.to_vec(),
-            numbers: numbers.to_vec(),
-            told: [counts.fault, counts.parts, counts.corners],
-            last: 0,
-        }
-    }
-
-    fn bytes(&self) -> Vec<u8> {
-        let lists = [self.rows.len(), self.starts.len(), self.numbers.len()];
-        let total = 32 + 36 * lists[0] + 4 * lists[1] + 4 * lists[2];
-        let [triangles, starts, numbers] = lists.map(|n| n as u32);
-        let [fault, parts, corners] = self.told;
-        let head = [
-            total as u32,
-            triangles,
-            starts,
-            numbers,
-            fault,
-            parts,
-            corners,
-            self.last,
-        ];
-        let mut bytes: Vec<u8> = head.iter().flat_map(|w| w.to_le_bytes()).collect();
-        bytes.extend(self.rows.iter().flatten().flat_map(|v| v.to_le_bytes()));
-        bytes.extend(self.starts.iter().flat_map(|w| w.to_le_bytes()));
-        bytes.extend(self.numbers.iter().flat_map(|v| v.to_le_bytes()));
-        bytes
+fn case(call: &Call) -> Case {
+    Case {
+        record: mesh_record(&call.mesh, [0, 0], call.lent),
+        line: format!(": {}", left(written(call))),
     }
 }
 
@@ -110,9 +85,8 @@ fn faults() -> &'static [Fault] {
     &ORDER[1..]
 }
 
-/// The right records: rooms of every size, enough room, the empty mesh, each fault
-/// alone, every two.
-fn right_records() -> Vec<Record> {
+/// Rooms of every size, enough room, the empty mesh, each fault alone, every two.
+fn calls() -> Vec<Call> {
     let mut rng = Rng::new(SEED);
     let mut calls = Vec::new();
     while calls.len() < 9 * ROOMED {
@@ -130,7 +104,7 @@ fn right_records() -> Vec<Record> {
         let later = faults()[i + 1..].iter();
         calls.extend(later.map(|&second| fitting(&mut rng, |rng| refused(rng, &[first, second]))));
     }
-    calls.iter().map(Record::of).collect()
+    calls
 }
 
 fn with(mesh: &Mesh, lent: Room) -> Call {
@@ -140,107 +114,68 @@ fn with(mesh: &Mesh, lent: Room) -> Call {
     }
 }
 
-/// Copies of right records with one word changed: of what is told, of the answer, of
-/// the places past it, of the head's end; and of three refusals.
-fn wrong_records(right: &[Record]) -> Vec<Record> {
-    let longer = |r: &&Record| {
-        let [fault, parts, corners] = r.told.map(|n| n as usize);
-        fault == 0 && corners > 0 && r.starts.len() > parts + 1 && r.numbers.len() > 2 * corners
-    };
-    let refusal = |fault: Fault| move |r: &&Record| r.told[0] == fault && !r.starts.is_empty();
-    let accepted: [fn(&mut Record); 9] = [
-        |r| r.told[0] = 6,
-        |r| r.told[1] += 1,
-        |r| r.told[2] += 1,
-        |r| r.starts[1] ^= 1,
-        |r| *r.starts.last_mut().expect("a start past the answer") = 0,
-        |r| r.numbers[0] ^= 1,
-        |r| r.numbers[2 * r.told[2] as usize - 1] ^= 1,
-        |r| *r.numbers.last_mut().expect("a number past the answer") = 0,
-        |r| r.last = 1,
-    ];
-    let refused: [(Fault, fn(&mut Record)); 3] = [
-        (22, |r| r.told[0] = 21),
-        (21, |r| r.starts[0] = 0),
-        (2, |r| r.told[1] = 1),
-    ];
-    let changed = |good: Option<&Record>, change: fn(&mut Record)| {
-        let mut record = good.expect("a record to change").clone();
-        change(&mut record);
-        record
-    };
-    let first = accepted.map(|change| changed(right.iter().find(longer), change));
-    let then =
-        refused.map(|(fault, change)| changed(right.iter().find(|r| refusal(fault)(r)), change));
-    first.into_iter().chain(then).collect()
-}
-
-/// The sample, and how many of its records are right and wrong.
-pub fn sample() -> (Vec<u8>, [usize; 2]) {
-    let right = right_records();
-    let wrong = wrong_records(&right);
-    sample_bytes::sample(&right, &wrong, Record::bytes)
+pub fn sample() -> Sample {
+    Sample::of(&calls().iter().map(case).collect::<Vec<Case>>())
 }
 
 #[cfg(test)]
 mod tests {
     use super::*;
-    use crate::sample_bytes::{parted, word};
+    use crate::sample::{taken_apart, told};
 
     #[test]
     fn the_sample_has_every_fault_and_every_room() {
-        let (bytes, [right, wrong]) = sample();
-        let records = parted(&bytes);
-        assert_eq!(records.len(), right + wrong);
-        assert_eq!([right, wrong], [224, 13]);
-        let of = |fault: Fault| records[..right].iter().filter(move |r| word(r, 4) == fault);
-        assert_eq!(of(0).count(), 4 * ROOMED + PLAIN + 1);
-        assert_eq!(of(22).count(), 3 * ROOMED);
-        assert_eq!(of(21).count(), 2 * ROOMED);
+        let sample = sample();
+        let (_, lines) = taken_apart(&sample, 1_296);
+        assert_eq!(lines.len(), 224);
+        assert_eq!(told(&lines, 0), 4 * ROOMED + PLAIN + 1);
+        assert_eq!(told(&lines, 22), 3 * ROOMED);
+        assert_eq!(told(&lines, 21), 2 * ROOMED);
         for (later, &fault) in faults().iter().rev().enumerate() {
-            assert_eq!(of(fault).count(), ALONE + later);
+            assert_eq!(told(&lines, fault), ALONE + later);
         }
-        assert!(records.iter().all(|r| r.len() <= 1664));
-        let ragged = records.last().expect("a last one");
-        assert_eq!(ragged.len() + 1, word(ragged, 0) as usize);
+    }
+
+    #[test]
+    fn refused_calls_leave_the_lent_places_as_they_were() {
+        let calls = calls();
+        let refused = calls.iter().filter(|call| written(call).counts.fault != 0);
+        for call in refused {
+            let before = left(Written::before(call.lent));
+            let (_, lent) = before.split_once(';').expect("lent places");
+            assert!(case(call).line.ends_with(lent));
+        }
     }
 
     #[test]
     fn accepted_meshes_are_of_every_kind() {
-        let right = right_records();
-        let some = |of: &dyn Fn(&Record) -> bool| {
-            right
-                .iter()
-                .filter(|r| r.told[0] == 0)
-                .filter(|r| of(r))
-                .count()
+        let calls = calls();
+        let some = |of: &dyn Fn(&Call, [usize; 2]) -> bool| {
+            let accepted = calls.iter().filter(|call| {
+                let counts = written(call).counts;
+                let sizes = [counts.parts, counts.corners].map(|n| n as usize);
+                counts.fault == 0 && of(call, sizes)
+            });
+            accepted.count()
         };
-        let parts = |r: &Record| r.told[1] as usize;
-        let linked = |r: &Record| r.rows.iter().any(|row| row[6..] != [-1; 3]);
+        let all = |call: &Call| call.mesh.len();
+        let linked = |call: &Call| rows(&call.mesh).iter().any(|row| row[6..] != [-1; 3]);
         // the empty one, the longest, all in one part, in as many parts as triangles
-        assert!(some(&|r| r.rows.is_empty()) > 0);
-        assert!(some(&|r| r.rows.len() > 20) > 0);
-        assert!(some(&|r| parts(r) == 1 && r.rows.len() > 4) > 0);
-        assert!(some(&|r| parts(r) == r.rows.len() && parts(r) > 2) > 0);
-        assert!(some(&|r| linked(r) && 1 < parts(r) && parts(r) < r.rows.len()) > 20);
+        assert!(some(&|call, _| all(call) == 0) > 0);
+        assert!(some(&|call, _| all(call) > 20) > 0);
+        assert!(some(&|call, [parts, _]| parts == 1 && all(call) > 4) > 0);
+        assert!(some(&|call, [parts, _]| parts == all(call) && parts > 2) > 0);
+        assert!(some(&|call, [parts, _]| linked(call) && 1 < parts && parts < all(call)) > 20);
         // corners dropped where the turn is 0
-        assert!(some(&|r| (r.told[2] as usize) < r.rows.len() + 2 * parts(r)) > 5);
+        assert!(some(&|call, [parts, corners]| corners < all(call) + 2 * parts) > 5);
         // a corner at the end of the range
-        assert!(some(&|r| r.numbers.contains(&((1 << 30) - 1))) > 0);
+        let end = |call: &Call| written(call).lent().1.contains(&((1 << 30) - 1));
+        assert!(some(&|call, _| end(call)) > 0);
         // triangles that lie over each other
-        let over = |r: &Record| {
-            (1..r.rows.len()).any(|i| r.rows[..i].iter().any(|row| row[..6] == r.rows[i][..6]))
+        let over = |call: &Call| {
+            let rows = rows(&call.mesh);
+            (1..rows.len()).any(|i| rows[..i].iter().any(|row| row[..6] == rows[i][..6]))
         };
-        assert!(some(&over) > 0);
-    }
-
-    #[test]
-    fn wrong_records_differ_from_every_right_one() {
-        let right = right_records();
-        let wrong = wrong_records(&right);
-        assert_eq!(wrong.len(), 12);
-        for (i, record) in wrong.iter().enumerate() {
-            assert!(!right.contains(record) && !wrong[..i].contains(record));
-        }
+        assert!(some(&|call, _| over(call)) > 0);
     }
 }

@@ -1,16 +1,14 @@
-//! The stored sample of splitting (vectors/README.md has the layout): what is asked,
-//! in bytes, and what the Rust and the judge answer, as the lines that a program which
-//! asks the same has to print. The same every time.
+//! The stored sample of splitting: what is asked, and what the Rust and the judge
+//! answer. The same every time.
 
-use crate::mesh::rows;
-use crate::split::{Asked, Call};
+use crate::mesh_sample::mesh_record;
+use crate::sample::{left, Case, Sample};
+use crate::split::{written, Asked, Call};
 use inputs::mesh_damage::{damaged, ORDER};
 use inputs::meshes::{self, Mesh};
 use inputs::rng::Rng;
 use inputs::{contours, rooms};
-use judge::listing::corners_text;
-use judge::room::{self, Room, Size};
-use judge::{Contour, Fault, Point};
+use judge::{Fault, Point};
 
 const SEED: u64 = 20_261_118;
 
@@ -127,80 +125,43 @@ fn refused(rng: &mut Rng, fault: Fault) -> Call {
     }
 }
 
-fn bytes(call: &Call) -> Vec<u8> {
+fn case(call: &Call) -> Case {
     let Asked { mesh, limit, split } = &call.asked;
-    let Room { starts, numbers } = call.lent;
-    let [total, triangles] = [32 + 36 * mesh.len(), mesh.len()].map(|n| n as u32);
-    let [starts, numbers] = [starts, numbers].map(|n| n as u32);
-    let head = [total, triangles, starts, numbers, *limit, *split, 0, 0];
-    let mut bytes: Vec<u8> = head.iter().flat_map(|w| w.to_le_bytes()).collect();
-    bytes.extend(rows(mesh).iter().flatten().flat_map(|v| v.to_le_bytes()));
-    bytes
-}
-
-/// The line of case `k`.
-fn line(k: usize, call: &Call) -> String {
-    let Asked { limit, split, .. } = &call.asked;
-    let (fault, parts) = answer(call);
-    let Size { parts: n, corners } = Size::of(&parts);
-    let counts = format!("fault {fault}, parts {n}, corners {corners}");
-    let shown: Vec<String> = parts.iter().map(corners_text).collect();
-    let colon = if n == 0 { "" } else { ": " };
-    let shown = shown.join("; ");
-    format!("case {k}, limit {limit}, split {split}: {counts}{colon}{shown}\n")
-}
-
-/// The judge's refusal with no parts, or the Rust's parts.
-fn answer(call: &Call) -> (Fault, Vec<Contour>) {
-    match call.asked.parts() {
-        Err(fault) => (fault, Vec::new()),
-        Ok(parts) => match room::fault(Size::of(&parts), call.lent) {
-            0 => (0, parts),
-            fault => (fault, Vec::new()),
-        },
+    Case {
+        record: mesh_record(mesh, [*limit, *split], call.lent),
+        line: format!(", limit {limit}, split {split}: {}", left(written(call))),
     }
 }
 
-/// The records, the lines, and how many there are.
-pub fn sample() -> (Vec<u8>, String, usize) {
-    let calls = calls();
-    let lines = calls.iter().enumerate().map(|(k, call)| line(k, call));
-    (
-        calls.iter().flat_map(bytes).collect(),
-        lines.collect(),
-        calls.len(),
-    )
+pub fn sample() -> Sample {
+    Sample::of(&calls().iter().map(case).collect::<Vec<Case>>())
 }
 
 #[cfg(test)]
 mod tests {
     use super::*;
-    use crate::sample_bytes::parted;
+    use crate::sample::{taken_apart, told};
 
     #[test]
     fn the_sample_has_every_fault_and_document_01s_examples() {
-        let (bytes, text, count) = sample();
-        let lines: Vec<&str> = text.lines().collect();
-        assert_eq!((parted(&bytes).len(), lines.len()), (count, count));
-        let longest = parted(&bytes).iter().map(|record| record.len()).max();
-        assert_eq!((count, longest), (134, Some(36_932)));
-        let of = |fault: Fault| {
-            let told = format!(": fault {fault}, ");
-            lines.iter().filter(move |l| l.contains(&told)).count()
-        };
+        let sample = sample();
+        let (_, lines) = taken_apart(&sample, 36_992);
+        assert_eq!(lines.len(), 134);
         for fault in ORDER {
-            assert_eq!(of(fault), alone(fault));
+            assert_eq!(told(&lines, fault), alone(fault));
         }
-        assert_eq!((of(13), of(22), of(21)), (2, 3 * ROOMED, 2 * ROOMED));
-        assert!(of(0) > 100);
-        let square = "(0,4) (0,0) (4,0)";
+        assert_eq!(told(&lines, 13), 2);
+        assert_eq!(told(&lines, 22), 3 * ROOMED);
+        assert_eq!(told(&lines, 21), 2 * ROOMED);
+        assert!(told(&lines, 0) > 100);
+        let two = "fault 0, parts 2, corners 6; starts 0 3 6; corners";
         let desk = [
-            format!("split 0: fault 0, parts 2, corners 6: {square}; (4,0) (4,4) (0,4)"),
-            format!("split 1: fault 0, parts 2, corners 6: {square}; (0,4) (4,0) (4,4)"),
-            "split 2: fault 0, parts 4, corners 12: (2,2) (0,4) (0,0); (2,2) (0,0) (4,0); \
-             (2,2) (4,0) (4,4); (2,2) (4,4) (0,4)"
+            format!("split 0: {two} 0 4 0 0 4 0 4 0 4 4 0 4"),
+            format!("split 1: {two} 0 4 0 0 4 0 0 4 4 0 4 4"),
+            "split 2: fault 0, parts 4, corners 12; starts 0 3 6 9 12; corners \
+             2 2 0 4 0 0 2 2 0 0 4 0 2 2 4 0 4 4 2 2 4 4 0 4"
                 .into(),
-            "split 2: fault 0, parts 2, corners 6: (0,1) (0,0) (1,0); (0,1) (1,0) (1,1)".into(),
+            format!("split 2: {two} 0 1 0 0 1 0 0 1 1 0 1 1"),
         ];
         for (k, line) in desk.iter().enumerate() {
             assert_eq!(lines[k], format!("case {k}, limit 3, {line}"));

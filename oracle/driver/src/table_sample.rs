@@ -1,8 +1,7 @@
-//! The stored sample of the calls on part tables (vectors/README.md has the
-//! layout): right records of every fault, then wrong ones, the last of them cut
-//! short. The same bytes every time.
+//! The stored sample of the calls on part tables: what is asked, of every fault, and
+//! what the judge answers. The same every time.
 
-use crate::sample_bytes;
+use crate::sample::{listed, numbers, record, words, Case, Sample};
 use crate::table::{read_into, show_part, write_into};
 use inputs::rng::Rng;
 use inputs::table_calls::{any_read, any_show, any_write, Read, Show, Write};
@@ -26,77 +25,80 @@ const HELD_START: u32 = 0xa5a5_a5a5;
 const HELD_NUMBER: i32 = 0x5a5a_5a5a;
 const HELD_BYTE: u8 = 0xa5;
 
-#[derive(Debug, Clone, PartialEq, Eq)]
-struct Record {
-    kind: u32,
-    starts: Vec<u32>,
-    numbers: Vec<i32>,
-    rest: Vec<u8>,
+/// A case with its fault, and whether it fits in a record.
+struct Drawn {
+    case: Case,
     fault: Fault,
-    /// By the kind: counts, a length, or the side and the part.
-    told: [u32; 2],
+    fits: bool,
 }
 
-impl Record {
-    fn fits(&self) -> bool {
-        self.starts.len() <= STARTS && self.numbers.len() <= NUMBERS && self.rest.len() <= BYTES
-    }
-
-    fn bytes(&self) -> Vec<u8> {
-        let lists = [self.starts.len(), self.numbers.len(), self.rest.len()];
-        let total = 32 + 4 * lists[0] + 4 * lists[1] + lists[2];
-        let [starts, numbers, rest] = lists.map(|n| n as u32);
-        let [x, y] = self.told;
-        let head = [
-            total as u32,
-            self.kind,
-            starts,
-            numbers,
-            rest,
-            self.fault,
-            x,
-            y,
-        ];
-        let words = head.iter().chain(&self.starts).map(|w| w.to_le_bytes());
-        let numbers = self.numbers.iter().map(|v| v.to_le_bytes());
-        let mut bytes: Vec<u8> = words.chain(numbers).flatten().collect();
-        bytes.extend(&self.rest);
-        bytes
-    }
+fn fits(starts: usize, numbers: usize, bytes: usize) -> bool {
+    starts <= STARTS && numbers <= NUMBERS && bytes <= BYTES
 }
 
-/// The lists are what the lent places hold after the call; the rest what was read.
-fn read_record(input: Read) -> Record {
+/// The kind, how long each list is, and two words more.
+fn head(kind: u32, lists: [usize; 4], more: [u32; 2]) -> Vec<u8> {
+    [
+        words(&[kind]),
+        words(&lists.map(|n| n as u32)),
+        words(&more),
+    ]
+    .concat()
+}
+
+/// The lent starts and numbers, and the bytes to read.
+fn read_case(input: Read) -> Drawn {
     let starts = vec![HELD_START; input.lent.starts];
-    let answer = read_into(&input, starts, vec![HELD_NUMBER; input.lent.numbers]);
-    Record {
-        kind: 0,
-        starts: answer.starts,
-        numbers: answer.corners,
-        rest: input.bytes,
-        fault: answer.told.fault,
-        told: [answer.told.parts, answer.told.corners],
+    let corners = vec![HELD_NUMBER; input.lent.numbers];
+    let record = record(&[
+        head(0, [starts.len(), corners.len(), 0, 0], [0, 0]),
+        words(&starts),
+        numbers(&corners),
+        input.bytes.clone(),
+    ]);
+    let answer = read_into(&input, starts, corners);
+    let told = answer.told;
+    let line = format!(
+        ", read_table: fault {}, parts {}, corners {}; {}; {}",
+        told.fault,
+        told.parts,
+        told.corners,
+        listed("starts", &answer.starts),
+        listed("corners", &answer.corners)
+    );
+    Drawn {
+        case: Case { record, line },
+        fault: told.fault,
+        fits: fits(answer.starts.len(), answer.corners.len(), input.bytes.len()),
     }
 }
 
-/// The lists are the table; the rest is what the lent bytes hold after the call.
-fn write_record(input: Write) -> Record {
-    let answer = write_into(&input, vec![HELD_BYTE; input.lent]);
-    let length = answer.told.length as u64;
-    Record {
-        kind: 1,
-        starts: input.table.starts,
-        numbers: input.table.corners,
-        rest: answer.bytes,
-        fault: answer.told.fault,
-        told: [length as u32, (length >> 32) as u32],
+/// The table's starts and numbers, and the lent bytes.
+fn write_case(input: Write) -> Drawn {
+    let bytes = vec![HELD_BYTE; input.lent];
+    let answer = write_into(&input, bytes.clone());
+    let (starts, corners) = (input.table.starts, input.table.corners);
+    let record = record(&[
+        head(1, [starts.len(), corners.len(), 0, 0], [0, 0]),
+        words(&starts),
+        numbers(&corners),
+        bytes,
+    ]);
+    let shown: String = answer.bytes.iter().map(|b| format!("{b:02x}")).collect();
+    let told = answer.told;
+    let line = format!(
+        ", write_table: fault {}, length {}; bytes {shown}",
+        told.fault, told.length
+    );
+    Drawn {
+        case: Case { record, line },
+        fault: told.fault,
+        fits: fits(starts.len(), corners.len(), answer.bytes.len()),
     }
 }
 
-/// The lists are both tables, left and right, and then the numbers shown; the
-/// rest tells how many starts and numbers are the left one's, and how many
-/// numbers the right one's.
-fn show_record(mut input: Show) -> Record {
+/// Both tables, left and right; the side asked for and the part's number.
+fn show_case(mut input: Show) -> Drawn {
     input.lent = NUMBERS;
     let answer = show_part(&input);
     let Show {
@@ -106,133 +108,78 @@ fn show_record(mut input: Show) -> Record {
         part,
         ..
     } = input;
-    let shown = answer.numbers[..answer.told.length].to_vec();
-    let split = [left.starts.len(), left.corners.len(), right.corners.len()];
-    Record {
-        kind: 2,
-        starts: [left.starts, right.starts].concat(),
-        numbers: [left.corners, right.corners, shown].concat(),
-        rest: split
-            .iter()
-            .flat_map(|&n| (n as u32).to_le_bytes())
-            .collect(),
-        fault: answer.told.fault,
-        told: [u32::from(side == Side::Right), part],
+    let lists = [
+        left.starts.len(),
+        left.corners.len(),
+        right.starts.len(),
+        right.corners.len(),
+    ];
+    let record = record(&[
+        head(2, lists, [u32::from(side == Side::Right), part]),
+        words(&left.starts),
+        numbers(&left.corners),
+        words(&right.starts),
+        numbers(&right.corners),
+    ]);
+    let told = answer.told;
+    let shown = listed("corners", &answer.numbers[..told.length]);
+    Drawn {
+        case: Case {
+            record,
+            line: format!(", show_part: fault {}; {shown}", told.fault),
+        },
+        fault: told.fault,
+        fits: fits(lists[0] + lists[2], lists[1] + lists[3] + told.length, 0),
     }
 }
 
-/// Records drawn until there are as many of each fault as asked for.
-fn of_each(rng: &mut Rng, draw: fn(&mut Rng) -> Record, asked: &[(Fault, usize)]) -> Vec<Record> {
+/// Cases drawn until there are as many of each fault as asked for.
+fn of_each(rng: &mut Rng, draw: fn(&mut Rng) -> Drawn, asked: &[(Fault, usize)]) -> Vec<Case> {
     let mut left = asked.to_vec();
     let mut out = Vec::new();
     while left.iter().any(|&(_, n)| n > 0) {
-        let record = draw(rng);
-        let wanted = |&&mut (fault, n): &&mut (Fault, usize)| fault == record.fault && n > 0;
-        if let (true, Some((_, n))) = (record.fits(), left.iter_mut().find(wanted)) {
+        let drawn = draw(rng);
+        let wanted = |&&mut (fault, n): &&mut (Fault, usize)| fault == drawn.fault && n > 0;
+        if let (true, Some((_, n))) = (drawn.fits, left.iter_mut().find(wanted)) {
             *n -= 1;
-            out.push(record);
+            out.push(drawn.case);
         }
     }
     out
 }
 
-/// The right records, call by call.
-fn right_records() -> Vec<Record> {
+/// Call by call.
+fn cases() -> Vec<Case> {
     let mut rng = Rng::new(SEED);
-    let mut out = of_each(&mut rng, |rng| read_record(any_read(rng)), READS);
-    out.extend(of_each(
-        &mut rng,
-        |rng| write_record(any_write(rng)),
-        WRITES,
-    ));
-    out.extend(of_each(&mut rng, |rng| show_record(any_show(rng)), SHOWS));
+    let mut out = of_each(&mut rng, |rng| read_case(any_read(rng)), READS);
+    out.extend(of_each(&mut rng, |rng| write_case(any_write(rng)), WRITES));
+    out.extend(of_each(&mut rng, |rng| show_case(any_show(rng)), SHOWS));
     out
 }
 
-/// Copies of right records with one number of the answer changed: the fault, what
-/// is told, or what the memory holds after the call. And one of no kind.
-fn wrong_records(right: &[Record]) -> Vec<Record> {
-    let mut out = Vec::new();
-    for kind in 0..3 {
-        let of_kind = |r: &&Record| r.kind == kind && r.fault == 0 && r.answer_length() > 0;
-        let good = right.iter().find(of_kind).expect("an accepted one");
-        let changes: [fn(&mut Record); 4] = [
-            |r| r.fault = 7,
-            |r| r.told[0] += u32::from(r.kind != 2),
-            |r| r.told[1] += u32::from(r.kind != 2),
-            Record::change_answer,
-        ];
-        let changed = changes.iter().map(|change| {
-            let mut record = good.clone();
-            change(&mut record);
-            record
-        });
-        out.extend(changed.filter(|record| record != good));
-    }
-    let mut kindless = right[0].clone();
-    kindless.kind = 3;
-    out.push(kindless);
-    out
-}
-
-impl Record {
-    /// How many numbers, or bytes, there are that the call left or showed.
-    fn answer_length(&self) -> usize {
-        match self.kind {
-            0 => self.numbers.len(),
-            1 => self.rest.len(),
-            _ => {
-                let word = |k: usize| self.rest[4 * k] as usize;
-                self.numbers.len() - word(1) - word(2)
-            }
-        }
-    }
-
-    /// Changes the last of them.
-    fn change_answer(&mut self) {
-        match self.kind {
-            1 => *self.rest.last_mut().expect("a byte") ^= 1,
-            _ => *self.numbers.last_mut().expect("a number") ^= 1,
-        }
-    }
-}
-
-/// The sample, and how many of its records are right and wrong.
-pub fn sample() -> (Vec<u8>, [usize; 2]) {
-    let right = right_records();
-    let wrong = wrong_records(&right);
-    sample_bytes::sample(&right, &wrong, Record::bytes)
+pub fn sample() -> Sample {
+    Sample::of(&cases())
 }
 
 #[cfg(test)]
 mod tests {
     use super::*;
-    use crate::sample_bytes::{parted, word};
+    use crate::sample::{taken_apart, told, word};
 
     #[test]
     fn the_sample_covers_what_it_should() {
-        let (bytes, [right, wrong]) = sample();
-        let records = parted(&bytes);
-        assert_eq!(records.len(), right + wrong);
-        assert_eq!([right, wrong], [240, 12]);
+        let sample = sample();
+        let (records, lines) = taken_apart(&sample, 524);
+        assert_eq!(records.len(), 240);
+        let mut from = 0;
         for (kind, faults) in [READS, WRITES, SHOWS].into_iter().enumerate() {
+            let to = from + faults.iter().map(|&(_, asked)| asked).sum::<usize>();
+            assert!(records[from..to].iter().all(|r| word(r, 1) == kind as u32));
             for &(fault, asked) in faults {
-                let of = |r: &&&[u8]| word(r, 1) == kind as u32 && word(r, 5) == fault;
-                assert_eq!(records[..right].iter().filter(of).count(), asked);
+                assert_eq!(told(&lines[from..to], fault), asked);
             }
+            from = to;
         }
-        assert!(records.iter().all(|r| r.len() <= 672));
-        let ragged = records.last().expect("a last one");
-        assert_eq!(ragged.len() + 1, word(ragged, 0) as usize);
-    }
-
-    #[test]
-    fn wrong_records_differ_from_every_right_one_in_their_answer_alone() {
-        let right = right_records();
-        let wrong = wrong_records(&right);
-        assert_eq!(wrong.len(), 4 + 4 + 2 + 1);
-        for record in wrong {
-            assert!(!right.contains(&record));
-        }
+        assert_eq!(from, lines.len());
     }
 }

@@ -1,8 +1,9 @@
--- `records::read_record` meets its contract: a head, and no more after it than there is room for. Assumes nothing.
+-- `records::read_record` meets its contract: what it tells are places of buf. Assumes nothing.
 use mathlib.Core.Path.{sym}
 use native.Mathlib.Omega.{arith}
-use borrow.Author.Needs.{needs}
 use lib.Seq.{length-take-le}
+use Rattle.records.proofs.Lists.{counted}
+use borrow.Author.Needs.{needs}
 use Rattle.records.proofs.read_record.Statement.{statement}
 use Rattle.records.proofs.read_record.Tie as tie
 
@@ -48,9 +49,6 @@ part-read-full-end c = search needs
 read-full-requires-2 : tie.Need-read-full-requires-2
 read-full-requires-2 c κs = search needs
 
-add-result : tie.Need-add-result
-add-result c = search needs
-
 same-length-4 : tie.Need-same-length-4
 same-length-4 c = search needs
 
@@ -61,7 +59,7 @@ same-length-5 : tie.Need-same-length-5
 same-length-5 c = search needs
 
 returns-5 : tie.Need-returns-5
-returns-5 c = search needs
+returns-5 c = counted (c .before .before .before .before .before .before .before .word-at .result) _ (omega (arith, same-length-5 c))
 
 pub read-record-spec : {M : Type 1} → statement M
 read-record-spec =
@@ -81,7 +79,6 @@ read-record-spec =
     part-read-full-start
     part-read-full-end
     read-full-requires-2
-    add-result
     same-length-4
     returns-4
     same-length-5

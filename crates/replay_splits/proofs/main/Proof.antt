@@ -1,4 +1,4 @@
--- `replay_splits::main` is safe and ends. The invariant: no more records than turns; the measure is the turns left. Assumes nothing.
+-- `replay_splits::main` is safe and ends. The invariant: no more records than there may be; the measure is how many there may still be. Assumes nothing.
 use Prim.Native.Nat.{_≤_, _-_}
 use borrow.Author.Needs.{needs}
 use Rattle.replay_splits.proofs.main.Statement.{statement}
@@ -13,8 +13,20 @@ abbrev μ-loop : tie.MeasureT-loop
 loop-holds : tie.Need-loop-holds Inv-loop μ-loop
 loop-holds c = search needs
 
-replay-one-requires : tie.Need-replay-one-requires Inv-loop μ-loop
-replay-one-requires c κs = search needs
+slice-aggregate-read-record : tie.Need-slice-aggregate-read-record Inv-loop μ-loop
+slice-aggregate-read-record c = search needs
+
+read-record-requires : tie.Need-read-record-requires Inv-loop μ-loop
+read-record-requires c κs = search needs
+
+array-share-prefix-buf : tie.Need-array-share-prefix-buf Inv-loop μ-loop
+array-share-prefix-buf c = search needs
+
+slice-aggregate-print-case : tie.Need-slice-aggregate-print-case Inv-loop μ-loop
+slice-aggregate-print-case c = search needs
+
+print-case-requires : tie.Need-print-case-requires Inv-loop μ-loop
+print-case-requires c κs = search needs
 
 add-k : tie.Need-add-k Inv-loop μ-loop
 add-k c = search needs
@@ -38,7 +50,11 @@ main-spec =
     Inv-loop
     μ-loop
     loop-holds
-    replay-one-requires
+    slice-aggregate-read-record
+    read-record-requires
+    array-share-prefix-buf
+    slice-aggregate-print-case
+    print-case-requires
     add-k
     loop-less
     loop-again

@@ -1,3 +1,0 @@
--- Laws that belong to no one function.
-pub mod Same
-pub mod Pieces
