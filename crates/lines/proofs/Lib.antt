@@ -1,3 +1,2 @@
--- Bytes put at a place, one after another; what the text is then.
-pub mod Puts
+-- What the text is.
 pub mod Texts

@@ -1,34 +1,30 @@
--- What `put_text` answers: nothing where there is no room (`refused`), else the text (`answered`). Assumes nothing.
+-- What `put_text` answers of a number with k digits: nothing where there is no room (`refused`), else the text (`answered`). Assumes nothing.
 use mathlib.Core.Path.{_≡_, refl, sym, _∙_, ap}
-use mathlib.Core.List.{List, _∷_, [], _++_}
-use Prim.Native.Nat.{ℕ, zero, suc, _+_, _/_, _%_, _≤_, _<_}
+use mathlib.Core.List.{List, _++_}
+use Prim.Native.Nat.{ℕ, _+_, _≤_, _<_}
 use native.Mathlib.Omega.{arith}
 use borrow.Author.Tests.{lt-ltb, le-ltb}
-use lib.ListN.{length, take, length-append}
+use lib.ListN.{length, length-append}
 use lib.Seq.{length-take-le}
-use Rattle.io.specs.Digits.{digits, Fewest, glyph}
-use Rattle.integers.specs.Lists.{overlay}
-use Rattle.integers.proofs.Overlay.{length-overlay}
+use Rattle.text.specs.Text.{decimal}
+use Rattle.text.specs.Put.{PutText}
+use Rattle.text.proofs.Puts.{put-after, put-as, put-whole, put-length}
 use Rattle.lines.specs.Text.{textOf, Text}
-use Rattle.lines.proofs.Puts.{three-puts}
 
-length-digits : (k n : ℕ) → length (digits 10 k n) ≡ k
-length-digits zero n = refl
-length-digits (suc k) n = omega (arith, length-append (digits 10 k (n / 10)) (glyph (n % 10) ∷ []), length-digits k (n / 10))
-
-module _ (name end out : List ℕ) (n k : ℕ) (f : Fewest 10 1 n k) where
-  size : length (textOf name k n end) ≡ length name + k + length end
-  size = omega (arith, length-append name (digits 10 k n ++ end), length-append (digits 10 k n) end, length-digits k n)
+module _ (name end out : List ℕ) (n k : ℕ) (f : k ≡ length (decimal n)) where
+  size : length (textOf name n end) ≡ length name + k + length end
+  size = omega (arith, length-append (name ++ decimal n) end, length-append name (decimal n), f)
 
   pub refused : length out < length name + k + length end → Text name n end out 0 out
   refused h =
-      let e = lt-ltb (length out) (length (textOf name k n end)) (omega (arith, size)) in
-      record { places = k; fewest = f; told = sym (rw e); text = sym (rw e); within = (omega arith, refl) }
+      let e = lt-ltb (length out) (length (textOf name n end)) (omega (arith, size)) in
+      record { told = sym (rw e); text = sym (rw e); within = (omega arith, refl) }
 
-  pub answered : (d : List ℕ) {x y z : List ℕ} → k ≡ length d → d ≡ digits 10 k n → length name + k + length end ≤ length out → x ≡ overlay (take 0 out ++ name) out → y ≡ overlay (take (length name) x ++ d) x → z ≡ overlay (take (length name + k) y ++ end) y → Text name n end out (length name + k + length end) z
-  answered d {x} {y} {z} ek ed h ex ey ez =
-      let e = le-ltb (length out) (length (textOf name k n end)) (omega (arith, size)) in
-      let t : z ≡ overlay (textOf name k n end) out =
-      three-puts name d end out ex ey (ez ∙ ap (λ q. overlay (take (length name + q) y ++ end) y) ek) ∙ ap (λ l. overlay (name ++ (l ++ end)) out) ed in
-      let w : length name + k + length end ≤ length z = omega (arith, ap length t, length-overlay (textOf name k n end) out (omega (arith, size)), h) in
-      record { places = k; fewest = f; told = sym (rw e size); text = t ∙ sym (rw e); within = (w, sym (length-take-le (length name + k + length end) z w)) }
+  pub answered :
+      {d x y z : List ℕ} {a b r : ℕ} → d ≡ decimal n → length name + k + length end ≤ length out → PutText name 0 out x a → PutText d a x y b → PutText end b y z r →
+      Text name n end out r z
+  answered {d} {x} {y} {z} {a} {b} {r} e h p q s =
+      let t : PutText (textOf name n end) 0 out z r = put-as (ap (λ l. name ++ l ++ end) e) (put-after (omega arith) (put-after (omega arith) p q) s) in
+      let room = le-ltb (length out) (length (textOf name n end)) (omega (arith, size)) in
+      let w : r ≤ length z = omega (arith, put-whole t .0, put-length t (omega (arith, size)), size) in
+      record { told = put-whole t .0 ∙ sym (rw room); text = put-whole t .1 ∙ sym (rw room); within = (w, sym (length-take-le r z w)) }

@@ -6,18 +6,15 @@ use Prim.Native.Nat.{ℕ}
 use lib.Dec.{ltb}
 use lib.ListN.{length}
 use Rattle.io.specs.Counts.{Counts}
-use Rattle.io.specs.Digits.{digits, Fewest}
 use Rattle.integers.specs.Lists.{overlay}
+use Rattle.text.specs.Text.{decimal}
 
--- the number with k digits
-abbrev pub textOf : List ℕ → ℕ → ℕ → List ℕ → List ℕ
-textOf name k n end = name ++ (digits 10 k n ++ end)
+abbrev pub textOf : List ℕ → ℕ → List ℕ → List ℕ
+textOf name n end = name ++ decimal n ++ end
 
--- the number has the fewest digits that hold it; where the text does not fit, 0 is told and nothing changed. The
--- last line follows from those before it, and says that as many bytes as were told can be lent on
+-- where the text does not fit, 0 is told and nothing changed. The last line follows from those before it, and says that as many bytes as were told
+-- can be lent on
 pub record Text (name : List ℕ) (n : ℕ) (end out : List ℕ) (r : ℕ) (out′ : List ℕ) : Type 0 where
-  pub places : ℕ
-  pub fewest : Fewest 10 1 n places
-  pub told : r ≡ cond (ltb (length out) (length (textOf name places n end))) 0 (length (textOf name places n end))
-  pub text : out′ ≡ cond (ltb (length out) (length (textOf name places n end))) out (overlay (textOf name places n end) out)
+  pub told : r ≡ cond (ltb (length out) (length (textOf name n end))) 0 (length (textOf name n end))
+  pub text : out′ ≡ cond (ltb (length out) (length (textOf name n end))) out (overlay (textOf name n end) out)
   pub within : Counts r out′

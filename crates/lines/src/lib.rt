@@ -1,25 +1,8 @@
 // A name, a number in decimal and an end, as the programs here print them. `put_text` puts the text on the front of lent bytes and takes any
 // input: what it answers and the bytes as it returns are equations with specs/Text.antt, and where there is no room it answers 0 and changes
 // nothing. `print` writes that text and `print_coordinate` a coordinate; what is written is in io's hands, and each program's is held to its
-// file `stdout`. Leans on io and integers.
-ghost use mathlib.Core.Path.{_≡_};
-ghost use mathlib.Core.List.{_++_};
-ghost use Prim.Native.Nat.{_+_, _≤_};
-ghost use lib.ListN.{length, take};
-ghost use Rattle.integers.specs.Lists.{overlay};
+// file `stdout`. Leans on text, io and integers.
 ghost use Rattle.lines.specs.Text.{Text};
-
-// Puts the bytes at place `at` of the lent ones.
-fn put_bytes(from: &[u8], out: &mut [u8], at: usize)
-    requires { ⌜ at + length (now from) ≤ length (now out) ⌝ }
-    ensures { λ _. ⌜ now (out .exit) ≡ overlay (take at (now (out .entry)) ++ now (from .entry)) (now (out .entry)) ⌝ }
-{
-    let mut i = 0;
-    while i < from.len() {
-        out[at + i] = from[i];
-        i += 1;
-    }
-}
 
 // Puts the name, the number and the end on the front of the lent bytes and answers how many there are, or 0 where they do not fit.
 pub fn put_text(name: &[u8], n: u64, end: &[u8], out: &mut [u8]) -> usize
@@ -37,10 +20,9 @@ pub fn put_text(name: &[u8], n: u64, end: &[u8], out: &mut [u8]) -> usize
     if out.len() - after < end.len() {
         return 0;
     }
-    put_bytes(name, out, 0);
-    put_bytes(&digits[..places], out, name.len());
-    put_bytes(end, out, after);
-    after + end.len()
+    let named = text::put_bytes(name, out, 0);
+    let numbered = text::put_bytes(&digits[..places], out, named);
+    text::put_bytes(end, out, numbered)
 }
 
 // Writes the text on standard output, where it has at most 64 bytes.

@@ -21,7 +21,7 @@ value-digits zero n t h = by-test (ltb n 10) (λ e. rw e (ap (λ v. valueFrom v 
 value-digits (suc k) n t h =
     by-test (ltb n 10)
     (λ e. rw e (ap (λ v. valueFrom v t) (omega arith)))
-    (λ e. rw e (value-digits k (n / 10) ((48 + n % 10) ∷ t) (tenth (suc k) n h) ∙ ap (λ v. valueFrom v t) (omega arith)))
+    (λ e. rw e (value-digits k _ _ (tenth (suc k) n h) ∙ ap (λ v. valueFrom v t) (omega arith)))
 
 digit-digits : (k n : ℕ) (t : List ℕ) → n < 10 ^ k → All IsDigit t → All IsDigit (digits k n t)
 unfolding digits
@@ -29,7 +29,7 @@ digit-digits zero n t h d = d
 digit-digits (suc k) n t h d =
     by-test (ltb n 10)
     (λ e. rw e ((omega arith, omega (arith, ltb-true n 10 e)), d))
-    (λ e. rw e (digit-digits k (n / 10) ((48 + n % 10) ∷ t) (tenth k n h) ((omega arith, omega arith), d)))
+    (λ e. rw e (digit-digits k _ _ (tenth k n h) ((omega arith, omega arith), d)))
 
 -- the first digit of what is above 0 is above '0'
 lead-digits : (k n : ℕ) (t : List ℕ) → 0 < n → n < 10 ^ suc k → 48 < getD (digits (suc k) n t) 0 0
@@ -38,7 +38,7 @@ lead-digits zero n t p h = by-test (ltb n 10) (λ e. rw e (omega arith)) (λ e. 
 lead-digits (suc k) n t p h =
     by-test (ltb n 10)
     (λ e. rw e (omega arith))
-    (λ e. rw e (lead-digits k (n / 10) ((48 + n % 10) ∷ t) (omega (arith, ltb-false n 10 e)) (tenth (suc k) n h)))
+    (λ e. rw e (lead-digits k _ _ (omega (arith, ltb-false n 10 e)) (tenth (suc k) n h)))
 
 -- there are no fewer than those after them, and one more
 longer-digits : (k n : ℕ) (t : List ℕ) → length t < length (digits (suc k) n t)

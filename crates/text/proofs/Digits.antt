@@ -22,7 +22,7 @@ digits-enough zero zero n t h i = refl
 digits-enough zero (suc k) n t h i = by-test (ltb n 10) (λ e. rw e) (λ e. absurd (omega (arith, h, ltb-false n 10 e)))
 digits-enough (suc j) zero n t h i = by-test (ltb n 10) (λ e. rw e) (λ e. absurd (omega (arith, i, ltb-false n 10 e)))
 digits-enough (suc j) (suc k) n t h i =
-    by-test (ltb n 10) (λ e. rw e) (λ e. rw e (digits-enough j k (n / 10) ((48 + n % 10) ∷ t) (tenth (suc j) n h) (tenth (suc k) n i)))
+    by-test (ltb n 10) (λ e. rw e) (λ e. rw e (digits-enough j k _ _ (tenth (suc j) n h) (tenth (suc k) n i)))
 
 pub decimal-enough : (k n : ℕ) → n < 9223372036854775808 → n < 10 ^ suc k → decimal n ≡ digits (suc k) n []
 decimal-enough k n h i = digits-enough 19 k n [] (omega (arith, h)) i

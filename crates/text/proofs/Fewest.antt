@@ -1,4 +1,4 @@
--- The kit's digits of the fewest places are `decimal` (`decimal-fewest`). Assumes nothing.
+-- The kit's digits of the fewest places are `decimal` (`decimal-put`). Assumes nothing.
 use mathlib.Core.Path.{_≡_, refl, sym, _∙_, ap}
 use mathlib.Core.Bool.{true, false, cond}
 use mathlib.Core.List.{List, [], _∷_, _++_, append-assoc, append-nil}
@@ -7,6 +7,7 @@ use native.Mathlib.Omega.{arith}
 use native.Mathlib.Nat.{pow-suc, one-le-pow, pow-le-pow-right}
 use borrow.Author.Tests.{ltb-true, ltb-false, lt-ltb, le-ltb}
 use lib.Dec.{ltb}
+use lib.ListN.{length}
 use Rattle.io.specs.Digits.{digits as placesOf, Fewest, glyph}
 use Rattle.integers.proofs.Order.{by-test}
 use Rattle.text.specs.Text.{digits, decimal}
@@ -41,5 +42,9 @@ fewest-twenty k n h f =
     (λ e. absurd (omega (arith, h, f .2 (omega (arith, ltb-true 20 k e)), pow-le-pow-right {n = 10} (omega arith) {i = 20} {j = k - 1} (omega (arith, ltb-true 20 k e)))))
     (λ e. omega (arith, ltb-false 20 k e))
 
-pub decimal-fewest : (k n : ℕ) → n < 10 ^ 20 → Fewest 10 1 n k → decimal n ≡ placesOf 10 k n
+decimal-fewest : (k n : ℕ) → n < 10 ^ 20 → Fewest 10 1 n k → decimal n ≡ placesOf 10 k n
 decimal-fewest k n h f = digits-fewest 20 k n [] (fewest-twenty k n h f) f ∙ append-nil (placesOf 10 k n)
+
+-- what the kit answers, k, and the bytes t that it leaves
+pub decimal-put : {k n : ℕ} {t : List ℕ} → n < 10 ^ 20 → k ≡ length t → Fewest 10 1 n k → t ≡ placesOf 10 k n → (t ≡ decimal n) × (k ≡ length (decimal n))
+decimal-put {k} {n} {t} h l f e = let s : t ≡ decimal n = e ∙ sym (decimal-fewest k n h f) in (s, l ∙ ap length s)

@@ -1,8 +1,8 @@
 -- Signed numbers and corners as text, as code puts them: a number z that code reads back as u. In order: below 0 and not (`signed-below`, `signed-above`);
--- a corner's length (`corner-length`) and its five pieces (`corner-pieces`). Assumes nothing.
-use mathlib.Core.Path.{_≡_, refl, sym, _∙_, ap}
+-- a corner's length (`corner-length`) and its three pieces (`corner-pieces`). Assumes nothing.
+use mathlib.Core.Path.{_≡_, refl, sym, _∙_, ap, ap₂}
 use mathlib.Core.Bool.{true, false}
-use mathlib.Core.List.{List, [], _∷_, _++_, append-assoc}
+use mathlib.Core.List.{List, [], _∷_, _++_}
 use Prim.Native.Nat.{ℕ, _+_, _≤_}
 use native.Mathlib.Omega.{arith}
 use lib.IntN.{ℤ, pos, negsuc, natAbs}
@@ -36,11 +36,9 @@ module _ {u x v y : ℤ} (e : u ≡ x) (f : v ≡ y) where
   corner-length = rw (e, f) (simp length-append (omega arith))
 
   pub corner-pieces :
-      {at a b c d r : ℕ} {o o₁ o₂ o₃ o₄ o₅ : List ℕ} → at ≤ length o →
-      PutText (32 ∷ 40 ∷ []) at o o₁ a → PutText (signedDecimal u) a o₁ o₂ b → PutText (44 ∷ []) b o₂ o₃ c → PutText (signedDecimal v) c o₃ o₄ d → PutText (41 ∷ []) d o₄ o₅ r →
-      PutText (cornerText (record { x = x; y = y })) at o o₅ r
+      {at a b r : ℕ} {o o₁ o₂ o₃ : List ℕ} → at ≤ length o →
+      PutText ((32 ∷ 40 ∷ []) ++ signedDecimal u) at o o₁ a → PutText ((44 ∷ []) ++ signedDecimal v) a o₁ o₂ b → PutText (41 ∷ []) b o₂ o₃ r →
+      PutText (cornerText (record { x = x; y = y })) at o o₃ r
   unfolding cornerText
-  corner-pieces h p q s t w =
-      put-as
-      (ap (λ l. l ++ (41 ∷ [])) (append-assoc ((32 ∷ 40 ∷ []) ++ signedDecimal u) (44 ∷ []) (signedDecimal v)) ∙ ap (λ l. ((32 ∷ 40 ∷ l) ++ (44 ∷ signedDecimal v)) ++ (41 ∷ [])) (ap signedDecimal e) ∙ ap (λ l. ((32 ∷ 40 ∷ signedDecimal x) ++ (44 ∷ l)) ++ (41 ∷ [])) (ap signedDecimal f))
-      (put-after h (put-after h (put-after h (put-after h p q) s) t) w)
+  corner-pieces h p q s =
+      put-as (ap₂ (λ m n. (32 ∷ 40 ∷ signedDecimal m) ++ (44 ∷ signedDecimal n) ++ (41 ∷ [])) e f) (put-after h (put-after h p q) s)

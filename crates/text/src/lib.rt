@@ -2,6 +2,7 @@
 // as it was (`PutText`, specs/Put.antt); the caller has shown that there is room. That the digits denote the number is specs/Denotes.antt. Leans on the
 // kit's io for digits, and on table, plane and integers.
 ghost use mathlib.Core.Path.{_≡_};
+ghost use mathlib.Core.List.{_++_};
 ghost use Prim.Native.Nat.{_+_, _≤_};
 ghost use lib.ListN.{length};
 ghost use lib.IntN.{natAbs};
@@ -52,15 +53,31 @@ pub fn put_signed(n: i32, out: &mut [u8], at: usize) -> usize
     put_decimal(size(n), out, at)
 }
 
+// A word, and a number in base ten after it.
+pub fn put_word_decimal(word: &[u8], n: u64, out: &mut [u8], at: usize) -> usize
+    requires { ⌜ at + length (now word ++ decimal n) ≤ length (now out) ⌝ }
+    ensures { λ r. ⌜ PutText (now (word .entry) ++ decimal n) at (now (out .entry)) (now (out .exit)) r ⌝ }
+{
+    let after = put_bytes(word, out, at);
+    put_decimal(n, out, after)
+}
+
+// A word, and a number that may be below 0 after it.
+pub fn put_word_signed(word: &[u8], n: i32, out: &mut [u8], at: usize) -> usize
+    requires { ⌜ at + length (now word ++ signedDecimal n) ≤ length (now out) ⌝ }
+    ensures { λ r. ⌜ PutText (now (word .entry) ++ signedDecimal n) at (now (out .entry)) (now (out .exit)) r ⌝ }
+{
+    let after = put_bytes(word, out, at);
+    put_signed(n, out, after)
+}
+
 // " (x,y)".
 pub fn put_corner(x: i32, y: i32, out: &mut [u8], at: usize) -> usize
     requires { ⌜ at + length (cornerText (record { x = x; y = y })) ≤ length (now out) ⌝ }
     ensures { λ r. ⌜ PutText (cornerText (record { x = x; y = y })) at (now (out .entry)) (now (out .exit)) r ⌝ }
 {
-    let open = put_bytes(b" (", out, at);
-    let first = put_signed(x, out, open);
-    let comma = put_bytes(b",", out, first);
-    let second = put_signed(y, out, comma);
+    let first = put_word_signed(b" (", x, out, at);
+    let second = put_word_signed(b",", y, out, first);
     put_bytes(b")", out, second)
 }
 

@@ -1,8 +1,6 @@
 -- `text::put_decimal` meets its contract: the kit's digits are of the fewest places, and so are `decimal`. Assumes nothing.
-use mathlib.Core.Path.{_≡_, sym, _∙_, ap}
 use native.Mathlib.Omega.{arith}
-use lib.ListN.{length}
-use Rattle.text.proofs.Fewest.{decimal-fewest}
+use Rattle.text.proofs.Fewest.{decimal-put}
 use Rattle.text.proofs.Puts.{put-as}
 use borrow.Author.Needs.{needs}
 use Rattle.text.proofs.put_decimal.Statement.{statement}
@@ -19,16 +17,16 @@ slice-aggregate-put-bytes c = search needs
 
 put-bytes-requires : tie.Need-put-bytes-requires
 put-bytes-requires c κs =
-    let d = c .before .before .decimal in
-    omega (arith, d .ensures .0 .1, ap length (decimal-fewest (d .result) (c .before .before .before .before .before .args .n) (omega arith) (d .ensures .1 .0)), ap length (d .ensures .1 .1))
+    let d = c .before .before .decimal .ensures in
+    omega (arith, d .0 .1, decimal-put (omega arith) (d .0 .1) (d .1 .0) (d .1 .1) .1)
 
 same-length : tie.Need-same-length
 same-length c = search needs
 
 returns : tie.Need-returns
 returns c =
-    let d = c .before .before .before .before .before .decimal in
-    put-as (d .ensures .1 .1 ∙ sym (decimal-fewest (d .result) (c .before .before .before .before .before .before .before .before .args .n) (omega arith) (d .ensures .1 .0))) (c .before .before .put-bytes .ensures)
+    let d = c .before .before .before .before .before .decimal .ensures in
+    put-as (decimal-put (omega arith) (d .0 .1) (d .1 .0) (d .1 .1) .0) (c .before .before .put-bytes .ensures)
 
 pub put-decimal-spec : {M : Type 1} → statement M
 put-decimal-spec =
