@@ -1,39 +1,14 @@
 // The README's example of joining: the parts of document 01's dart, two triangles that do not join, then the same mesh refused, once for want of
-// a place for the last start and once for a neighbour that is not there. What it prints is its file `stdout`. Leans on convex_join and lines.
-
-fn print_start(n: u32) {
-    lines::print(b" ", n as u64, b"");
-}
-
-fn print_starts(starts: &[u32]) {
-    io::write_all(1, b"starts");
-    let mut i = 0;
-    while i < starts.len() {
-        print_start(starts[i]);
-        i += 1;
-    }
-    io::write_all(1, b"\n");
-}
-
-fn print_corners(corners: &[i32]) {
-    io::write_all(1, b"corners");
-    let mut i = 0;
-    while i < corners.len() {
-        lines::print_coordinate(corners[i]);
-        i += 1;
-    }
-    io::write_all(1, b"\n");
-}
+// a place for the last start and once for a neighbour that is not there. What it prints is its file `stdout`. Leans on convex_join, part_lines and lines.
 
 // Joins the mesh into the lent places and writes what the call told and what it left there.
 fn print_parts(mesh: &[[i32; 9]], starts: &mut [u32], corners: &mut [i32]) {
     let counts = convex_join::to_convex_polygons(mesh, starts, corners);
-    lines::print(b"joined: fault ", counts.fault as u64, b"");
-    lines::print(b", parts ", counts.parts as u64, b"");
-    lines::print(b", corners ", counts.corners as u64, b"");
+    io::write_all(1, b"joined: ");
+    part_lines::print_counts(counts);
+    lines::print_words(b"\nstarts", starts);
+    lines::print_coordinates(b"\ncorners", corners);
     io::write_all(1, b"\n");
-    print_starts(starts);
-    print_corners(corners);
 }
 
 // A row has the three points and then the neighbours across from them, -1 for none.

@@ -1,7 +1,7 @@
 // A name, a number in decimal and an end, as the programs here print them. `put_text` puts the text on the front of lent bytes and takes any
 // input: what it answers and the bytes as it returns are equations with specs/Text.antt, and where there is no room it answers 0 and changes
-// nothing. `print` writes that text and `print_coordinate` a coordinate; what is written is in io's hands, and each program's is held to its
-// file `stdout`. Leans on text, io and integers.
+// nothing. `print` writes that text, the other functions numbers and lists of them; what is written is in io's hands, and each program's is held to
+// its file `stdout`. Leans on text, io and integers.
 ghost use Rattle.lines.specs.Text.{Text};
 
 // Puts the name, the number and the end on the front of the lent bytes and answers how many there are, or 0 where they do not fit.
@@ -32,12 +32,43 @@ pub fn print(name: &[u8], n: u64, end: &[u8]) {
     io::write_all(1, &text[..size]);
 }
 
-// Writes a coordinate after a space. Below 0 its bits, read unsigned, are as far below 2^32.
-pub fn print_coordinate(n: i32) {
+// Writes a signed number. Below 0 its bits, read unsigned, are as far below 2^32.
+pub fn print_number(n: i32) {
     let bits = integers::unsigned(n) as u64;
     if n < 0 {
-        print(b" -", 4294967296 - bits, b"");
+        print(b"-", 4294967296 - bits, b"");
         return;
     }
-    print(b" ", bits, b"");
+    print(b"", bits, b"");
+}
+
+// Writes a coordinate after a space.
+pub fn print_coordinate(n: i32) {
+    io::write_all(1, b" ");
+    print_number(n);
+}
+
+// Writes a word after a space.
+fn print_word(n: u32) {
+    print(b" ", n as u64, b"");
+}
+
+// Writes a name, and each of the words.
+pub fn print_words(name: &[u8], list: &[u32]) {
+    io::write_all(1, name);
+    let mut i = 0;
+    while i < list.len() {
+        print_word(list[i]);
+        i += 1;
+    }
+}
+
+// Writes a name, and each of the coordinates.
+pub fn print_coordinates(name: &[u8], list: &[i32]) {
+    io::write_all(1, name);
+    let mut i = 0;
+    while i < list.len() {
+        print_coordinate(list[i]);
+        i += 1;
+    }
 }

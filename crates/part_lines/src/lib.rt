@@ -1,17 +1,8 @@
-// What a call that writes parts answered, as the programs here print it on one line: the fault, the counts, and the parts, a colon before the
-// first, a semicolon before each other one, and the corners of a part as (x,y), each after a space. The lists are read as far as they reach, so
-// any lists are taken; what is written is in io's hands, and each program's is held to its file `stdout`. Leans on table, lines and integers.
+// What a call that writes parts answered, as the programs here print it on one line: the fault and the counts, and then the parts, a colon before
+// the first, a semicolon before each other one, and the corners of a part as (x,y), each after a space (`print_answer`); or all that the lent places
+// hold, so that a refusal which changed something shows (`print_lent`). The lists are read as far as they reach, so any lists are taken; what is
+// written is in io's hands, and each program's is held to its file `stdout`. Leans on table and lines.
 use table::Counts;
-
-// Writes a signed number. Below 0 its bits, read unsigned, are as far below 2^32.
-fn print_number(n: i32) {
-    let bits = integers::unsigned(n) as u64;
-    if n < 0 {
-        lines::print(b"-", 4294967296 - bits, b"");
-        return;
-    }
-    lines::print(b"", bits, b"");
-}
 
 // Writes corner j, where there is one.
 fn print_corner(corners: &[i32], j: u32) {
@@ -20,9 +11,9 @@ fn print_corner(corners: &[i32], j: u32) {
         return;
     }
     io::write_all(1, b" (");
-    print_number(corners[at]);
+    lines::print_number(corners[at]);
     io::write_all(1, b",");
-    print_number(corners[at + 1]);
+    lines::print_number(corners[at + 1]);
     io::write_all(1, b")");
 }
 
@@ -72,34 +63,10 @@ pub fn print_answer(counts: Counts, starts: &[u32], corners: &[i32]) {
     io::write_all(1, b"\n");
 }
 
-fn print_start(n: u32) {
-    lines::print(b" ", n as u64, b"");
-}
-
-// Writes a name and the starts, each after a space.
-pub fn print_starts(name: &[u8], starts: &[u32]) {
-    io::write_all(1, name);
-    let mut i = 0;
-    while i < starts.len() {
-        print_start(starts[i]);
-        i += 1;
-    }
-}
-
-// The same of the numbers of corners.
-pub fn print_numbers(name: &[u8], numbers: &[i32]) {
-    io::write_all(1, name);
-    let mut i = 0;
-    while i < numbers.len() {
-        lines::print_coordinate(numbers[i]);
-        i += 1;
-    }
-}
-
 // Writes the counts, all that the lent starts and corners hold, written or not, and the line's end.
 pub fn print_lent(counts: Counts, starts: &[u32], corners: &[i32]) {
     print_counts(counts);
-    print_starts(b"; starts", starts);
-    print_numbers(b"; corners", corners);
+    lines::print_words(b"; starts", starts);
+    lines::print_coordinates(b"; corners", corners);
     io::write_all(1, b"\n");
 }

@@ -67,7 +67,7 @@ fn print_shown<'a>(
         &mut fault,
     );
     lines::print(b"show_part: fault ", fault as u64, b"");
-    part_lines::print_numbers(b"; corners", part);
+    lines::print_coordinates(b"; corners", part);
     io::write_all(1, b"\n");
 }
 

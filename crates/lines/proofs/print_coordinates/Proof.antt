@@ -1,15 +1,15 @@
--- `part_lines::print_numbers` is safe and ends. The invariant: i has not passed the end; the measure is what is left. Assumes nothing.
+-- `lines::print_coordinates` is safe and ends. The invariant: i has not passed the end; the measure is what is left. Assumes nothing.
 use Prim.Native.Nat.{_≤_, _-_}
 use borrow.Author.Needs.{needs}
 use lib.ListN.{length}
-use Rattle.part_lines.proofs.print_numbers.Statement.{statement}
-use Rattle.part_lines.proofs.print_numbers.Tie as tie
+use Rattle.lines.proofs.print_coordinates.Statement.{statement}
+use Rattle.lines.proofs.print_coordinates.Tie as tie
 
 abbrev Inv-loop : tie.InvT-loop
-Inv-loop name numbers i₀ i = i ≤ length numbers
+Inv-loop name list i₀ i = i ≤ length list
 
 abbrev μ-loop : tie.MeasureT-loop
-μ-loop name numbers i₀ i = length numbers - i
+μ-loop name list i₀ i = length list - i
 
 write-all-requires : tie.Need-write-all-requires Inv-loop μ-loop
 write-all-requires c κs = search needs
@@ -39,8 +39,8 @@ loop-again c = search needs
 returns : tie.Need-returns Inv-loop μ-loop
 returns c = search needs
 
-pub print-numbers-spec : {M : Type 1} → statement M
-print-numbers-spec =
+pub print-coordinates-spec : {M : Type 1} → statement M
+print-coordinates-spec =
     tie.close
     (tie.spec
     Inv-loop
