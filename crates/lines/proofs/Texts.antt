@@ -5,10 +5,9 @@ use Prim.Native.Nat.{ℕ, _+_, _≤_, _<_}
 use native.Mathlib.Omega.{arith}
 use borrow.Author.Tests.{lt-ltb, le-ltb}
 use lib.ListN.{length, length-append}
-use lib.Seq.{length-take-le}
 use Rattle.text.specs.Text.{decimal}
 use Rattle.text.specs.Put.{PutText}
-use Rattle.text.proofs.Puts.{put-after, put-as, put-whole, put-length}
+use Rattle.text.proofs.Puts.{put-after, put-as, put-whole, put-within}
 use Rattle.lines.specs.Text.{textOf, Text}
 
 module _ (name end out : List ℕ) (n k : ℕ) (f : k ≡ length (decimal n)) where
@@ -26,5 +25,4 @@ module _ (name end out : List ℕ) (n k : ℕ) (f : k ≡ length (decimal n)) wh
   answered {d} {x} {y} {z} {a} {b} {r} e h p q s =
       let t : PutText (textOf name n end) 0 out z r = put-as (ap (λ l. name ++ l ++ end) e) (put-after (omega arith) (put-after (omega arith) p q) s) in
       let room = le-ltb (length out) (length (textOf name n end)) (omega (arith, size)) in
-      let w : r ≤ length z = omega (arith, put-whole t .0, put-length t (omega (arith, size)), size) in
-      record { told = put-whole t .0 ∙ sym (rw room); text = put-whole t .1 ∙ sym (rw room); within = (w, sym (length-take-le r z w)) }
+      record { told = put-whole t .0 ∙ sym (rw room); text = put-whole t .1 ∙ sym (rw room); within = put-within t (omega (arith, size)) }

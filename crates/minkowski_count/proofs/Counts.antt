@@ -1,5 +1,5 @@
 -- Counting corners a pair and a row at a time: a merge fits the work buffer (`fits-work`); one more pair of a row, one more row (`row-turn`, `row-fits`, `all-turn`,
--- `all-fits`); walks read (`one-read`, `walk-short`); unrolled parts (`unrolled-countable`). Assumes nothing.
+-- `all-fits`); walks read (`walk-short`, `read-room`); unrolled parts (`unrolled-countable`). Assumes nothing.
 use mathlib.Core.Path.{_≡_, sym, _∙_, ap, subst}
 use mathlib.Core.Bool.{Bool}
 use mathlib.Core.List.{List, [], _∷_, _++_, map, flatten, append-nil}
@@ -15,7 +15,7 @@ use Rattle.plane.specs.Plane.{Pt}
 use Rattle.convex_ring.specs.Buffers.{cornerOf}
 use Rattle.pair_points.specs.Points.{unrolled, mergedOf}
 use Rattle.pair_points.proofs.Merged.{length-unrolled, length-merged}
-use Rattle.pair_merge.specs.Putting.{pointsIn, RoomAfter, Put}
+use Rattle.pair_merge.specs.Putting.{pointsIn, RoomAfter}
 use Rattle.minkowski_rows.specs.Rows.{walksIn, Walks, mergedRow, mergedAll}
 use Rattle.minkowski_rows.proofs.Pairs.{walk-inside, walk-placed, row-suc, row-whole, all-suc, all-whole}
 use Rattle.minkowski_count.specs.Counting.{Countable, rowCount, allCount}
@@ -41,9 +41,6 @@ length-in a = length-map a cornerOf
 -- the room for a and the walk as it is read
 pub read-room : (a slice : List (List ℤ)) (work : List ℤ) → length a ≤ 1027 → length slice ≤ 1027 → 4104 ≤ length work → RoomAfter (mergedOf (pointsIn a) (pointsIn slice)) work 0
 read-room a slice work h k w = fits-work (pointsIn a) (pointsIn slice) work (omega (arith, h, length-in a)) (omega (arith, k, length-in slice)) w
-
-pub one-read : (a : List (List ℤ)) {w w′ : List Pt} {o o′ : List ℤ} {k : ℕ} → w ≡ w′ → Put (mergedOf (pointsIn a) w) o 0 o′ k → k ≡ length (mergedOf (pointsIn a) w′)
-one-read a e p = p .count ∙ omega arith ∙ ap (λ l. length (mergedOf (pointsIn a) l)) e
 
 -- ---- a turn of a row
 

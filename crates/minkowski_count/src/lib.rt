@@ -1,16 +1,16 @@
 // How many corners all pairs of unrolled walks have (`count_all`), for fault 21 where the bound on corners does not tell: each pair is merged into one work
-// buffer, by the same code that puts them into the lent one. Leans on pair_merge and minkowski_rows' definitions.
+// buffer (`merge_one`, by which a pair is printed too), by the same code that puts them into the lent one. Leans on pair_merge and minkowski_rows' definitions.
 ghost use mathlib.Core.Path.{_≡_};
 ghost use mathlib.Core.List.{[]};
 ghost use Prim.Native.Nat.{_<_, _≤_, _^_};
 ghost use lib.ListN.{length, getD};
 ghost use Rattle.pair_points.specs.Points.{mergedOf};
-ghost use Rattle.pair_merge.specs.Putting.{pointsIn, Mergeable};
+ghost use Rattle.pair_merge.specs.Putting.{pointsIn, Mergeable, Put};
 ghost use Rattle.minkowski_rows.specs.Rows.{walksIn};
 ghost use Rattle.minkowski_count.specs.Counting.{Countable, rowCount, allCount};
 
-// How many corners the contour of the walk a and right walk q has.
-fn count_one(
+// The contour of the walk a and right walk q is put on the front of the work buffer; answers how many corners it has.
+pub fn merge_one(
     a: &[[i32; 2]],
     firsts: &[u32],
     points: &[[i32; 2]],
@@ -19,7 +19,7 @@ fn count_one(
     work: &mut [i32],
 ) -> usize
     requires { ⌜ Mergeable (now a) × (length (now a) ≤ 1027) × Countable (now firsts) (now points) count × (q < count) × (4104 ≤ length (now work)) ⌝ }
-    ensures { λ r. ⌜ r ≡ length (mergedOf (pointsIn (now (a .entry))) (getD (walksIn (now (firsts .entry)) (now (points .entry)) count) q [])) ⌝ }
+    ensures { λ r. ⌜ Put (mergedOf (pointsIn (now (a .entry))) (getD (walksIn (now (firsts .entry)) (now (points .entry)) count) q [])) (now (work .entry)) 0 (now (work .exit)) r ⌝ }
 {
     let from = firsts[q] as usize;
     let to = firsts[q + 1] as usize;
@@ -40,7 +40,7 @@ fn count_row(
     let mut total: usize = 0;
     let mut q: usize = 0;
     while q < count {
-        total += count_one(a, firsts, points, count, q, work);
+        total += merge_one(a, firsts, points, count, q, work);
         q += 1;
     }
     total

@@ -18,15 +18,14 @@ contoursWord = 99 ∷ 111 ∷ 110 ∷ 116 ∷ 111 ∷ 117 ∷ 114 ∷ 115 ∷ 32
 abbrev pub boundsWord : List ℕ
 boundsWord = 32 ∷ 98 ∷ 111 ∷ 117 ∷ 110 ∷ 100 ∷ 115 ∷ 32 ∷ []
 
--- least x, greatest x, least y, greatest y
+-- " bounds a b c d": least x, greatest x, least y, greatest y
 unfoldable pub boundsText : IntRect → List ℕ
 boundsText b =
-    signedDecimal (b .«min_x») ++ (space ++ signedDecimal (b .«max_x»)) ++ (space ++ signedDecimal (b .«min_y»)) ++ (space ++ signedDecimal (b .«max_y»))
+    (boundsWord ++ signedDecimal (b .«min_x»)) ++ (space ++ signedDecimal (b .«max_x»)) ++ (space ++ signedDecimal (b .«min_y»)) ++ (space ++ signedDecimal (b .«max_y»))
 
 -- "contours N corners N bounds a b c d"
 unfoldable pub pairsHead : ℕ → ℕ → IntRect → List ℕ
-pairsHead contours corners b =
-    (contoursWord ++ decimal contours) ++ (cornersWord ++ decimal corners) ++ (boundsWord ++ boundsText b) ++ newline
+pairsHead contours corners b = (contoursWord ++ decimal contours) ++ (cornersWord ++ decimal corners) ++ boundsText b ++ newline
 
 -- ---- the lines
 

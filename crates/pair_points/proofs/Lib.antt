@@ -3,3 +3,4 @@ pub mod Grouping
 pub mod Merged
 pub mod Turns
 pub mod OnContour
+pub mod Sums

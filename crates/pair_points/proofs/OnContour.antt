@@ -20,7 +20,7 @@ use Rattle.pair_points.proofs.Grouping.{runs-on, runs-turn}
 
 module _ (Q : Pt → Type 0) where
   -- the first point
-  first-along : (p : Pt) (E : List Pt) → All Q (pointsAlong p E) → Q p
+  pub first-along : (p : Pt) (E : List Pt) → All Q (pointsAlong p E) → Q p
   unfolding pointsAlong
   first-along p [] h = h .0
   first-along p (e ∷ E) h = h .0
@@ -41,7 +41,7 @@ module _ (Q : Pt → Type 0) where
       (λ t. rw (runs-on d s f l t) (along-runs p d (s +ᵖ f) l q (subst (λ v. All Q (pointsAlong v l)) (+ᵖ-assoc p s f) (h .1))))
       (λ t. rw (runs-turn d s f l t) (q, along-runs (p +ᵖ s) f f l (h .0) (h .1)))
 
-  along-grouped : (p : Pt) (E : List Pt) → All Q (pointsAlong p E) → All Q (pointsAlong p (grouped E))
+  pub along-grouped : (p : Pt) (E : List Pt) → All Q (pointsAlong p E) → All Q (pointsAlong p (grouped E))
   unfolding pointsAlong grouped
   along-grouped p [] h = h
   along-grouped p (e ∷ E) h = along-runs p e e E (h .0) (h .1)

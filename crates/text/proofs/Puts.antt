@@ -1,4 +1,4 @@
--- Text put at a place of lent bytes. In order: one byte a turn (`put-start`, `put-turn`, `put-end`); the length is kept (`put-length`), another writing of the
+-- Text put at a place of lent bytes. In order: one byte a turn (`put-start`, `put-turn`, `put-end`); the length is kept (`put-length`), so the bytes up to the place told are there (`put-within`), another writing of the
 -- same text (`put-as`), the room left for what comes after (`put-room`); nothing put (`put-none`), text on the front (`put-whole`), one text after
 -- another (`put-after`). Assumes nothing.
 use mathlib.Core.Path.{_≡_, refl, sym, _∙_, ap}
@@ -8,6 +8,7 @@ use native.Mathlib.Numerals.{add-one}
 use native.Mathlib.Omega.{arith}
 use lib.ListN.{length, getD, set, take, drop, length-append, take-append-drop}
 use lib.Seq.{take-suc, take-all, length-take-le}
+use Rattle.io.specs.Counts.{Counts}
 use Rattle.integers.specs.Lists.{overlay}
 use Rattle.integers.proofs.Overlay.{overlay-turn, overlay-overlay, take-overlay, length-overlay}
 use Rattle.text.specs.Put.{putAt, PutText}
@@ -38,6 +39,12 @@ module _ {t : List ℕ} {at : ℕ} {out out′ : List ℕ} {r : ℕ} where
   unfolding putAt
   put-length p h =
       ap length (p .bytes) ∙ length-overlay (take at out ++ t) out (omega (arith, length-append (take at out) t, length-take-le at out (omega arith)))
+
+  -- as many bytes as were told can be lent on
+  pub put-within : PutText t at out out′ r → at + length t ≤ length out → Counts r out′
+  put-within p h =
+      let w : r ≤ length out′ = omega (arith, p .after, put-length p h) in
+      (w, sym (length-take-le r out′ w))
 
   pub put-as : {u : List ℕ} → t ≡ u → PutText t at out out′ r → PutText u at out out′ r
   put-as e p = rw e at p

@@ -22,8 +22,8 @@ loop-holds : tie.Need-loop-holds Inv-loop μ-loop
 unfolding flatten
 loop-holds c = (omega arith, refl, refl)
 
-count-one-requires : tie.Need-count-one-requires Inv-loop μ-loop
-count-one-requires c κs =
+merge-one-requires : tie.Need-merge-one-requires Inv-loop μ-loop
+merge-one-requires c κs =
     let s = c .before .before .before .before in
     let l = c .before .before .loop in
     let t = c .before .loop-test .taken in
@@ -34,7 +34,7 @@ add-total c =
     let s = c .before .before .before .before .before .before in
     let l = c .before .before .before .before .loop in
     let t = c .before .before .before .loop-test .taken in
-    omega (arith, c .before .count-one .ensures, l .inv .2, row-fits (pointsIn (s .args .a .now)) (walksIn (s .args .firsts .now) (s .args .points .now) (s .args .count)) (l .q) (walk-inside _ _ (s .args .count) (l .q) (s .pre .2 .walks) t), s .pre .4)
+    omega (arith, c .before .merge-one .ensures .count, l .inv .2, row-fits (pointsIn (s .args .a .now)) (walksIn (s .args .firsts .now) (s .args .points .now) (s .args .count)) (l .q) (walk-inside _ _ (s .args .count) (l .q) (s .pre .2 .walks) t), s .pre .4)
 
 add-q : tie.Need-add-q Inv-loop μ-loop
 add-q c = omega (arith, c .before .before .before .loop-test .taken)
@@ -47,7 +47,7 @@ loop-again c =
     let s = c .before .before .before .before .before .before in
     let l = c .before .before .before .before .loop in
     let t = c .before .before .before .loop-test .taken in
-    (omega (arith, t), c .work .given ∙ l .inv .1, omega (arith, c .before .count-one .ensures, l .inv .2, row-turn (pointsIn (s .args .a .now)) (walksIn (s .args .firsts .now) (s .args .points .now) (s .args .count)) (l .q) (walk-inside _ _ (s .args .count) (l .q) (s .pre .2 .walks) t)))
+    (omega (arith, t), c .work .given ∙ l .inv .1, omega (arith, c .before .merge-one .ensures .count, l .inv .2, row-turn (pointsIn (s .args .a .now)) (walksIn (s .args .firsts .now) (s .args .points .now) (s .args .count)) (l .q) (walk-inside _ _ (s .args .count) (l .q) (s .pre .2 .walks) t)))
 
 same-length : tie.Need-same-length Inv-loop μ-loop
 same-length c = c .before .loop .inv .1
@@ -65,7 +65,7 @@ count-row-spec =
     Inv-loop
     μ-loop
     loop-holds
-    count-one-requires
+    merge-one-requires
     add-total
     add-q
     loop-less

@@ -1,12 +1,12 @@
--- `minkowski_count::count_one` meets its contract: right walk q lies between its first places. Assumes nothing.
+-- `minkowski_count::merge_one` meets its contract: right walk q lies between its first places. Assumes nothing.
 use Prim.Native.Nat.{_+_, _-_}
 use native.Mathlib.Omega.{arith}
 use borrow.Author.Needs.{needs}
 use lib.ListN.{getD, take, drop}
-use Rattle.minkowski_rows.proofs.Pairs.{firsts-enough, walk-placed, walk-ready}
-use Rattle.minkowski_count.proofs.Counts.{slice-short, read-room, one-read}
-use Rattle.minkowski_count.proofs.count_one.Statement.{statement}
-use Rattle.minkowski_count.proofs.count_one.Tie as tie
+use Rattle.minkowski_rows.proofs.Pairs.{firsts-enough, walk-placed, walk-ready, at-walk}
+use Rattle.minkowski_count.proofs.Counts.{slice-short, read-room}
+use Rattle.minkowski_count.proofs.merge_one.Statement.{statement}
+use Rattle.minkowski_count.proofs.merge_one.Tie as tie
 
 mul-from : tie.Need-mul-from
 mul-from c =
@@ -74,10 +74,10 @@ returns : tie.Need-returns
 returns c =
     let s = c .before .before .before .before .before .before .before in
     let g = s .args in
-    one-read (g .a .now) (walk-placed (g .firsts .now) (g .points .now) (g .count) (g .q) (s .pre .2 .walks) (s .pre .3) .corners) (c .before .append-pair .ensures)
+    at-walk (g .a .now) (walk-placed (g .firsts .now) (g .points .now) (g .count) (g .q) (s .pre .2 .walks) (s .pre .3) .corners) (c .before .append-pair .ensures)
 
-pub count-one-spec : {M : Type 1} → statement M
-count-one-spec =
+pub merge-one-spec : {M : Type 1} → statement M
+merge-one-spec =
     tie.close
     (tie.spec
     mul-from
