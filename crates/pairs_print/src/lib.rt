@@ -5,6 +5,7 @@ ghost use mathlib.Core.Path.{_≡_};
 ghost use Prim.Native.Nat.{_*_, _<_, _≤_};
 ghost use lib.ListN.{length};
 ghost use Rattle.text.specs.Put.{PutText};
+ghost use Rattle.minkowski_count.specs.Counting.{Countable};
 ghost use Rattle.pairs_print.specs.Printed.{firstOf, Printable, Started};
 use pairs_work::Begun;
 use pairs_work::FIRSTS;
@@ -12,6 +13,9 @@ use pairs_work::POINTS;
 
 // Room for any line.
 const LINE: usize = 53399;
+
+// Room for any head line.
+const FIRST: usize = 154;
 
 // The numbers of a work buffer that holds the corners of any pair.
 const WORK: usize = 4104;
@@ -67,7 +71,7 @@ fn print_lines(
 
 // Puts the head line, or the refusal, on the front of the lent bytes and answers how many there are.
 fn put_first(begun: Begun, out: &mut [u8]) -> usize
-    requires { ⌜ (begun .left * begun .right < 4294967296) × (53399 ≤ length (now out)) ⌝ }
+    requires { ⌜ (begun .left * begun .right < 4294967296) × (154 ≤ length (now out)) ⌝ }
     ensures { λ r. ⌜ PutText (firstOf begun) 0 (now (out .entry)) (now (out .exit)) r ⌝ }
 {
     let fault = begun.fault;
@@ -81,19 +85,40 @@ fn put_first(begun: Begun, out: &mut [u8]) -> usize
     pair_lines::put_head((left * right) as u64, corners as u64, bounds, out)
 }
 
-// Writes what a job answered before its lines, and then, where it is not refused, its lines.
-fn print_begun(begun: Begun, lf: &[u32], lp: &[[i32; 2]], rf: &[u32], rp: &[[i32; 2]])
-    requires { ⌜ Started begun (now lf) (now lp) (now rf) (now rp) ⌝ }
+// Writes the lines of all pairs of an accepted job.
+fn print_all(
+    left: usize,
+    right: usize,
+    lf: &[u32; FIRSTS],
+    lp: &[[i32; 2]; POINTS],
+    rf: &[u32; FIRSTS],
+    rp: &[[i32; 2]; POINTS],
+)
+    requires { ⌜ Countable (now lf) (now lp) left × Countable (now rf) (now rp) right ⌝ }
 {
     let mut work = [0i32; WORK];
     let mut out = [0u8; LINE];
+    print_lines(lf, lp, left, rf, rp, right, &mut work, &mut out);
+}
+
+// Writes what a job answered before its lines, and then, where it is not refused, its lines.
+fn print_begun(
+    begun: Begun,
+    lf: &[u32; FIRSTS],
+    lp: &[[i32; 2]; POINTS],
+    rf: &[u32; FIRSTS],
+    rp: &[[i32; 2]; POINTS],
+)
+    requires { ⌜ Started begun (now lf) (now lp) (now rf) (now rp) ⌝ }
+{
+    let mut out = [0u8; FIRST];
     let n = put_first(begun, &mut out);
     if input::write_output(&out[..n]) {
         let fault = begun.fault;
         let left = begun.left;
         let right = begun.right;
         if fault == 0 {
-            print_lines(lf, lp, left, rf, rp, right, &mut work, &mut out);
+            print_all(left, right, lf, lp, rf, rp);
         }
     }
 }

@@ -4,6 +4,7 @@
 
 use crate::sample::{record, words, Case, Sample};
 use cli::answers::pair_contours;
+use inputs::contours;
 use inputs::operands::{self, Pair};
 use inputs::pair_damage::{damaged, ORDER};
 use inputs::rng::Rng;
@@ -46,11 +47,11 @@ fn bytes(pair: Pair) -> Vec<u8> {
     })
 }
 
-/// An operand of these contours, within bounds that hold K and the points below.
+/// An operand of these contours, within bounds that are just theirs.
 fn operand(parts: &[Contour]) -> Operand {
     Operand {
         table: Table::of(parts),
-        bounds: [0, 5, 0, 5],
+        bounds: contours::bounds(&parts.concat()),
     }
 }
 
