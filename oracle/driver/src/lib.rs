@@ -26,6 +26,7 @@ pub mod listing;
 pub mod mesh;
 mod mesh_sample;
 pub mod pairs;
+pub mod pairs_sample;
 pub mod plane;
 mod plane_sample;
 pub mod sample;

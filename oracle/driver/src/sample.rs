@@ -2,15 +2,16 @@
 //! the lines that a program which asks them has to print.
 
 use crate::written::Written;
-use crate::{mesh_sample, plane_sample, split_sample, table_sample};
+use crate::{mesh_sample, pairs_sample, plane_sample, split_sample, table_sample};
 use std::fmt::Display;
 
 /// The stored samples by the names of their files.
-pub const SAMPLES: [(&str, fn() -> Sample); 4] = [
+pub const SAMPLES: [(&str, fn() -> Sample); 5] = [
     ("plane", plane_sample::sample),
     ("tables", table_sample::sample),
     ("meshes", mesh_sample::sample),
     ("splits", split_sample::sample),
+    ("pairs", pairs_sample::sample),
 ];
 
 /// A case: its record, and its line after the case's number.
