@@ -24,6 +24,10 @@ const TRIANGLES: usize = 24;
 const STARTS: usize = 32;
 const NUMBERS: usize = 160;
 
+/// What each lent place holds before a call.
+const HELD_START: u32 = 0xa5a5_a5a5;
+const HELD_NUMBER: i32 = 0x5a5a_5a5a;
+
 #[derive(Debug, Clone, PartialEq, Eq)]
 struct Record {
     rows: Vec<Row>,
@@ -38,13 +42,19 @@ struct Record {
 
 impl Record {
     fn of(call: &Call) -> Self {
-        let mut answer = written(call);
+        let answer = written(call);
         let counts = answer.counts;
-        let (starts, numbers) = answer.lent();
+        let mut starts = vec![HELD_START; call.lent.starts];
+        let mut numbers = vec![HELD_NUMBER; call.lent.numbers];
+        if counts.fault == 0 {
+            let [parts, corners] = [counts.parts, counts.corners].map(|n| n as usize);
+            starts[..=parts].copy_from_slice(&answer.starts.slice()[..=parts]);
+            numbers[..2 * corners].copy_from_slice(&answer.corners.slice()[..2 * corners]);
+        }
         Self {
             rows: rows(&call.mesh),
-            starts: starts.to_vec(),
-            numbers: numbers.to_vec(),
+            starts,
+            numbers,
             told: [counts.fault, counts.parts, counts.corners],
             last: 0,
         }

@@ -3,10 +3,11 @@
 //! Refusals are the judge's, contours the Rust's.
 
 use crate::entry::{simpler_numbers, EntryPoint};
+use crate::lent::{Handed, Kept};
 use crate::mesh::SHARE;
+use crate::table::{HandedTable, LentTable};
 use crate::table_simpler::simpler_table;
 use crate::told::Counts;
-use crate::walk::Kept;
 use crate::written::Written;
 use cli::answers::pair_contours;
 use inputs::operands::{self, Pair};
@@ -20,26 +21,24 @@ use judge::room::{Room, Size};
 use judge::table::Table;
 use judge::Contour;
 
-/// Each is given the Rattle function that it asks.
-pub fn sum_parts_beside(rattle: WritesPairs) -> AllPairs {
+/// It is given the Rattle function that it asks.
+pub fn all_pairs_beside<F>(operation: Operation, rattle: F) -> AllPairs<F>
+where
+    F: Fn([HandedOperand; 2], Handed<u32>, Handed<i32>) -> ToldPairs,
+{
     AllPairs {
-        name: "sum_parts",
-        operation: Operation::Sum,
+        operation,
         rattle,
         small: 4,
     }
 }
 
-pub fn difference_parts_beside(rattle: WritesPairs) -> AllPairs {
-    AllPairs {
-        name: "difference_parts",
-        operation: Operation::Difference,
-        rattle,
-        small: 4,
-    }
+/// An operand as it is handed over.
+#[derive(Debug, Clone, Copy)]
+pub struct HandedOperand {
+    pub table: HandedTable,
+    pub bounds: Bounds,
 }
-
-pub type WritesPairs = fn(&Operand, &Operand, &mut [u32], &mut [i32]) -> Kept<ToldPairs>;
 
 /// Least x, greatest x, least y, greatest y, as they pass to C.
 #[repr(C)]
@@ -63,11 +62,9 @@ pub struct Call {
     pub lent: Room,
 }
 
-/// Whether the operands and the numbers about them are as they were; the result's
-/// bounds; the counts and all of the memory about the lent buffers.
+/// The result's bounds; the counts and all of the memory about the lent buffers.
 #[derive(Debug, PartialEq)]
 pub struct PairsWritten {
-    pub kept: bool,
     pub bounds: Bounds,
     pub written: Written,
 }
@@ -85,7 +82,6 @@ pub fn written(call: &Call) -> PairsWritten {
         _ => [0; 4],
     };
     PairsWritten {
-        kept: true,
         bounds: Bounds(bounds.map(|b| i32::try_from(b).expect("a bound in range"))),
         written,
     }
@@ -233,20 +229,25 @@ fn any_call(rng: &mut Rng, operation: Operation) -> Call {
 
 // ---- the entry point
 
-pub struct AllPairs {
-    name: &'static str,
+pub struct AllPairs<F> {
     operation: Operation,
-    rattle: WritesPairs,
+    rattle: F,
     /// How many corners the small contours have at most.
     small: usize,
 }
 
-impl EntryPoint for AllPairs {
+impl<F> EntryPoint for AllPairs<F>
+where
+    F: Fn([HandedOperand; 2], Handed<u32>, Handed<i32>) -> ToldPairs,
+{
     type Input = Call;
-    type Answer = PairsWritten;
+    type Answer = Kept<PairsWritten>;
 
     fn name(&self) -> &'static str {
-        self.name
+        match self.operation {
+            Operation::Sum => "sum_parts",
+            Operation::Difference => "difference_parts",
+        }
     }
 
     fn faults(&self) -> &'static [u32] {
@@ -261,29 +262,42 @@ impl EntryPoint for AllPairs {
         Box::new(fixed.chain(limits).chain(random))
     }
 
-    fn rattle(&self, call: &Call) -> PairsWritten {
-        let mut written = Written::before(call.lent);
-        let (starts, corners) = written.lent();
+    fn rattle(&self, call: &Call) -> Kept<PairsWritten> {
         let Pair { left, right, .. } = &call.pair;
-        let Kept { told, kept } = (self.rattle)(left, right, starts, corners);
+        let (mut l, mut r) = (LentTable::new(&left.table), LentTable::new(&right.table));
+        let operands = [
+            HandedOperand {
+                table: l.handed(),
+                bounds: Bounds(left.bounds),
+            },
+            HandedOperand {
+                table: r.handed(),
+                bounds: Bounds(right.bounds),
+            },
+        ];
+        let mut written = Written::before(call.lent);
+        let (starts, corners) = (written.starts.handed(), written.corners.handed());
+        let told = (self.rattle)(operands, starts, corners);
         written.counts = Counts {
             fault: told.fault,
             parts: told.contours,
             corners: told.corners,
         };
-        PairsWritten {
-            kept,
-            bounds: told.bounds,
-            written,
+        Kept {
+            told: PairsWritten {
+                bounds: told.bounds,
+                written,
+            },
+            kept: l.holds(&left.table) && r.holds(&right.table),
         }
     }
 
-    fn rust(&self, call: &Call) -> PairsWritten {
-        written(call)
+    fn rust(&self, call: &Call) -> Kept<PairsWritten> {
+        Kept::all(written(call))
     }
 
-    fn fault(&self, answer: &PairsWritten) -> u32 {
-        answer.written.counts.fault
+    fn fault(&self, answer: &Kept<PairsWritten>) -> u32 {
+        answer.told.written.counts.fault
     }
 
     fn simpler(&self, call: &Call) -> Vec<Call> {
@@ -346,15 +360,34 @@ fn simpler_operand(operand: &Operand) -> Vec<Operand> {
 mod tests {
     use super::*;
     use crate::entry::{run, Report};
+    use crate::lent::overruns::{self, plant, seen};
     use std::collections::BTreeSet;
 
     const COUNT: u64 = 10_000;
 
+    type WritesPairs = fn(&Operand, &Operand, &mut [u32], &mut [i32]) -> ToldPairs;
+
+    /// A function on operands and slices as the entry point asks it. Safe: the memory
+    /// is lent.
+    fn asked(f: WritesPairs) -> impl Fn([HandedOperand; 2], Handed<u32>, Handed<i32>) -> ToldPairs {
+        move |operands, starts, corners| unsafe {
+            let [left, right] = operands.map(|o| Operand {
+                table: Table {
+                    starts: o.table.starts.slice().to_vec(),
+                    corners: o.table.corners.slice().to_vec(),
+                },
+                bounds: o.bounds.0,
+            });
+            f(&left, &right, starts.slice(), corners.slice())
+        }
+    }
+
     /// With contours of up to two corners, to be quick.
-    fn beside(rattle: WritesPairs) -> AllPairs {
+    fn beside(rattle: WritesPairs) -> impl EntryPoint {
         AllPairs {
+            operation: Operation::Difference,
+            rattle: asked(rattle),
             small: 2,
-            ..difference_parts_beside(rattle)
         }
     }
 
@@ -364,7 +397,7 @@ mod tests {
         right: &Operand,
         starts: &mut [u32],
         corners: &mut [i32],
-    ) -> Kept<ToldPairs> {
+    ) -> ToldPairs {
         answered(Operation::Difference, left, right, starts, corners)
     }
 
@@ -374,8 +407,8 @@ mod tests {
         right: &Operand,
         starts: &mut [u32],
         corners: &mut [i32],
-    ) -> Kept<ToldPairs> {
-        let mut answer = written(&Call {
+    ) -> ToldPairs {
+        let answer = written(&Call {
             pair: Pair {
                 operation,
                 left: left.clone(),
@@ -386,21 +419,38 @@ mod tests {
                 numbers: corners.len(),
             },
         });
-        let (left_starts, left_corners) = answer.written.lent();
-        starts.copy_from_slice(left_starts);
-        corners.copy_from_slice(left_corners);
-        let Counts {
-            fault,
-            parts,
-            corners,
-        } = answer.written.counts;
-        let told = ToldPairs {
-            fault,
-            contours: parts,
-            corners,
+        let counts = answer.written.copied(starts, corners);
+        ToldPairs {
+            fault: counts.fault,
+            contours: counts.parts,
+            corners: counts.corners,
             bounds: answer.bounds,
-        };
-        Kept { told, kept: true }
+        }
+    }
+
+    /// Right but for a place that is changed after the call.
+    fn planted(
+        change: impl Fn([HandedOperand; 2], Handed<u32>, Handed<i32>),
+    ) -> AllPairs<impl Fn([HandedOperand; 2], Handed<u32>, Handed<i32>) -> ToldPairs> {
+        all_pairs_beside(Operation::Difference, move |operands, starts, corners| {
+            let told = asked(right)(operands, starts, corners);
+            change(operands, starts, corners);
+            told
+        })
+    }
+
+    #[test]
+    fn overruns_are_caught() {
+        for at in overruns::ALL {
+            for side in [0, 1] {
+                seen(&planted(|o, _, _| plant(o[side].table.starts, at)), at);
+                seen(&planted(|o, _, _| plant(o[side].table.corners, at)), at);
+            }
+        }
+        for at in overruns::ENDS {
+            seen(&planted(|_, starts, _| plant(starts, at)), at);
+            seen(&planted(|_, _, corners| plant(corners, at)), at);
+        }
     }
 
     #[test]
@@ -424,9 +474,9 @@ mod tests {
     #[test]
     fn a_bound_that_is_not_told_is_caught() {
         caught(|l, r, starts, corners| {
-            let mut answer = right(l, r, starts, corners);
-            answer.told.bounds.0[3] = 0;
-            answer
+            let mut told = right(l, r, starts, corners);
+            told.bounds.0[3] = 0;
+            told
         });
     }
 

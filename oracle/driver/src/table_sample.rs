@@ -3,7 +3,7 @@
 //! short. The same bytes every time.
 
 use crate::sample_bytes;
-use crate::table::{read_into, show_part, write_into};
+use crate::table::{read_into, show_into, write_into};
 use inputs::rng::Rng;
 use inputs::table_calls::{any_read, any_show, any_write, Read, Show, Write};
 use judge::shown::Side;
@@ -67,28 +67,30 @@ impl Record {
 
 /// The lists are what the lent places hold after the call; the rest what was read.
 fn read_record(input: Read) -> Record {
-    let starts = vec![HELD_START; input.lent.starts];
-    let answer = read_into(&input, starts, vec![HELD_NUMBER; input.lent.numbers]);
+    let mut starts = vec![HELD_START; input.lent.starts];
+    let mut numbers = vec![HELD_NUMBER; input.lent.numbers];
+    let told = read_into(&input, &mut starts, &mut numbers);
     Record {
         kind: 0,
-        starts: answer.starts,
-        numbers: answer.corners,
+        starts,
+        numbers,
         rest: input.bytes,
-        fault: answer.told.fault,
-        told: [answer.told.parts, answer.told.corners],
+        fault: told.fault,
+        told: [told.parts, told.corners],
     }
 }
 
 /// The lists are the table; the rest is what the lent bytes hold after the call.
 fn write_record(input: Write) -> Record {
-    let answer = write_into(&input, vec![HELD_BYTE; input.lent]);
-    let length = answer.told.length as u64;
+    let mut bytes = vec![HELD_BYTE; input.lent];
+    let told = write_into(&input, &mut bytes);
+    let length = told.length as u64;
     Record {
         kind: 1,
         starts: input.table.starts,
         numbers: input.table.corners,
-        rest: answer.bytes,
-        fault: answer.told.fault,
+        rest: bytes,
+        fault: told.fault,
         told: [length as u32, (length >> 32) as u32],
     }
 }
@@ -98,7 +100,9 @@ fn write_record(input: Write) -> Record {
 /// numbers the right one's.
 fn show_record(mut input: Show) -> Record {
     input.lent = NUMBERS;
-    let answer = show_part(&input);
+    let mut shown = vec![HELD_NUMBER; NUMBERS];
+    let told = show_into(&input, &mut shown);
+    shown.truncate(told.length);
     let Show {
         left,
         right,
@@ -106,7 +110,6 @@ fn show_record(mut input: Show) -> Record {
         part,
         ..
     } = input;
-    let shown = answer.numbers[..answer.told.length].to_vec();
     let split = [left.starts.len(), left.corners.len(), right.corners.len()];
     Record {
         kind: 2,
@@ -116,7 +119,7 @@ fn show_record(mut input: Show) -> Record {
             .iter()
             .flat_map(|&n| (n as u32).to_le_bytes())
             .collect(),
-        fault: answer.told.fault,
+        fault: told.fault,
         told: [u32::from(side == Side::Right), part],
     }
 }
