@@ -182,17 +182,17 @@ pub mod overruns {
         }
     }
 
-    /// Every one of the first inputs shows it, or of a list's first place those that
-    /// have one.
+    /// Every one of the first inputs shows it; of a list's first place, one does that
+    /// has such a place.
     pub fn seen<E: EntryPoint>(entry: &E, at: At) {
         let mut rng = Rng::new(1);
-        let inputs: Vec<E::Input> = entry.inputs(&mut rng, 0).take(200).collect();
-        let differ = |input: &&E::Input| entry.rattle(input) != entry.rust(input);
-        let count = inputs.iter().filter(differ).count();
-        match at {
-            At::First => assert!(count > 0, "{}: {at:?}", entry.name()),
-            _ => assert_eq!(count, inputs.len(), "{}: {at:?}", entry.name()),
-        }
+        let mut inputs = entry.inputs(&mut rng, 0);
+        let differs = |input: E::Input| entry.rattle(&input) != entry.rust(&input);
+        let seen = match at {
+            At::First => inputs.take(20_000).any(differs),
+            _ => inputs.by_ref().take(200).all(differs),
+        };
+        assert!(seen, "{}: {at:?}", entry.name());
     }
 
     #[test]
