@@ -151,38 +151,66 @@ mod archive {
     }
 }
 
-/// One run of each entry point.
-pub const ENTRY_POINTS: &[fn(u64, u64) -> Report] = &[
-    |seed, count| run(&cross_product_beside(cross_product), seed, count),
-    |seed, count| run(&area_two_beside(area_two), seed, count),
-    |seed, count| run(&angle_cmp_beside(angle_cmp), seed, count),
-    |seed, count| run(&mesh_fault_beside(mesh_fault), seed, count),
-    |seed, count| run(&to_convex_polygons_beside(to_convex_polygons), seed, count),
-    |seed, count| {
+/// An entry point's name, and one run of it by a seed and a count.
+type Named = (&'static str, fn(u64, u64) -> Report);
+
+pub const ENTRY_POINTS: &[Named] = &[
+    ("cross_product", |s, n| {
+        run(&cross_product_beside(cross_product), s, n)
+    }),
+    ("area_two", |s, n| run(&area_two_beside(area_two), s, n)),
+    ("angle_cmp", |s, n| run(&angle_cmp_beside(angle_cmp), s, n)),
+    ("mesh_fault", |s, n| {
+        run(&mesh_fault_beside(mesh_fault), s, n)
+    }),
+    ("to_convex_polygons", |s, n| {
+        run(&to_convex_polygons_beside(to_convex_polygons), s, n)
+    }),
+    ("to_convex_polygons_with_max_vertices", |s, n| {
         let entry = with_max_vertices_beside(to_convex_polygons_with_max_vertices);
-        run(&entry, seed, count)
-    },
-    |seed, count| run(&read_table_beside(read_table), seed, count),
-    |seed, count| run(&write_table_beside(write_table), seed, count),
-    |seed, count| run(&show_part_beside(show_part), seed, count),
-    |seed, count| run(&walk::begin_beside(walk_begin), seed, count),
-    |seed, count| run(&walk::point_beside(walk_point), seed, count),
-    |seed, count| run(&walk::edge_beside(walk_edge), seed, count),
-    |seed, count| run(&walk::advance_beside(walk_advance), seed, count),
-    |seed, count| run(&walk::next_beside(walk_next), seed, count),
-    |seed, count| run(&walk::pair_new_beside(pair_new), seed, count),
-    |seed, count| run(&walk::pair_difference_beside(pair_difference), seed, count),
-    |seed, count| run(&walk::pair_next_beside(pair_next), seed, count),
-    |seed, count| run(&walk::sum_to_end_beside(pair_new, pair_next), seed, count),
-    |seed, count| {
+        run(&entry, s, n)
+    }),
+    ("read_table", |s, n| {
+        run(&read_table_beside(read_table), s, n)
+    }),
+    ("write_table", |s, n| {
+        run(&write_table_beside(write_table), s, n)
+    }),
+    ("show_part", |s, n| run(&show_part_beside(show_part), s, n)),
+    ("walk begin", |s, n| {
+        run(&walk::begin_beside(walk_begin), s, n)
+    }),
+    ("walk point", |s, n| {
+        run(&walk::point_beside(walk_point), s, n)
+    }),
+    ("walk edge", |s, n| run(&walk::edge_beside(walk_edge), s, n)),
+    ("walk advance", |s, n| {
+        run(&walk::advance_beside(walk_advance), s, n)
+    }),
+    ("walk next", |s, n| run(&walk::next_beside(walk_next), s, n)),
+    ("pair new", |s, n| {
+        run(&walk::pair_new_beside(pair_new), s, n)
+    }),
+    ("pair difference", |s, n| {
+        run(&walk::pair_difference_beside(pair_difference), s, n)
+    }),
+    ("pair next", |s, n| {
+        run(&walk::pair_next_beside(pair_next), s, n)
+    }),
+    ("sum to its end", |s, n| {
+        run(&walk::sum_to_end_beside(pair_new, pair_next), s, n)
+    }),
+    ("difference to its end", |s, n| {
         let entry = walk::difference_to_end_beside(pair_difference, pair_next);
-        run(&entry, seed, count)
-    },
-    |seed, count| run(&all_pairs_beside(Operation::Sum, sum_parts), seed, count),
-    |seed, count| {
+        run(&entry, s, n)
+    }),
+    ("sum_parts", |s, n| {
+        run(&all_pairs_beside(Operation::Sum, sum_parts), s, n)
+    }),
+    ("difference_parts", |s, n| {
         let entry = all_pairs_beside(Operation::Difference, difference_parts);
-        run(&entry, seed, count)
-    },
+        run(&entry, s, n)
+    }),
 ];
 
 // Safe: the functions take and return plain numbers, and the prover has shown that

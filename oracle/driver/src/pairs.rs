@@ -11,15 +11,16 @@ use crate::told::Counts;
 use crate::written::Written;
 use cli::answers::pair_contours;
 use inputs::operands::{self, Pair};
-use inputs::pair_damage::{damaged, ORDER};
+use inputs::pair_damage::{damaged, damaged_on, ORDER};
 use inputs::rng::Rng;
 use inputs::walk_calls::limit_windings;
 use inputs::{contours, rooms, tables, text};
-use judge::limits::CONTOUR;
+use judge::limits::{CONTOUR, PARTS};
 use judge::pairs::{result_bounds, Operand, Operation};
 use judge::room::{Room, Size};
+use judge::shown::Side;
 use judge::table::Table;
-use judge::Contour;
+use judge::{Contour, Fault};
 
 /// It is given the Rattle function that it asks.
 pub fn all_pairs_beside<F>(operation: Operation, rattle: F) -> AllPairs<F>
@@ -195,6 +196,14 @@ fn limits(rng: &mut Rng, operation: Operation) -> Vec<Pair> {
         out.push(pair(operation, &[a.clone()], &[b.clone()]));
         out.push(pair(operation, &[a, vec![(5, 5)]], &[vec![], b]));
     }
+    // as many parts and corners as there can be, by 16 parts
+    let square = |i: i32| {
+        let corners = [(0, 0), (3, 0), (3, 3), (0, 3)];
+        corners.map(|(x, y)| (x + i % 90, y + i / 90)).to_vec()
+    };
+    let squares = |parts: usize| -> Vec<Contour> { (0..parts as i32).map(square).collect() };
+    out.push(pair(operation, &squares(PARTS), &squares(16)));
+    out.push(pair(operation, &squares(16), &squares(PARTS)));
     for parts in [127, 128] {
         for other in [1, 127, 128] {
             out.push(pair(operation, &points(parts), &points(other)));
@@ -204,6 +213,116 @@ fn limits(rng: &mut Rng, operation: Operation) -> Vec<Pair> {
         ones.push(vec![(1, 1), (4, 2)]);
         out.push(pair(operation, &ones, &points(3)));
         out.push(pair(operation, &points(3), &ones));
+    }
+    out
+}
+
+/// Every two of the listed contours, from every corner and either way round, alone and
+/// among other parts, in the nine rooms by turns.
+fn listed(operation: Operation) -> impl Iterator<Item = Call> {
+    let turns = |contour: &Contour| -> Vec<Contour> {
+        let back: Contour = contour.iter().rev().copied().collect();
+        match contour.is_empty() {
+            true => vec![contour.clone()],
+            false => contours::turned(contour)
+                .chain(contours::turned(&back))
+                .collect(),
+        }
+    };
+    let named = || contours::LISTED.iter().map(|(_, corners)| corners.to_vec());
+    let lefts = named().flat_map(move |a| turns(&a).into_iter().map(move |t| (t, false)));
+    let rights = named().flat_map(move |b| turns(&b).into_iter().map(move |t| (t, true)));
+    lefts
+        .chain(rights)
+        .enumerate()
+        .flat_map(move |(i, (turned, right))| {
+            named().enumerate().flat_map(move |(j, other)| {
+                let (a, b) = if right {
+                    (other, turned.clone())
+                } else {
+                    (turned.clone(), other)
+                };
+                let alone = pair(operation, &[a.clone()], &[b.clone()]);
+                let among = pair(
+                    operation,
+                    &[vec![(1, 1)], a],
+                    &[b, vec![(0, 0), (1, 0), (0, 1)]],
+                );
+                [in_room(alone, i + j), in_room(among, i + 2 * j + 4)]
+            })
+        })
+}
+
+/// All faults in the order in which they are tried, the last two of the room.
+const FAULTS: [Fault; 8] = [7, 2, 9, 8, 10, 20, 22, 21];
+
+/// A fault, and the side that it is on; of room, no matter which.
+type Sided = (Fault, Side);
+
+/// Each fault by name, on either side, with each other by name, on either side, or with
+/// itself, which is the fault alone.
+fn every_two() -> Vec<[Sided; 2]> {
+    let room = |fault: Fault| fault == 22 || fault == 21;
+    let sided = || {
+        let sides = [Side::Left, Side::Right];
+        let all = FAULTS
+            .into_iter()
+            .flat_map(move |f| sides.map(|side| (f, side)));
+        all.filter(move |&(f, side)| !room(f) || side == Side::Left)
+    };
+    // an operand without parts has no part that winds too far
+    let none = |[a, b]: &[Sided; 2]| a.1 == b.1 && a.0 != b.0 && a.0 + b.0 == 28;
+    let two = sided().flat_map(|a| sided().map(move |b| [a, b]));
+    two.filter(|two| !none(two)).collect()
+}
+
+/// A good pair with two faults. Of too little room there is none at all, or one place
+/// less than is needed.
+fn with_faults(rng: &mut Rng, operation: Operation, [a, b]: [Sided; 2]) -> Call {
+    let good = loop {
+        let mut good = operands::good(rng, 3, 6);
+        good.operation = operation;
+        // so that room for corners can be wanting
+        if size(&good).corners > 0 {
+            break good;
+        }
+    };
+    let of_pair: Vec<Sided> = [a, b]
+        .into_iter()
+        .filter(|(f, _)| ORDER.contains(f))
+        .collect();
+    let mut lent = Room {
+        starts: size(&good).starts(),
+        numbers: size(&good).numbers(),
+    };
+    let less = rng.once_in(2);
+    let short = |places: usize| {
+        if less && of_pair.is_empty() {
+            places - 1
+        } else {
+            0
+        }
+    };
+    for (fault, _) in [a, b] {
+        match fault {
+            22 => lent.starts = short(size(&good).starts()),
+            21 => lent.numbers = short(size(&good).numbers()),
+            _ => {}
+        }
+    }
+    Call {
+        pair: damaged_on(rng, &good, &of_pair),
+        lent,
+    }
+}
+
+/// Every two faults by name, so many times.
+fn faults_by_name(rng: &mut Rng, operation: Operation, times: usize) -> Vec<Call> {
+    let mut out = Vec::new();
+    for _ in 0..times {
+        for two in every_two() {
+            out.push(with_faults(rng, operation, two));
+        }
     }
     out
 }
@@ -251,14 +370,16 @@ where
     }
 
     fn faults(&self) -> &'static [u32] {
-        &[7, 2, 9, 8, 10, 20, 22, 21]
+        &FAULTS
     }
 
     fn inputs<'a>(&self, rng: &'a mut Rng, count: u64) -> Box<dyn Iterator<Item = Call> + 'a> {
         let operation = self.operation;
         let limits = limits(rng, operation).into_iter().flat_map(in_every_room);
+        let faults = faults_by_name(rng, operation, 20);
         let random = (0..count / SHARE).map(move |_| any_call(rng, operation));
         let fixed = smallest(operation).chain(small(operation, self.small));
+        let fixed = fixed.chain(listed(operation)).chain(faults);
         Box::new(fixed.chain(limits).chain(random))
     }
 
@@ -480,6 +601,41 @@ mod tests {
         });
     }
 
+    /// Each of the eight faults alone, and with each other, on either side: the first of
+    /// the two is told.
+    #[test]
+    fn every_two_faults_are_met_by_name() {
+        let mut rng = Rng::new(1);
+        for two in every_two() {
+            for _ in 0..10 {
+                let call = with_faults(&mut rng, Operation::Difference, two);
+                let first = FAULTS.into_iter().find(|&f| two.iter().any(|t| t.0 == f));
+                let told = written(&call).written.counts.fault;
+                assert_eq!(Some(told), first, "{two:?}: {call:?}");
+            }
+        }
+        // 14 alone, each with each, but for 8 and 20 on one side
+        assert_eq!(every_two().len(), 14 * 14 - 4);
+    }
+
+    /// The listed contours have windings of every kind: none, once and more than once
+    /// round, both ways, and crossings.
+    #[test]
+    fn the_listed_contours_are_what_their_names_say() {
+        let doubled = |name: &str| {
+            let corners = contours::LISTED.iter().find(|(n, _)| *n == name);
+            judge::listing::area_two(&corners.expect("listed").1.to_vec())
+        };
+        assert_eq!(doubled("bow tie, no winding"), 0);
+        assert!(doubled("bow tie, one half larger") > 0);
+        assert!(doubled("bow tie, one half larger, clockwise") < 0);
+        assert!(doubled("five-pointed star, twice round") > 0);
+        assert!(doubled("five-pointed star, clockwise") < 0);
+        assert_eq!(doubled("square, twice round"), 16);
+        assert_eq!(doubled("segment in line, back by another way"), 0);
+        assert!(doubled("triangle, clockwise") < 0);
+    }
+
     /// The bounds of the results at the limits, the longest contours, and operands
     /// about the smaller work buffers' length occur.
     #[test]
@@ -495,6 +651,7 @@ mod tests {
         assert!(past.contains(&(edge + 1)) && past.contains(&(-edge - 1)));
         assert!(!met.contains(&(edge + 1)) && !met.contains(&(-edge - 1)));
         assert!(accepted.clone().any(|pair| size(pair).corners > 2_000));
+        assert!(accepted.clone().any(|pair| size(pair).parts == 16 * PARTS));
         for places in [255, 256, 257] {
             let about = |o: &Operand| o.table.starts.len() + o.table.corner_count() == places;
             assert!(accepted.clone().any(|pair| about(&pair.left)));
