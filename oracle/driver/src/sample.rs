@@ -60,9 +60,9 @@ pub fn listed(name: &str, list: &[impl Display]) -> String {
 }
 
 /// What a call that writes parts told and left in the lent places.
-pub fn left(mut written: Written) -> String {
+pub fn left(written: Written) -> String {
     let counts = written.counts;
-    let (starts, corners) = written.lent();
+    let (starts, corners) = (written.starts.slice(), written.corners.slice());
     format!(
         "fault {}, parts {}, corners {}; {}; {}",
         counts.fault,
