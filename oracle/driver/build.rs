@@ -13,7 +13,8 @@ fn main() {
     for archive in archives.split(':') {
         println!("cargo:rerun-if-changed={archive}");
         println!("cargo:rustc-link-arg-bins={archive}");
-    }    println!("cargo:rerun-if-env-changed=BENCH_PEERS");
+    }
+    println!("cargo:rerun-if-env-changed=BENCH_PEERS");
     println!("cargo:rustc-check-cfg=cfg(peers, cgal)");
     let peers = env::var("BENCH_PEERS").unwrap_or_default();
     for peer in peers.split(':').filter(|peer| !peer.is_empty()) {

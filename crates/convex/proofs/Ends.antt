@@ -34,6 +34,15 @@ stacked-nothing : (i j a b : ℕ) (s : List Edge) → stacked i (neighbour noTri
 unfolding stacked
 stacked-nothing i j a b s = rw (neighbour-nothing j)
 
+-- two edges stacked, whichever they are
+two-stacked : (i x y a b c d : ℕ) (s q : List Edge) → q ≡ stacked i x a b (stacked i y c d s) → length q ≤ length s + 2
+two-stacked i x y a b c d s q e = omega (arith, ap length e, stacked-le i x a b (stacked i y c d s), stacked-le i y c d s)
+
+-- across from no triangle none is
+none-stacked : (i j k a b c d : ℕ) (t : Triangle) (s q : List Edge) → t ≡ noTriangle → q ≡ stacked i (neighbour t j) a b (stacked i (neighbour t k) c d s) → q ≡ s
+none-stacked i j k a b c d t s q h e =
+    e ∙ ap (λ t. stacked i (neighbour t j) a b (stacked i (neighbour t k) c d s)) h ∙ stacked-nothing i j a b _ ∙ stacked-nothing i k c d s
+
 -- ---- each edge taken leaves less to do
 
 module _ (m : Mesh) (seen : List ℕ) (e : Edge) (s : List Edge) (r : Region) (h : r .stack ≡ e ∷ s) where
@@ -57,7 +66,7 @@ module _ (m : Mesh) (seen : List ℕ) (e : Edge) (s : List Edge) (r : Region) (h
       grouped = sym (append-assoc seen (r .taken) (e .across ∷ []))
 
       two : length (next .stack) ≤ length s + 2
-      two = omega (arith, stacked-le (e .across) (neighbour u (before v)) (length (r .contour)) (e .b) (stacked (e .across) (neighbour u (after v)) (e .a) (length (r .contour)) s), stacked-le (e .across) (neighbour u (after v)) (e .a) (length (r .contour)) s)
+      two = two-stacked _ _ _ _ _ _ _ s (next .stack) refl
 
       inside : e .across < length m → left m seen next < left m seen r
       inside g = rw grouped (omega (arith, untaken-take (e .across) (seen ++ r .taken) f (length m) g, two, ap length h))
@@ -65,7 +74,7 @@ module _ (m : Mesh) (seen : List ℕ) (e : Edge) (s : List Edge) (r : Region) (h
       outside : length m ≤ e .across → left m seen next < left m seen r
       outside g =
           let q : triangleAt m (e .across) ≡ noTriangle = List·getD-eq-default m noTriangle g in
-          let none-new : next .stack ≡ s = ap (λ t. stacked (e .across) (neighbour t (before v)) (length (r .contour)) (e .b) (stacked (e .across) (neighbour t (after v)) (e .a) (length (r .contour)) s)) q ∙ stacked-nothing _ _ _ _ _ ∙ stacked-nothing _ _ _ _ _ in
+          let none-new : next .stack ≡ s = none-stacked _ _ _ _ _ _ _ u s (next .stack) q refl in
           rw grouped (omega (arith, untaken-out (e .across) (seen ++ r .taken) f (length m) g, ap length none-new, ap length h))
 
   pub step-less : left m seen (step m seen e s r) < left m seen r

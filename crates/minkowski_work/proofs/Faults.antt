@@ -1,55 +1,83 @@
--- The faults of two operands in their order: those that need no walk first (`operands-refused`), a winding (`left-leaves`, `right-leaves`), the result's
--- (`result-refused`), and then the room's alone (`room-decides`); what operands without a fault of the first kinds meet (`judged`). Assumes nothing.
-use mathlib.Core.Path.{_≡_, sym, _∙_}
+-- The faults of two operands in their order, before any others: those that need no walk (`operands-first`), those that walks decide (`walks-first`), and then
+-- the others alone (`rest-decides`); the same before the room's; a winding (`left-leaves`, `right-leaves`) and the result's (`result-decides`); what operands
+-- without a fault of the first kinds meet (`judged`). Assumes nothing.
+use mathlib.Core.Path.{_≡_, sym, _∙_, ap}
 use mathlib.Core.Bool.{Bool, true, false}
 use mathlib.Core.List.{List, [], _∷_, _++_}
 use Prim.Native.Nat.{ℕ}
 use native.Mathlib.Omega.{arith}
-use lib.Dec.{lit<}
+use borrow.Author.Tests.{eqb-true, eqb-false}
+use lib.Dec.{eqb, lit<}
 use Rattle.integers.specs.Faults.{Kind, firstFault}
 use Rattle.integers.proofs.Faults.{first-this, first-next, first-none, append-some, append-none}
-use Rattle.table.specs.Table.{tableBroken, offRange, boundsList, boundsBroken, pointsOf, roomKinds}
-use Rattle.minkowski.specs.Pairs.{Operand, operandOff, operandParts, pairContours, someWindingLeaves, pairsFault}
+use Rattle.table.specs.declared.IntRect.{IntRect}
+use Rattle.table.specs.Table.{tableBroken, offRange, boundsList, partCount, roomKinds}
+use Rattle.minkowski.specs.Pairs.{Operand, operandOff, operandParts, pairContours, resultBounds, someWindingLeaves, pairKinds, pairsFault}
 use Rattle.minkowski_faults.specs.Kinds.{operandKinds, resultKinds}
+use Rattle.minkowski_work.specs.Scratch.{walkKinds}
 use Rattle.minkowski_faults.proofs.Range.{off-append-in, off-append-out}
 use Rattle.integers.proofs.Order.{by-test}
 use Rattle.integers.proofs.Tests.{differ}
 
+-- ---- kinds before others
+
+module _ (reflected : Bool) (l r : Operand) (rest : List Kind) where
+  -- 7, 2 and 9
+  pub operands-first : {f : ℕ} → f ≡ firstFault (operandKinds l r) → (f ≡ 0 → ⊥) → f ≡ firstFault (pairKinds reflected l r ++ rest)
+  operands-first e d = e ∙ sym (append-some (operandKinds l r) (walkKinds reflected l r ++ rest) (λ q. d (e ∙ q)))
+
+  module _ (e : firstFault (operandKinds l r) ≡ 0) where
+    pub past-operands : firstFault (pairKinds reflected l r ++ rest) ≡ firstFault (walkKinds reflected l r ++ rest)
+    past-operands = append-none (operandKinds l r) (walkKinds reflected l r ++ rest) (lit< tt, (lit< tt, (lit< tt, (lit< tt, (lit< tt, (lit< tt, tt)))))) e
+
+    -- 8, 10 and 20
+    pub walks-first : {f : ℕ} → f ≡ firstFault (walkKinds reflected l r) → (f ≡ 0 → ⊥) → f ≡ firstFault (pairKinds reflected l r ++ rest)
+    walks-first h d = h ∙ sym (past-operands ∙ append-some (walkKinds reflected l r) rest (λ q. d (h ∙ q)))
+
+    pub rest-decides : firstFault (walkKinds reflected l r) ≡ 0 → firstFault (pairKinds reflected l r ++ rest) ≡ firstFault rest
+    rest-decides h = past-operands ∙ append-none (walkKinds reflected l r) rest (lit< tt, (lit< tt, (lit< tt, (lit< tt, (lit< tt, tt))))) h
+
+-- where nothing is told of two operands, none of 7, 2 and 9 is
+pub operands-none : (reflected : Bool) (l r : Operand) → firstFault (pairKinds reflected l r) ≡ 0 → firstFault (operandKinds l r) ≡ 0
+operands-none reflected l r e =
+    by-test (eqb (firstFault (operandKinds l r)) 0) (λ t. eqb-true _ 0 t)
+    (λ t. absurd (eqb-false _ 0 t (sym (append-some (operandKinds l r) (walkKinds reflected l r) (eqb-false _ 0 t)) ∙ e)))
+
+-- before those of the room
 module _ (reflected : Bool) (l r : Operand) (s c : ℕ) where
   abbrev room : List Kind
   room = roomKinds (pairContours reflected l r) s c
 
-  abbrev windings : List Kind
-  windings = (8, someWindingLeaves false (operandParts l)) ∷ (8, someWindingLeaves reflected (operandParts r)) ∷ []
-
-  -- 7, 2 and 9
   pub operands-refused : {f : ℕ} → f ≡ firstFault (operandKinds l r) → (f ≡ 0 → ⊥) → f ≡ pairsFault reflected l r s c
   unfolding pairsFault
-  operands-refused e d = e ∙ sym (append-some (operandKinds l r) (windings ++ (resultKinds reflected l r ++ room)) (λ q. d (e ∙ q)))
+  operands-refused e d = operands-first reflected l r room e d
 
   module _ (e : firstFault (operandKinds l r) ≡ 0) where
-    past-operands : pairsFault reflected l r s c ≡ firstFault (windings ++ (resultKinds reflected l r ++ room))
+    pub walks-refused : {f : ℕ} → f ≡ firstFault (walkKinds reflected l r) → (f ≡ 0 → ⊥) → f ≡ pairsFault reflected l r s c
     unfolding pairsFault
-    past-operands = append-none (operandKinds l r) (windings ++ (resultKinds reflected l r ++ room)) (lit< tt, (lit< tt, (lit< tt, (lit< tt, (lit< tt, (lit< tt, tt)))))) e
+    walks-refused h d = walks-first reflected l r room e h d
 
-    pub left-leaves : someWindingLeaves false (operandParts l) ≡ true → 8 ≡ pairsFault reflected l r s c
-    left-leaves h = sym (past-operands ∙ first-this 8 _ _ h)
+    -- 22 and 21
+    pub room-decides : firstFault (walkKinds reflected l r) ≡ 0 → pairsFault reflected l r s c ≡ firstFault room
+    unfolding pairsFault
+    room-decides h = rest-decides reflected l r room e h
 
-    module _ (h : someWindingLeaves false (operandParts l) ≡ false) where
-      pub right-leaves : someWindingLeaves reflected (operandParts r) ≡ true → 8 ≡ pairsFault reflected l r s c
-      right-leaves k = sym (past-operands ∙ first-next 8 _ _ h ∙ first-this 8 _ _ k)
+-- ---- the kinds that walks decide
 
-      module _ (k : someWindingLeaves reflected (operandParts r) ≡ false) where
-        past-windings : pairsFault reflected l r s c ≡ firstFault (resultKinds reflected l r ++ room)
-        past-windings = past-operands ∙ first-next 8 _ _ h ∙ first-next 8 _ _ k
+module _ (reflected : Bool) (l r : Operand) where
+  pub left-leaves : someWindingLeaves false (operandParts l) ≡ true → 8 ≡ firstFault (walkKinds reflected l r)
+  left-leaves h = sym (first-this 8 _ _ h)
 
-        -- 10 and 20
-        pub result-refused : {f : ℕ} → f ≡ firstFault (resultKinds reflected l r) → (f ≡ 0 → ⊥) → f ≡ pairsFault reflected l r s c
-        result-refused g d = g ∙ sym (past-windings ∙ append-some (resultKinds reflected l r) room (λ q. d (g ∙ q)))
+  module _ (h : someWindingLeaves false (operandParts l) ≡ false) where
+    pub right-leaves : someWindingLeaves reflected (operandParts r) ≡ true → 8 ≡ firstFault (walkKinds reflected l r)
+    right-leaves k = sym (first-next 8 _ _ h ∙ first-this 8 _ _ k)
 
-        -- 22 and 21
-        pub room-decides : firstFault (resultKinds reflected l r) ≡ 0 → pairsFault reflected l r s c ≡ firstFault room
-        room-decides g = past-windings ∙ append-none (resultKinds reflected l r) room (lit< tt, (lit< tt, (lit< tt, tt))) g
+    pub result-decides : someWindingLeaves reflected (operandParts r) ≡ false → firstFault (walkKinds reflected l r) ≡ firstFault (resultKinds reflected l r)
+    result-decides k = first-next 8 _ _ h ∙ first-next 8 _ _ k
+
+  -- the result's, by its bounds as they were computed
+  pub result-kinds : {b : IntRect} → b ≡ resultBounds reflected (l .bounds) (r .bounds) → firstFault ((10, offRange (boundsList b)) ∷ (20, eqb (partCount (l .starts)) 0) ∷ (20, eqb (partCount (r .starts)) 0) ∷ []) ≡ firstFault (resultKinds reflected l r)
+  result-kinds e = ap (λ x. firstFault ((10, offRange (boundsList x)) ∷ (20, eqb (partCount (l .starts)) 0) ∷ (20, eqb (partCount (r .starts)) 0) ∷ [])) e
 
 -- ---- what operands meet that none of 7, 2 and 9 is told of
 

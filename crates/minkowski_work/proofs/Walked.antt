@@ -31,7 +31,7 @@ use Rattle.minkowski_rows.specs.Rows.{walksIn, Walks, mergedAll}
 use Rattle.minkowski_rows.proofs.Pairs.{walks-in, merged-pairs}
 use Rattle.minkowski_count.specs.Counting.{Countable}
 use Rattle.minkowski_answer.specs.Answer.{contoursIn, Unrolleds, PairsAnswered}
-use Rattle.minkowski_work.specs.Scratch.{Scratch}
+use Rattle.minkowski_work.specs.Scratch.{Scratch, Walked}
 use Rattle.minkowski_work.proofs.Faults.{Judged}
 use Rattle.minkowski_work.proofs.Counted.{few-pairs, few-contours, few-left, few-right}
 
@@ -92,10 +92,6 @@ module _ (o : Operand) (j : Judged o) {points : List (List ℤ)} {firsts : List 
   small places e h k = record { for-points = omega (arith, h, e); for-firsts = omega (arith, k, e) }
 
 -- the walks of an operand in its buffers
-pub record Walked (reflected : Bool) (o : Operand) (firsts : List ℕ) (points : List (List ℤ)) : Type 0 where
-  pub walks : Countable firsts points (partCount (o .starts))
-  pub read : walksIn firsts points (partCount (o .starts)) ≡ unrolledParts reflected (operandParts o)
-
 pub walked : (reflected : Bool) (o : Operand) → Judged o → {firsts : List ℕ} {points : List (List ℤ)} → Gathered firsts points (tallyOf (unrolledParts reflected (operandParts o))) (unrolledParts reflected (operandParts o)) → Walked reflected o firsts points
 walked reflected o j {firsts} {points} g =
     let ps = unrolledParts reflected (operandParts o) in
@@ -116,7 +112,7 @@ module _ (reflected : Bool) (l r : Operand) {lf rf : List ℕ} {lp rp : List (Li
   abbrev contours : List (List Pt)
   contours = contoursIn lf lp (partCount (l .starts)) rf rp (partCount (r .starts))
 
-  contours-in : contours ≡ pairContours reflected l r
+  pub contours-in : contours ≡ pairContours reflected l r
   contours-in = ap₂ mergedAll (v .read) (w .read) ∙ merged-pairs reflected (operandParts l) (operandParts r)
 
   pub unrolleds : Judged l → Judged r → {most : ℕ} → most ≡ partCount (r .starts) * (length (l .corners) / 2) + partCount (l .starts) * (length (r .corners) / 2) → Unrolleds lf lp (partCount (l .starts)) rf rp (partCount (r .starts)) most

@@ -31,11 +31,10 @@ use std::fs;
 use std::io;
 use std::path::Path;
 use std::process::ExitCode;
-use topic::{Module, Topic};
+use topic::{Amount, Module, Topic};
 
-/// One maker for each topic: the generator, and how many random cases of each
-/// kind.
-const TOPICS: &[fn(&mut Rng, usize) -> Topic] = &[
+/// One maker for each topic: the generator, and how many cases.
+const TOPICS: &[fn(&mut Rng, Amount) -> Topic] = &[
     plane::topic,
     mesh::topic,
     parts::topic,
@@ -52,6 +51,7 @@ usage: cases deps
        cases write FOLDER LIST SEED COUNT [TOPIC..]
        cases narrow FOLDER LOG SEED COUNT [TOPIC..]
        cases report LOG NARROWED LIST
+COUNT: random cases of each kind, after the small ones; or `short`
 ";
 
 fn main() -> ExitCode {
@@ -60,14 +60,14 @@ fn main() -> ExitCode {
     let done = match words[..] {
         ["deps"] => deps(),
         ["write", folder, list, seed, count, ref only @ ..] => {
-            match (seed.parse(), count.parse()) {
-                (Ok(seed), Ok(count)) => write(folder, list, &topics(seed, count, only)),
+            match (seed.parse(), amount(count)) {
+                (Ok(seed), Some(amount)) => write(folder, list, &topics(seed, amount, only)),
                 _ => return usage(),
             }
         }
         ["narrow", folder, log, seed, count, ref only @ ..] => {
-            match (seed.parse(), count.parse()) {
-                (Ok(seed), Ok(count)) => narrow(folder, log, &topics(seed, count, only)),
+            match (seed.parse(), amount(count)) {
+                (Ok(seed), Some(amount)) => narrow(folder, log, &topics(seed, amount, only)),
                 _ => return usage(),
             }
         }
@@ -89,17 +89,24 @@ fn usage() -> ExitCode {
     ExitCode::from(2)
 }
 
+fn amount(word: &str) -> Option<Amount> {
+    match word {
+        "short" => Some(Amount::SHORT),
+        count => count.parse().ok().map(Amount::whole),
+    }
+}
+
 /// All topics, or those named.
-fn topics(seed: u64, count: usize, only: &[&str]) -> Vec<Topic> {
+fn topics(seed: u64, amount: Amount, only: &[&str]) -> Vec<Topic> {
     let mut rng = Rng::new(seed);
-    let all = TOPICS.iter().map(|make| make(&mut rng, count));
+    let all = TOPICS.iter().map(|make| make(&mut rng, amount));
     all.filter(|topic| only.is_empty() || only.contains(&topic.name))
         .collect()
 }
 
 /// The crates that the scratch crate leans on.
 fn deps() -> io::Result<bool> {
-    let mut names: Vec<&str> = topics(0, 0, &[])
+    let mut names: Vec<&str> = topics(0, Amount::SHORT, &[])
         .iter()
         .flat_map(|t| t.modules.iter().map(|&(layer, _)| layer))
         .collect();

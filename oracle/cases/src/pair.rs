@@ -4,11 +4,12 @@
 //! and what demand 3 says, computed of contours once round.
 
 use crate::antt::{self, contour, integer, point};
-use crate::topic::{layers, Case, Topic};
+use crate::topic::{layers, Amount, Case, Topic};
 use i_triangle::int::expose::{one_pair, Operation};
 use i_triangle::int::reach;
 use inputs::rng::Rng;
 use inputs::text;
+use inputs::walk_calls::limit_windings;
 use inputs::{contours, coordinates};
 use judge::round::{once_round, strictly_convex};
 use judge::walk::{winding, winding_leaves_64_bits};
@@ -81,18 +82,21 @@ const CORNERS: usize = 10;
 
 /// Every two contours of up to two corners on a grid of 2 by 2, and the words of
 /// all of up to three or four; then random ones of each kind.
-pub fn topic(rng: &mut Rng, count: usize) -> Topic {
-    let mut cases = Vec::new();
-    let tiny: Vec<Contour> = contours::small(2, 2).collect();
-    for a in &tiny {
-        for b in &tiny {
-            cases.extend(both(a, b));
-        }
+pub fn topic(rng: &mut Rng, amount: Amount) -> Topic {
+    let count = amount.random;
+    let mut cases: Vec<Case> = limit_windings().iter().flat_map(|l| winds(l)).collect();
+    for (_, corners) in contours::LISTED {
+        cases.extend(both(corners, &[(0, 0), (2, 0), (0, 2)]));
+        cases.extend(both(&[(0, 0), (3, 1)], corners));
     }
-    for l in contours::small(2, 4) {
+    let tiny: Vec<Contour> = contours::small(2, 2).collect();
+    for (a, b) in amount.some(tiny.iter().flat_map(|a| tiny.iter().map(move |b| (a, b)))) {
+        cases.extend(both(a, b));
+    }
+    for l in amount.some(contours::small(2, 4)) {
         cases.push(round(&l));
     }
-    for l in contours::small(2, 3) {
+    for l in amount.some(contours::small(2, 3)) {
         cases.extend(walks(&l));
     }
     let lists: Vec<Contour> = contours::small(3, 3).collect();

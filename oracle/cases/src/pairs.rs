@@ -3,15 +3,18 @@
 //! `difference_parts`; and the result's bounds.
 
 use crate::antt::{self, bounds, operand};
-use crate::topic::{layers, Case, Topic};
+use crate::topic::{layers, Amount, Case, Topic};
 use cli::answers::pair_contours;
 use inputs::operands::{self, Pair};
-use inputs::pair_damage::{damaged, ORDER};
+use inputs::pair_damage::{damaged, damaged_on, ORDER};
 use inputs::rng::Rng;
 use inputs::rooms;
 use inputs::text;
 use judge::pairs::{fault, result_bounds, Operand, Operation};
 use judge::room::{self, Room, Size};
+use judge::shown::Side;
+use judge::table::Table;
+use judge::Contour;
 
 /// The definitions' names, here and in `DECLARATIONS`.
 const USES: &str = "\
@@ -47,12 +50,15 @@ const WAYS: usize = 30;
 
 /// Result bounds at the limit and past it; windings that leave 64 bits one way
 /// only; then random pairs, and some of them with each fault and with every two.
-pub fn topic(rng: &mut Rng, count: usize) -> Topic {
+pub fn topic(rng: &mut Rng, amount: Amount) -> Topic {
+    let count = amount.random;
     let mut all = operands::edges();
     for _ in 0..count.div_ceil(100) {
         all.extend(operands::one_way(rng));
     }
     let mut cases: Vec<Case> = all.iter().map(|pair| refused(rng, pair)).collect();
+    cases.extend(all.iter().map(bounded));
+    cases.extend(limits(rng));
     for _ in 0..count / 3 {
         let pair = small(rng);
         cases.extend([give(&pair), bounded(&pair), refused(rng, &pair)]);
@@ -75,6 +81,49 @@ pub fn topic(rng: &mut Rng, count: usize) -> Topic {
         declarations: DECLARATIONS.into(),
         cases,
     }
+}
+
+/// Of a sum and of a difference: bounds that are all different; room one place short, exact
+/// and longer; each fault with every other, on either side.
+fn limits(rng: &mut Rng) -> Vec<Case> {
+    let mut cases = Vec::new();
+    let side = |parts: &[Contour], bounds: [i32; 4]| Operand {
+        table: Table::of(parts),
+        bounds,
+    };
+    for operation in [Operation::Sum, Operation::Difference] {
+        let pair = Pair {
+            operation,
+            left: side(&[vec![(0, 0), (4, 0), (0, 3)], vec![]], [-1, 5, -20, 70]),
+            right: side(
+                &[vec![(1, 1), (2, 5)], vec![(7, 2)]],
+                [-300, 1_100, -9_000, 60_000],
+            ),
+        };
+        cases.extend([give(&pair), bounded(&pair)]);
+        let answer = pair_contours(operation, &pair.left, &pair.right).expect("an accepted pair");
+        for lent in rooms::every(Size::of(&answer)) {
+            cases.push(refused_in(&pair, lent));
+        }
+        for (i, &a) in ORDER.iter().enumerate() {
+            for &b in &ORDER[i..] {
+                for sides in [[Side::Left, Side::Right], [Side::Right, Side::Left]] {
+                    let hurt = loop {
+                        let hurt = damaged_on(rng, &pair, &[(a, sides[0]), (b, sides[1])]);
+                        if is_small(&hurt.left) && is_small(&hurt.right) {
+                            break hurt;
+                        }
+                    };
+                    let none = Room {
+                        starts: 0,
+                        numbers: 0,
+                    };
+                    cases.push(refused_in(&hurt, none));
+                }
+            }
+        }
+    }
+    cases
 }
 
 fn reflected(pair: &Pair) -> bool {
@@ -110,6 +159,11 @@ fn give(pair: &Pair) -> Case {
 fn refused(rng: &mut Rng, pair: &Pair) -> Case {
     let answer = pair_contours(pair.operation, &pair.left, &pair.right).unwrap_or_default();
     let lent = rooms::about(rng, Size::of(&answer));
+    refused_in(pair, lent)
+}
+
+fn refused_in(pair: &Pair, lent: Room) -> Case {
+    let answer = pair_contours(pair.operation, &pair.left, &pair.right).unwrap_or_default();
     let fault = match fault(pair.operation, &pair.left, &pair.right) {
         0 => room::fault(Size::of(&answer), lent),
         fault => fault,

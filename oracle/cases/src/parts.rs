@@ -3,7 +3,7 @@
 //! refuses, beside the judge.
 
 use crate::antt;
-use crate::topic::{layers, Case, Topic};
+use crate::topic::{layers, Amount, Case, Topic};
 use cli::answers::{parts, Cut};
 use inputs::mesh_damage::{damaged, ORDER};
 use inputs::meshes::{self, Mesh};
@@ -51,10 +51,18 @@ pub const MOST: usize = 12;
 /// Every accepted mesh of up to two triangles on a grid of 2 by 2, and of three
 /// with all their links; then random ones of every kind; and room that is enough or
 /// not, of good meshes and damaged ones.
-pub fn topic(rng: &mut Rng, count: usize) -> Topic {
-    let mut all = small();
+pub fn topic(rng: &mut Rng, amount: Amount) -> Topic {
+    let count = amount.random;
+    let mut all: Vec<Mesh> = amount.some(small()).collect();
     all.extend((0..count / 2).map(|_| good(rng, MOST)));
     let mut cases: Vec<Case> = all.iter().map(joined).collect();
+    // room one place short, exact and longer
+    for mesh in [Mesh::new(), meshes::apart(1), square()] {
+        let answer = parts(&mesh, Cut::None).expect("an accepted mesh");
+        for lent in rooms::every(Size::of(&answer)) {
+            cases.push(refused(&mesh, &answer, lent));
+        }
+    }
     for _ in 0..count / 4 {
         let mesh = perhaps_damaged(rng);
         let answer = parts(&mesh, Cut::None).unwrap_or_default();
@@ -68,6 +76,11 @@ pub fn topic(rng: &mut Rng, count: usize) -> Topic {
         declarations: DECLARATIONS.into(),
         cases,
     }
+}
+
+/// Document 01's: two triangles that join.
+pub fn square() -> Mesh {
+    meshes::linked(&[[(0, 0), (4, 0), (4, 4)], [(0, 0), (4, 4), (0, 4)]])
 }
 
 fn joined(mesh: &Mesh) -> Case {

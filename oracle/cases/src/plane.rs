@@ -2,8 +2,9 @@
 //! (beside the Rust), and which points are in range (beside the judge).
 
 use crate::antt::{self, integer, point, points};
-use crate::topic::{Case, Topic};
+use crate::topic::{Amount, Case, Topic};
 use i_triangle::int::{expose, reach};
+use inputs::coordinates::EDGE;
 use inputs::plane::{self, Four};
 use inputs::rng::Rng;
 use judge::limits::point_in_range;
@@ -36,16 +37,32 @@ holds (directed a b c d greater) = isGreater (angleCmp (b -ᵖ a) (d -ᵖ c))
 holds (ranged a b) = eqBool (onGrid a) b
 ";
 
+/// Coordinates one below the limit, at it and one beyond, of either sign.
+fn limits() -> Vec<Case> {
+    let about = [EDGE - 1, EDGE, EDGE + 1].map(|z| [z, -z]);
+    let all = about
+        .into_iter()
+        .flatten()
+        .flat_map(|z| [(z, 0), (0, z), (z, z)]);
+    let mut cases: Vec<Case> = all.map(range).collect();
+    // opposite directions and equal ones, as long as can be
+    let (near, far) = ((-EDGE, -EDGE), (EDGE, EDGE));
+    cases.extend(of([near, far, far, near]));
+    cases.extend(of([near, far, near, (0, 0)]));
+    cases.extend(of([near, (EDGE, -EDGE), near, (-EDGE, EDGE)]));
+    cases
+}
+
 /// Every pair of vectors with components from −SMALL to SMALL, then `count`
 /// random ones of each kind.
 const SMALL: i32 = 2;
 
-pub fn topic(rng: &mut Rng, count: usize) -> Topic {
-    let mut cases = Vec::new();
-    for four in plane::small(SMALL) {
+pub fn topic(rng: &mut Rng, amount: Amount) -> Topic {
+    let mut cases = limits();
+    for four in amount.some(plane::small(SMALL)) {
         cases.extend(of(four));
     }
-    for _ in 0..count {
+    for _ in 0..amount.random {
         let four = plane::any(rng);
         cases.extend(of(four));
     }

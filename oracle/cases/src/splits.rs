@@ -3,8 +3,8 @@
 //! beside the same of a mesh whose one region it is; and what a call refuses.
 
 use crate::antt;
-use crate::parts::{fault, good, perhaps_damaged, MOST};
-use crate::topic::{layers, Case, Topic};
+use crate::parts::{fault, good, perhaps_damaged, square, MOST};
+use crate::topic::{layers, Amount, Case, Topic};
 use cli::answers::{parts, Cut};
 use inputs::meshes::{self, Mesh};
 use inputs::rng::Rng;
@@ -13,6 +13,7 @@ use inputs::{contours, coordinates, rooms};
 use judge::file::Split::{self, Centroid, Ear, Fan};
 use judge::room::{Room, Size};
 use judge::{Contour, Point};
+use std::cmp::Ordering;
 
 /// The definitions' names, here and in `DECLARATIONS`.
 const USES: &str = "\
@@ -43,9 +44,10 @@ const LIMITS: usize = 9;
 
 /// Contours known to matter at every limit, then random ones; random meshes; and
 /// room that is enough or not, of good meshes and damaged ones.
-pub fn topic(rng: &mut Rng, count: usize) -> Topic {
-    let mut cases = Vec::new();
-    for contour in contours::worth_splitting() {
+pub fn topic(rng: &mut Rng, amount: Amount) -> Topic {
+    let count = amount.random;
+    let mut cases = limits();
+    for contour in amount.some(contours::worth_splitting()) {
         for limit in 3..=contour.len() as u32 {
             cases.extend(SPLITS.map(|how| of_contour(how, limit, &contour)));
         }
@@ -78,6 +80,30 @@ pub fn topic(rng: &mut Rng, count: usize) -> Topic {
         declarations: DECLARATIONS.into(),
         cases,
     }
+}
+
+/// Limits raised to 3, and about the corner count; the doubled area to which the centroid
+/// split goes, one below and one beyond; halves of either sign; room one place short,
+/// exact and longer.
+fn limits() -> Vec<Case> {
+    let mut cases = Vec::new();
+    for limit in 0..=5 {
+        cases.extend(SPLITS.map(|how| of_mesh(how, limit, &square())));
+    }
+    let at = [Ordering::Less, Ordering::Equal, Ordering::Greater].map(contours::centroid_limit);
+    cases.extend(at.iter().map(|contour| of_contour(Centroid, 3, contour)));
+    // the centre of a square of side 3 stands at halves
+    let halves = [(0, 0), (3, 0), (3, 3), (0, 3)].to_vec();
+    for contour in contours::turned(&halves) {
+        cases.push(of_contour(Centroid, 3, &contour));
+    }
+    for how in SPLITS {
+        let answer = parts(&square(), Cut::Past(3, how)).expect("an accepted mesh");
+        for lent in rooms::every(Size::of(&answer)) {
+            cases.push(refused(how, 3, &square(), &answer, lent));
+        }
+    }
+    cases
 }
 
 fn strategy(how: Split) -> &'static str {

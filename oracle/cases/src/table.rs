@@ -2,10 +2,12 @@
 //! its parts and back, the stored form and the part shown, beside the judge.
 
 use crate::antt::{self, bounds, bytes, contours, integers};
-use crate::topic::{layers, Case, Topic};
+use crate::topic::{layers, Amount, Case, Topic};
+use inputs::coordinates::EDGE;
 use inputs::operands::{self, Pair};
 use inputs::pair_damage::{break_rules, damaged};
 use inputs::rng::Rng;
+use inputs::rooms;
 use inputs::stored::table_bytes;
 use inputs::tables::limits;
 use inputs::text;
@@ -53,8 +55,10 @@ holds (shows ls lc rs rc right k f c) = both (eqb (shownFault ls lc rs rc right 
 
 /// Tables at each limit and past it; then random ones, good and damaged, each way
 /// they are used.
-pub fn topic(rng: &mut Rng, count: usize) -> Topic {
+pub fn topic(rng: &mut Rng, amount: Amount) -> Topic {
+    let count = amount.random;
     let mut cases: Vec<Case> = limits().iter().map(breaks).collect();
+    cases.extend(about_the_rules());
     for _ in 0..count / 4 {
         let good = good(rng);
         let table = perhaps_broken(rng);
@@ -81,6 +85,65 @@ pub fn topic(rng: &mut Rng, count: usize) -> Topic {
 
 /// Bytes past which a random stored table is left out.
 const LONG: usize = 1_000;
+
+/// Coordinates and bounds one below their limit, at it and one beyond; a stored table with
+/// a byte less or more, and with room one place short, exact and longer; the last part and
+/// one past it.
+fn about_the_rules() -> Vec<Case> {
+    let mut cases = Vec::new();
+    let table = Table::of(&[vec![(0, 0), (4, 0), (0, 3)], vec![], vec![(-2, 5)]]);
+    for z in [EDGE - 1, EDGE, EDGE + 1, 1 - EDGE, -EDGE, -EDGE - 1] {
+        for at in [0, 7] {
+            let mut far = table.clone();
+            far.corners[at] = z;
+            cases.extend([breaks(&far), written(&far, 100)]);
+        }
+    }
+    let just = [-2, 4, 0, 5];
+    cases.push(bounded(just, &table));
+    for at in 0..4 {
+        for by in [-1, 1] {
+            let mut bounds = just;
+            bounds[at] += by;
+            cases.push(bounded(bounds, &table));
+        }
+    }
+    for (least, greatest) in [(1, 1), (1, 0), (0, 1)] {
+        let empty = Table::of(&[]);
+        cases.push(bounded([least, greatest, 0, 0], &empty));
+        cases.push(bounded([0, 0, least, greatest], &empty));
+    }
+    let stored = stored::encode(&table);
+    for room in [stored.len() - 1, stored.len(), stored.len() + 1] {
+        cases.push(written(&table, room));
+    }
+    let size = Size {
+        parts: table.parts(),
+        corners: table.corner_count(),
+    };
+    for lent in rooms::every(size) {
+        cases.push(read(&stored, lent));
+    }
+    let ample = Room {
+        starts: 9,
+        numbers: 99,
+    };
+    let longer = [&stored[..], &[0]].concat();
+    for given in [
+        &stored[..stored.len() - 1],
+        &longer,
+        &stored[..7],
+        &stored[..8],
+    ] {
+        cases.push(read(given, ample));
+    }
+    for part in [0, 2, 3, 4] {
+        for side in [Side::Left, Side::Right] {
+            cases.push(shown_part(&table, &table, side, part));
+        }
+    }
+    cases
+}
 
 fn parts(rng: &mut Rng) -> Vec<Contour> {
     operands::parts(rng, 5, 6, 100)
@@ -133,8 +196,14 @@ fn leaves_bounds(rng: &mut Rng) -> Case {
     if rng.once_in(3) {
         left.bounds[rng.below(4)] += rng.between(-1, 1);
     }
-    let outside = breaks_bounds(&left);
-    let Operand { table, bounds: b } = left;
+    bounded(left.bounds, &left.table)
+}
+
+fn bounded(b: [i32; 4], table: &Table) -> Case {
+    let outside = breaks_bounds(&Operand {
+        table: table.clone(),
+        bounds: b,
+    });
     Case::new(
         format!(
             "leaves-bounds {} {} {outside}",
@@ -190,6 +259,10 @@ fn writes(rng: &mut Rng, table: &Table) -> Case {
         _ => 50,
     };
     let room = rng.pick(&[0, needed.saturating_sub(1), needed, needed, needed + 1]);
+    written(table, room)
+}
+
+fn written(table: &Table, room: usize) -> Case {
     let fault = stored::write_fault(table, room);
     Case::new(
         format!("writes {} {room} {fault}", antt::table(table)),
@@ -213,6 +286,10 @@ fn reads(rng: &mut Rng, given: &[u8]) -> Case {
         starts: about(size.starts()),
         numbers: about(size.numbers()),
     };
+    read(given, lent)
+}
+
+fn read(given: &[u8], lent: Room) -> Case {
     let fault = stored::read_fault(given, lent);
     let Room { starts, numbers } = lent;
     Case::new(
@@ -243,6 +320,10 @@ fn shows(rng: &mut Rng, left: &Table, right: &Table) -> Case {
         Side::Right => right,
     };
     let part = rng.below(asked.starts.len() + 2) as u32;
+    shown_part(left, right, side, part)
+}
+
+fn shown_part(left: &Table, right: &Table, side: Side, part: u32) -> Case {
     let fault = shown::fault(left, right, side, part);
     let corners: Vec<i32> = match fault {
         0 => shown::corners(left, right, side, part)

@@ -14,6 +14,33 @@ impl Case {
     }
 }
 
+/// How many cases a topic has beside those at document 01's limits and ties, which it
+/// always has.
+#[derive(Debug, Clone, Copy)]
+pub struct Amount {
+    /// Random ones of each kind.
+    pub random: usize,
+    /// One in so many of the small ones that are tried exhaustively.
+    pub every: usize,
+}
+
+impl Amount {
+    /// What the test command has time for.
+    pub const SHORT: Self = Self {
+        random: 36,
+        every: 8,
+    };
+
+    pub fn whole(random: usize) -> Self {
+        Self { random, every: 1 }
+    }
+
+    /// Of a list of small ones.
+    pub fn some<T>(self, all: impl IntoIterator<Item = T>) -> impl Iterator<Item = T> {
+        all.into_iter().step_by(self.every)
+    }
+}
+
 /// A module of definitions: its crate, and its file in that crate's `specs/`. The
 /// scratch crate knows it by its name in lower case, `walk.begin` being `begin`
 /// of `Walk`; every definition in it that the prover keeps folded is unfolded.

@@ -3,10 +3,12 @@
 //! they answer, beside the Rust.
 
 use crate::antt::{self, integers, point};
-use crate::topic::{layers, Case, Topic};
+use crate::topic::{layers, Amount, Case, Topic};
 use i_triangle::int::reach;
+use inputs::coordinates::EDGE;
 use inputs::rng::Rng;
 use inputs::text;
+use inputs::walk_calls::limit_windings;
 use inputs::{contours, coordinates, places};
 use judge::limits::CONTOUR;
 use judge::walk::{self, Place};
@@ -123,8 +125,9 @@ struct Given {
 
 /// The longest contour and one more, then random ones of each kind, good and
 /// damaged.
-pub fn topic(rng: &mut Rng, count: usize) -> Topic {
-    let mut cases = Vec::new();
+pub fn topic(rng: &mut Rng, amount: Amount) -> Topic {
+    let count = amount.random;
+    let mut cases = limits();
     for corners in [CONTOUR, CONTOUR + 1] {
         let flat = vec![3; 2 * corners];
         let given = given(rng, corners);
@@ -152,6 +155,63 @@ pub fn topic(rng: &mut Rng, count: usize) -> Topic {
         declarations: DECLARATIONS.into(),
         cases,
     }
+}
+
+/// Windings at the limits of 64 bits, coordinates about theirs, both together and with a
+/// number too many; places and ends at the last corner and one past it; one step left and
+/// none.
+fn limits() -> Vec<Case> {
+    let mut cases = Vec::new();
+    let flat =
+        |contour: &[Point]| -> Vec<i32> { contour.iter().flat_map(|&(x, y)| [x, y]).collect() };
+    for contour in limit_windings() {
+        for reflected in [false, true] {
+            cases.push(begins(&flat(&contour), reflected));
+        }
+        let far = flat(&contour);
+        let mut beyond = far.clone();
+        beyond.extend([EDGE + 1, 0]);
+        let mut odd = beyond.clone();
+        odd.push(0);
+        for numbers in [&beyond, &odd] {
+            cases.push(begins(numbers, false));
+            cases.push(pair_begins(&far, numbers, true));
+            cases.push(pair_begins(numbers, &far, false));
+            cases.push(pair_begins(numbers, &[], false));
+        }
+        cases.push(pair_begins(&far, &[], false));
+        cases.push(pair_begins(&[], &far, true));
+    }
+    for z in [EDGE - 1, EDGE, EDGE + 1, 1 - EDGE, -EDGE, -EDGE - 1] {
+        cases.push(begins(&[0, 0, z, 0, 0, z], false));
+    }
+    let triangle = [0, 0, 4, 0, 0, 3];
+    for index in [1, 2, 3] {
+        for remaining in [0, 1] {
+            for segment in [None, Some((0, index)), Some((index, 1))] {
+                let at = Place {
+                    index: index.min(2),
+                    reverse: false,
+                    remaining,
+                    reflected: false,
+                    segment,
+                };
+                let past = Place {
+                    index,
+                    segment: None,
+                    ..at
+                };
+                for at in [at, past] {
+                    let given = Given {
+                        at,
+                        ends: at.segment.unwrap_or((0, 0)),
+                    };
+                    cases.extend([points(&triangle, given), steps(&triangle, given)]);
+                }
+            }
+        }
+    }
+    cases
 }
 
 fn begins(flat: &[i32], reflected: bool) -> Case {

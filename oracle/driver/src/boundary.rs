@@ -1,28 +1,27 @@
 //! The C functions of the Rattle archive, and the list of entry points.
 
 use crate::entry::{run, Report};
+use crate::lent::Handed;
 use crate::listing::{listing_beside, TEXT};
 use crate::mesh::{mesh_fault_beside, to_convex_polygons_beside, Row};
-use crate::pairs::{difference_parts_beside, sum_parts_beside, Bounds, ToldPairs};
+use crate::pairs::{all_pairs_beside, Bounds, HandedOperand, ToldPairs};
 use crate::plane::{angle_cmp_beside, area_two_beside, cross_product_beside};
 use crate::split::with_max_vertices_beside;
-use crate::table::{self, ReadAnswer, ShowAnswer, WriteAnswer};
 use crate::table::{read_table_beside, show_part_beside, write_table_beside};
+use crate::table::{HandedTable, ToldLength};
 use crate::told::{Counts, Told};
-use crate::walk::{self, Kept, Lent, Places};
+use crate::walk::{self, Places};
 use crate::walk::{ToldEdge, ToldNext, ToldPair, ToldPlace, ToldPoint, ToldStep};
 use inputs::plane::Four;
-use inputs::table_calls::{Read, Show, Write};
-use inputs::walk_calls::{Begin, Place, Step, Two, TwoAt};
-use judge::pairs::{Operand, Operation};
+use inputs::walk_calls::Place;
+use judge::pairs::Operation;
 use judge::shown::Side;
 use judge::Point;
 
 mod archive {
-    use super::{Bounds, Counts, Place, Places, Row, Told, ToldPairs};
+    use super::{Bounds, Counts, Place, Places, Row, Told, ToldLength, ToldPairs};
     use super::{ToldEdge, ToldNext, ToldPair, ToldPlace, ToldPoint, ToldStep};
     use crate::listing::TEXT;
-    use crate::table::ToldLength;
 
     extern "C" {
         pub fn beside_cross_product(
@@ -156,41 +155,71 @@ mod archive {
     }
 }
 
-/// One run of each entry point.
-pub const ENTRY_POINTS: &[fn(u64, u64) -> Report] = &[
-    |seed, count| run(&cross_product_beside(cross_product), seed, count),
-    |seed, count| run(&area_two_beside(area_two), seed, count),
-    |seed, count| run(&angle_cmp_beside(angle_cmp), seed, count),
-    |seed, count| run(&mesh_fault_beside(mesh_fault), seed, count),
-    |seed, count| run(&to_convex_polygons_beside(to_convex_polygons), seed, count),
-    |seed, count| {
+/// An entry point's name, and one run of it by a seed and a count.
+type Named = (&'static str, fn(u64, u64) -> Report);
+
+pub const ENTRY_POINTS: &[Named] = &[
+    ("cross_product", |s, n| {
+        run(&cross_product_beside(cross_product), s, n)
+    }),
+    ("area_two", |s, n| run(&area_two_beside(area_two), s, n)),
+    ("angle_cmp", |s, n| run(&angle_cmp_beside(angle_cmp), s, n)),
+    ("mesh_fault", |s, n| {
+        run(&mesh_fault_beside(mesh_fault), s, n)
+    }),
+    ("to_convex_polygons", |s, n| {
+        run(&to_convex_polygons_beside(to_convex_polygons), s, n)
+    }),
+    ("to_convex_polygons_with_max_vertices", |s, n| {
         let entry = with_max_vertices_beside(to_convex_polygons_with_max_vertices);
-        run(&entry, seed, count)
-    },
-    |seed, count| run(&read_table_beside(read_table), seed, count),
-    |seed, count| run(&write_table_beside(write_table), seed, count),
-    |seed, count| run(&show_part_beside(show_part), seed, count),
-    |seed, count| run(&walk::begin_beside(walk_begin), seed, count),
-    |seed, count| run(&walk::point_beside(walk_point), seed, count),
-    |seed, count| run(&walk::edge_beside(walk_edge), seed, count),
-    |seed, count| run(&walk::advance_beside(walk_advance), seed, count),
-    |seed, count| run(&walk::next_beside(walk_next), seed, count),
-    |seed, count| run(&walk::pair_new_beside(pair_new), seed, count),
-    |seed, count| run(&walk::pair_difference_beside(pair_difference), seed, count),
-    |seed, count| run(&walk::pair_next_beside(pair_next), seed, count),
-    |seed, count| run(&walk::sum_to_end_beside(pair_new, pair_next), seed, count),
-    |seed, count| {
+        run(&entry, s, n)
+    }),
+    ("read_table", |s, n| {
+        run(&read_table_beside(read_table), s, n)
+    }),
+    ("write_table", |s, n| {
+        run(&write_table_beside(write_table), s, n)
+    }),
+    ("show_part", |s, n| run(&show_part_beside(show_part), s, n)),
+    ("walk begin", |s, n| {
+        run(&walk::begin_beside(walk_begin), s, n)
+    }),
+    ("walk point", |s, n| {
+        run(&walk::point_beside(walk_point), s, n)
+    }),
+    ("walk edge", |s, n| run(&walk::edge_beside(walk_edge), s, n)),
+    ("walk advance", |s, n| {
+        run(&walk::advance_beside(walk_advance), s, n)
+    }),
+    ("walk next", |s, n| run(&walk::next_beside(walk_next), s, n)),
+    ("pair new", |s, n| {
+        run(&walk::pair_new_beside(pair_new), s, n)
+    }),
+    ("pair difference", |s, n| {
+        run(&walk::pair_difference_beside(pair_difference), s, n)
+    }),
+    ("pair next", |s, n| {
+        run(&walk::pair_next_beside(pair_next), s, n)
+    }),
+    ("sum to its end", |s, n| {
+        run(&walk::sum_to_end_beside(pair_new, pair_next), s, n)
+    }),
+    ("difference to its end", |s, n| {
         let entry = walk::difference_to_end_beside(pair_difference, pair_next);
-        run(&entry, seed, count)
-    },
-    |seed, count| run(&sum_parts_beside(sum_parts), seed, count),
-    |seed, count| run(&difference_parts_beside(difference_parts), seed, count),
-    |seed, count| run(&listing_beside(listing), seed, count),
+        run(&entry, s, n)
+    }),
+    ("sum_parts", |s, n| {
+        run(&all_pairs_beside(Operation::Sum, sum_parts), s, n)
+    }),
+    ("difference_parts", |s, n| {
+        let entry = all_pairs_beside(Operation::Difference, difference_parts);
+        run(&entry, s, n)
+    }),
+    ("listing", |s, n| run(&listing_beside(listing), s, n)),
 ];
 
-// Safe: the functions take and return plain numbers, or slices as their place and
-// length, and the prover has shown that they neither fail nor touch memory that
-// they were not lent.
+// Safe: the functions take and return plain numbers, and the prover has shown that
+// they do not fail.
 
 fn cross_product([a, b, c, d]: Four) -> Told {
     unsafe { archive::beside_cross_product(a.0, a.1, b.0, b.1, c.0, c.1, d.0, d.1) }
@@ -204,211 +233,135 @@ fn angle_cmp([a, b, c, d]: Four) -> Told {
     unsafe { archive::beside_angle_cmp(a.0, a.1, b.0, b.1, c.0, c.1, d.0, d.1) }
 }
 
-pub fn mesh_fault(mesh: &[Row]) -> u32 {
-    unsafe { archive::beside_mesh_fault(mesh.as_ptr(), mesh.len()) }
+// Safe: each list and buffer passes as its place and its length, lent for the call
+// alone, and the prover has shown that nothing past it is touched.
+
+pub fn mesh_fault(mesh: Handed<Row>) -> u32 {
+    unsafe { archive::beside_mesh_fault(mesh.at, mesh.length) }
 }
 
-pub fn to_convex_polygons(mesh: &[Row], starts: &mut [u32], corners: &mut [i32]) -> Counts {
+pub fn to_convex_polygons(mesh: Handed<Row>, starts: Handed<u32>, corners: Handed<i32>) -> Counts {
     unsafe {
         archive::beside_to_convex_polygons(
-            mesh.as_ptr(),
-            mesh.len(),
-            starts.as_mut_ptr(),
-            starts.len(),
-            corners.as_mut_ptr(),
-            corners.len(),
+            mesh.at,
+            mesh.length,
+            starts.at,
+            starts.length,
+            corners.at,
+            corners.length,
         )
     }
 }
 
 pub fn to_convex_polygons_with_max_vertices(
-    mesh: &[Row],
+    mesh: Handed<Row>,
     limit: u32,
     split: u32,
-    starts: &mut [u32],
-    corners: &mut [i32],
+    starts: Handed<u32>,
+    corners: Handed<i32>,
 ) -> Counts {
     unsafe {
         archive::beside_to_convex_polygons_with_max_vertices(
-            mesh.as_ptr(),
-            mesh.len(),
+            mesh.at,
+            mesh.length,
             limit,
             split,
-            starts.as_mut_ptr(),
-            starts.len(),
-            corners.as_mut_ptr(),
-            corners.len(),
+            starts.at,
+            starts.length,
+            corners.at,
+            corners.length,
         )
     }
 }
 
-// Safe: each slice passes as its pointer and its length, lent for the call alone,
-// and the prover has shown that nothing past it is touched.
-
-fn read_table(input: &Read) -> ReadAnswer {
-    let mut starts = table::lent_starts(input.lent.starts);
-    let mut corners = table::lent_numbers(input.lent.numbers);
-    let told = unsafe {
+fn read_table(bytes: Handed<u8>, starts: Handed<u32>, corners: Handed<i32>) -> Counts {
+    unsafe {
         archive::beside_read_table(
-            input.bytes.as_ptr(),
-            input.bytes.len(),
-            starts.as_mut_ptr(),
-            starts.len(),
-            corners.as_mut_ptr(),
-            corners.len(),
+            bytes.at,
+            bytes.length,
+            starts.at,
+            starts.length,
+            corners.at,
+            corners.length,
         )
-    };
-    ReadAnswer {
-        told,
-        starts,
-        corners,
     }
 }
 
-fn write_table(input: &Write) -> WriteAnswer {
-    let mut bytes = table::lent_bytes(input.lent);
-    let told = unsafe {
+fn write_table(table: HandedTable, bytes: Handed<u8>) -> ToldLength {
+    unsafe {
         archive::beside_write_table(
-            input.table.starts.as_ptr(),
-            input.table.starts.len(),
-            input.table.corners.as_ptr(),
-            input.table.corners.len(),
-            bytes.as_mut_ptr(),
-            bytes.len(),
+            table.starts.at,
+            table.starts.length,
+            table.corners.at,
+            table.corners.length,
+            bytes.at,
+            bytes.length,
         )
-    };
-    WriteAnswer { told, bytes }
+    }
 }
 
-fn show_part(input: &Show) -> ShowAnswer {
-    let mut numbers = table::lent_numbers(input.lent);
-    let told = unsafe {
+fn show_part(
+    [left, right]: [HandedTable; 2],
+    side: Side,
+    part: u32,
+    out: Handed<i32>,
+) -> ToldLength {
+    unsafe {
         archive::beside_show_part(
-            input.left.starts.as_ptr(),
-            input.left.starts.len(),
-            input.left.corners.as_ptr(),
-            input.left.corners.len(),
-            input.right.starts.as_ptr(),
-            input.right.starts.len(),
-            input.right.corners.as_ptr(),
-            input.right.corners.len(),
-            input.side == Side::Right,
-            input.part,
-            numbers.as_mut_ptr(),
-            numbers.len(),
+            left.starts.at,
+            left.starts.length,
+            left.corners.at,
+            left.corners.length,
+            right.starts.at,
+            right.starts.length,
+            right.corners.at,
+            right.corners.length,
+            side == Side::Right,
+            part,
+            out.at,
+            out.length,
         )
-    };
-    ShowAnswer { told, numbers }
-}
-
-/// A call on one lent contour.
-fn on_contour<T>(flat: &[i32], call: impl Fn(*const i32, usize) -> T) -> Kept<T> {
-    let lent = Lent::numbers(flat);
-    let told = call(lent.list().as_ptr(), lent.list().len());
-    Kept {
-        told,
-        kept: lent.kept(),
     }
 }
 
-/// A call on two.
-fn on_two<T>(two: &Two, call: impl Fn(*const i32, usize, *const i32, usize) -> T) -> Kept<T> {
-    let (left, right) = (Lent::numbers(&two.left), Lent::numbers(&two.right));
-    let (l, r) = (left.list(), right.list());
-    let told = call(l.as_ptr(), l.len(), r.as_ptr(), r.len());
-    Kept {
-        told,
-        kept: left.kept() && right.kept(),
-    }
+fn walk_begin(contour: Handed<i32>, reflected: bool) -> ToldPlace {
+    unsafe { archive::beside_walk_begin(contour.at, contour.length, reflected) }
 }
 
-fn walk_begin(input: &Begin) -> Kept<ToldPlace> {
-    on_contour(&input.flat, |at, length| unsafe {
-        archive::beside_walk_begin(at, length, input.reflected)
-    })
+fn walk_point(contour: Handed<i32>, at: Place) -> ToldPoint {
+    unsafe { archive::beside_walk_point(contour.at, contour.length, at) }
 }
 
-fn walk_point(input: &Step) -> Kept<ToldPoint> {
-    on_contour(&input.flat, |at, length| unsafe {
-        archive::beside_walk_point(at, length, input.at)
-    })
+fn walk_edge(contour: Handed<i32>, at: Place) -> ToldEdge {
+    unsafe { archive::beside_walk_edge(contour.at, contour.length, at) }
 }
 
-fn walk_edge(input: &Step) -> Kept<ToldEdge> {
-    on_contour(&input.flat, |at, length| unsafe {
-        archive::beside_walk_edge(at, length, input.at)
-    })
+fn walk_advance(contour: Handed<i32>, at: Place) -> ToldPlace {
+    unsafe { archive::beside_walk_advance(contour.at, contour.length, at) }
 }
 
-fn walk_advance(input: &Step) -> Kept<ToldPlace> {
-    on_contour(&input.flat, |at, length| unsafe {
-        archive::beside_walk_advance(at, length, input.at)
-    })
+fn walk_next(contour: Handed<i32>, at: Place) -> ToldStep {
+    unsafe { archive::beside_walk_next(contour.at, contour.length, at) }
 }
 
-fn walk_next(input: &Step) -> Kept<ToldStep> {
-    on_contour(&input.flat, |at, length| unsafe {
-        archive::beside_walk_next(at, length, input.at)
-    })
+fn pair_new(left: Handed<i32>, right: Handed<i32>) -> ToldPair {
+    unsafe { archive::beside_pair_new(left.at, left.length, right.at, right.length) }
 }
 
-fn pair_new(input: &Two) -> Kept<ToldPair> {
-    on_two(input, |l, n, r, m| unsafe {
-        archive::beside_pair_new(l, n, r, m)
-    })
+fn pair_difference(left: Handed<i32>, right: Handed<i32>) -> ToldPair {
+    unsafe { archive::beside_pair_difference(left.at, left.length, right.at, right.length) }
 }
 
-fn pair_difference(input: &Two) -> Kept<ToldPair> {
-    on_two(input, |l, n, r, m| unsafe {
-        archive::beside_pair_difference(l, n, r, m)
-    })
+fn pair_next(left: Handed<i32>, right: Handed<i32>, at: Places) -> ToldNext {
+    unsafe { archive::beside_pair_next(left.at, left.length, right.at, right.length, at) }
 }
 
-fn pair_next(input: &TwoAt) -> Kept<ToldNext> {
-    let at = Places {
-        a: input.a,
-        b: input.b,
-    };
-    on_two(&input.two, |l, n, r, m| unsafe {
-        archive::beside_pair_next(l, n, r, m, at)
-    })
-}
-
-/// The lists of an operand, lent.
-struct LentOperand {
-    starts: Lent<u32>,
-    corners: Lent<i32>,
-    bounds: [i32; 4],
-}
-
-impl LentOperand {
-    fn new(operand: &Operand) -> Self {
-        Self {
-            starts: Lent::new(&operand.table.starts, 0xa5a5_0001),
-            corners: Lent::numbers(&operand.table.corners),
-            bounds: operand.bounds,
-        }
-    }
-
-    fn lists(&self) -> Lists<'_> {
-        (self.starts.list(), self.corners.list(), self.bounds)
-    }
-
-    fn kept(&self) -> bool {
-        self.starts.kept() && self.corners.kept()
-    }
-}
-
-/// An operand's lists as they are lent, and its bounds.
-pub type Lists<'a> = (&'a [u32], &'a [i32], [i32; 4]);
-
-/// `sum_parts` or `difference_parts`, the memory lent as it is given.
-pub fn all_pairs(
+/// `sum_parts` or `difference_parts`.
+fn all_pairs(
     operation: Operation,
-    left: Lists,
-    right: Lists,
-    starts: &mut [u32],
-    corners: &mut [i32],
+    [left, right]: [HandedOperand; 2],
+    starts: Handed<u32>,
+    corners: Handed<i32>,
 ) -> ToldPairs {
     let asked = match operation {
         Operation::Sum => archive::beside_sum_parts,
@@ -416,51 +369,34 @@ pub fn all_pairs(
     };
     unsafe {
         asked(
-            left.0.as_ptr(),
-            left.0.len(),
-            left.1.as_ptr(),
-            left.1.len(),
-            Bounds(left.2),
-            right.0.as_ptr(),
-            right.0.len(),
-            right.1.as_ptr(),
-            right.1.len(),
-            Bounds(right.2),
-            starts.as_mut_ptr(),
-            starts.len(),
-            corners.as_mut_ptr(),
-            corners.len(),
+            left.table.starts.at,
+            left.table.starts.length,
+            left.table.corners.at,
+            left.table.corners.length,
+            left.bounds,
+            right.table.starts.at,
+            right.table.starts.length,
+            right.table.corners.at,
+            right.table.corners.length,
+            right.bounds,
+            starts.at,
+            starts.length,
+            corners.at,
+            corners.length,
         )
     }
 }
 
-/// The same on operands whose lists are lent with unlent numbers about them.
-fn on_operands(
-    operation: Operation,
-    left: &Operand,
-    right: &Operand,
-    starts: &mut [u32],
-    corners: &mut [i32],
-) -> Kept<ToldPairs> {
-    let (left, right) = (LentOperand::new(left), LentOperand::new(right));
-    let told = all_pairs(operation, left.lists(), right.lists(), starts, corners);
-    Kept {
-        told,
-        kept: left.kept() && right.kept(),
-    }
-}
-
-fn sum_parts(l: &Operand, r: &Operand, starts: &mut [u32], corners: &mut [i32]) -> Kept<ToldPairs> {
-    on_operands(Operation::Sum, l, r, starts, corners)
+pub fn sum_parts(o: [HandedOperand; 2], starts: Handed<u32>, corners: Handed<i32>) -> ToldPairs {
+    all_pairs(Operation::Sum, o, starts, corners)
 }
 
 fn difference_parts(
-    l: &Operand,
-    r: &Operand,
-    starts: &mut [u32],
-    corners: &mut [i32],
-) -> Kept<ToldPairs> {
-    on_operands(Operation::Difference, l, r, starts, corners)
+    operands: [HandedOperand; 2],
+    starts: Handed<u32>,
+    corners: Handed<i32>,
+) -> ToldPairs {
+    all_pairs(Operation::Difference, operands, starts, corners)
 }
 
 fn listing(bytes: &[u8], out: &mut [u8; TEXT]) -> usize {

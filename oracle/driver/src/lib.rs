@@ -2,8 +2,9 @@
 //!
 //! - `entry`: what an entry point is, and how one is run: every input asked of
 //!   both sides, counted, and a difference made as small as possible
-//! - `told`: what the boundary's functions hand back; `written`: the memory about
-//!   lent starts and corners after a call
+//! - `lent`: memory lent to a call, with places on either side that are not; `told`:
+//!   what the boundary's functions hand back; `written`: lent starts and corners after
+//!   a call
 //! - `plane`: `cross_product`, `area_two`, `angle_cmp`
 //! - `mesh`: `mesh_fault`, `to_convex_polygons`
 //! - `split`: `to_convex_polygons_with_max_vertices`
@@ -22,10 +23,12 @@
 //! in the list of `boundary`.
 
 pub mod entry;
+pub mod lent;
 pub mod listing;
 pub mod mesh;
 mod mesh_sample;
 pub mod pairs;
+pub mod pairs_sample;
 pub mod plane;
 mod plane_sample;
 pub mod sample;

@@ -2,6 +2,7 @@
 //! to lent starts and corners. Refusals are the judge's, parts the Rust's.
 
 use crate::entry::{simpler_numbers, EntryPoint};
+use crate::lent::{Handed, Kept, Lent};
 use crate::told::Counts;
 use crate::written::Written;
 use cli::answers::{parts, Cut};
@@ -34,15 +35,19 @@ pub fn rows(mesh: &[Triangle]) -> Vec<Row> {
 pub(crate) const SHARE: u64 = 5;
 
 /// Each is given the Rattle function that it asks.
-pub fn mesh_fault_beside(rattle: fn(&[Row]) -> u32) -> MeshFault {
+pub fn mesh_fault_beside<F>(rattle: F) -> MeshFault<F>
+where
+    F: Fn(Handed<Row>) -> u32,
+{
     MeshFault { rattle }
 }
 
-pub fn to_convex_polygons_beside(rattle: WritesParts) -> ToConvexPolygons {
+pub fn to_convex_polygons_beside<F>(rattle: F) -> ToConvexPolygons<F>
+where
+    F: Fn(Handed<Row>, Handed<u32>, Handed<i32>) -> Counts,
+{
     ToConvexPolygons { rattle }
 }
-
-pub type WritesParts = fn(&[Row], &mut [u32], &mut [i32]) -> Counts;
 
 // ---- inputs
 
@@ -79,13 +84,13 @@ pub(crate) fn any(rng: &mut Rng) -> (Mesh, Vec<Fault>) {
 
 // ---- the fault alone
 
-pub struct MeshFault {
-    rattle: fn(&[Row]) -> u32,
+pub struct MeshFault<F> {
+    rattle: F,
 }
 
-impl EntryPoint for MeshFault {
+impl<F: Fn(Handed<Row>) -> u32> EntryPoint for MeshFault<F> {
     type Input = Mesh;
-    type Answer = u32;
+    type Answer = Kept<u32>;
 
     fn name(&self) -> &'static str {
         "mesh_fault"
@@ -103,16 +108,20 @@ impl EntryPoint for MeshFault {
         Box::new(fixed().chain(random))
     }
 
-    fn rattle(&self, mesh: &Mesh) -> u32 {
-        (self.rattle)(&rows(mesh))
+    fn rattle(&self, mesh: &Mesh) -> Kept<u32> {
+        let rows = rows(mesh);
+        let mut lent = Lent::list(&rows);
+        let told = (self.rattle)(lent.handed());
+        let kept = lent.holds(&rows);
+        Kept { told, kept }
     }
 
-    fn rust(&self, mesh: &Mesh) -> u32 {
-        judge::mesh::fault(mesh)
+    fn rust(&self, mesh: &Mesh) -> Kept<u32> {
+        Kept::all(judge::mesh::fault(mesh))
     }
 
-    fn fault(&self, answer: &u32) -> u32 {
-        *answer
+    fn fault(&self, answer: &Kept<u32>) -> u32 {
+        answer.told
     }
 
     fn simpler(&self, mesh: &Mesh) -> Vec<Mesh> {
@@ -143,13 +152,16 @@ pub fn size(mesh: &Mesh) -> Size {
     Size::of(&parts(mesh, Cut::None).unwrap_or_default())
 }
 
-pub struct ToConvexPolygons {
-    rattle: WritesParts,
+pub struct ToConvexPolygons<F> {
+    rattle: F,
 }
 
-impl EntryPoint for ToConvexPolygons {
+impl<F> EntryPoint for ToConvexPolygons<F>
+where
+    F: Fn(Handed<Row>, Handed<u32>, Handed<i32>) -> Counts,
+{
     type Input = Call;
-    type Answer = Written;
+    type Answer = Kept<Written>;
 
     fn name(&self) -> &'static str {
         "to_convex_polygons"
@@ -184,19 +196,22 @@ impl EntryPoint for ToConvexPolygons {
         Box::new(fixed.chain(random))
     }
 
-    fn rattle(&self, call: &Call) -> Written {
-        let mut written = Written::before(call.lent);
-        let (starts, corners) = written.lent();
-        written.counts = (self.rattle)(&rows(&call.mesh), starts, corners);
-        written
+    fn rattle(&self, call: &Call) -> Kept<Written> {
+        let rows = rows(&call.mesh);
+        let mut lent = Lent::list(&rows);
+        let mut told = Written::before(call.lent);
+        let (starts, corners) = (told.starts.handed(), told.corners.handed());
+        told.counts = (self.rattle)(lent.handed(), starts, corners);
+        let kept = lent.holds(&rows);
+        Kept { told, kept }
     }
 
-    fn rust(&self, call: &Call) -> Written {
-        written(call)
+    fn rust(&self, call: &Call) -> Kept<Written> {
+        Kept::all(written(call))
     }
 
-    fn fault(&self, answer: &Written) -> u32 {
-        answer.counts.fault
+    fn fault(&self, answer: &Kept<Written>) -> u32 {
+        answer.told.counts.fault
     }
 
     fn simpler(&self, call: &Call) -> Vec<Call> {
@@ -303,6 +318,7 @@ fn nearer(mesh: &Mesh) -> Vec<Mesh> {
 mod tests {
     use super::*;
     use crate::entry::{run, Report};
+    use crate::lent::overruns::{self, plant, seen};
     use judge::mesh::area_two;
 
     const COUNT: u64 = 10_000;
@@ -325,11 +341,18 @@ mod tests {
             starts: starts.len(),
             numbers: corners.len(),
         };
-        let mut written = written(&Call { mesh, lent });
-        let (left_starts, left_corners) = written.lent();
-        starts.copy_from_slice(left_starts);
-        corners.copy_from_slice(left_corners);
-        written.counts
+        written(&Call { mesh, lent }).copied(starts, corners)
+    }
+
+    type WritesParts = fn(&[Row], &mut [u32], &mut [i32]) -> Counts;
+
+    /// A function on slices as the entry points ask it. Safe: the memory is lent.
+    fn asked(f: WritesParts) -> impl Fn(Handed<Row>, Handed<u32>, Handed<i32>) -> Counts {
+        move |rows, starts, corners| unsafe { f(rows.slice(), starts.slice(), corners.slice()) }
+    }
+
+    fn asked_fault(f: fn(&[Row]) -> u32) -> impl Fn(Handed<Row>) -> u32 {
+        move |rows| unsafe { f(rows.slice()) }
     }
 
     fn right(rows: &[Row], starts: &mut [u32], corners: &mut [i32]) -> Counts {
@@ -338,8 +361,8 @@ mod tests {
 
     #[test]
     fn right_functions_pass() {
-        let faults = run(&mesh_fault_beside(right_fault), 1, COUNT);
-        let parts = run(&to_convex_polygons_beside(right), 1, COUNT);
+        let faults = run(&mesh_fault_beside(asked_fault(right_fault)), 1, COUNT);
+        let parts = run(&to_convex_polygons_beside(asked(right)), 1, COUNT);
         for report in [&faults, &parts] {
             assert!(report.passed(), "{report}");
             assert!(report.faults.values().all(|&times| times > 50), "{report}");
@@ -348,17 +371,49 @@ mod tests {
         assert_eq!(faults.compared, fixed + COUNT / SHARE);
     }
 
+    #[test]
+    fn overruns_are_caught() {
+        for at in overruns::ALL {
+            let entry = mesh_fault_beside(move |rows| {
+                let told = asked_fault(right_fault)(rows);
+                plant(rows, at);
+                told
+            });
+            seen(&entry, at);
+            let entry = to_convex_polygons_beside(move |rows, starts, corners| {
+                let told = asked(right)(rows, starts, corners);
+                plant(rows, at);
+                told
+            });
+            seen(&entry, at);
+        }
+        for at in overruns::ENDS {
+            let entry = to_convex_polygons_beside(move |rows, starts, corners| {
+                let told = asked(right)(rows, starts, corners);
+                plant(starts, at);
+                told
+            });
+            seen(&entry, at);
+            let entry = to_convex_polygons_beside(move |rows, starts, corners| {
+                let told = asked(right)(rows, starts, corners);
+                plant(corners, at);
+                told
+            });
+            seen(&entry, at);
+        }
+    }
+
     fn caught(report: &Report) -> &str {
         assert!(report.differ > 0 && !report.passed());
         report.smallest.as_ref().expect("a difference is shown")
     }
 
     fn caught_faults(wrong: fn(&[Row]) -> u32) -> String {
-        caught(&run(&mesh_fault_beside(wrong), 1, COUNT)).into()
+        caught(&run(&mesh_fault_beside(asked_fault(wrong)), 1, COUNT)).into()
     }
 
     fn caught_parts(wrong: WritesParts) -> String {
-        caught(&run(&to_convex_polygons_beside(wrong), 1, COUNT)).into()
+        caught(&run(&to_convex_polygons_beside(asked(wrong)), 1, COUNT)).into()
     }
 
     #[test]

@@ -29,8 +29,8 @@ const NUMBERS: usize = 160;
 pub(crate) fn mesh_record(mesh: &Mesh, more: [u32; 2], lent: Room) -> Vec<u8> {
     let Room { starts, numbers: n } = lent;
     let head = [mesh.len(), starts, n].map(|n| n as u32);
-    let mut before = Written::before(lent);
-    let (starts, corners) = before.lent();
+    let before = Written::before(lent);
+    let (starts, corners) = (before.starts.slice(), before.corners.slice());
     record(&[
         words(&head),
         words(&more),
@@ -169,7 +169,7 @@ mod tests {
         // corners dropped where the turn is 0
         assert!(some(&|call, [parts, corners]| corners < all(call) + 2 * parts) > 5);
         // a corner at the end of the range
-        let end = |call: &Call| written(call).lent().1.contains(&((1 << 30) - 1));
+        let end = |call: &Call| written(call).corners.slice().contains(&((1 << 30) - 1));
         assert!(some(&|call, _| end(call)) > 0);
         // triangles that lie over each other
         let over = |call: &Call| {

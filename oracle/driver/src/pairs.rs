@@ -3,43 +3,43 @@
 //! Refusals are the judge's, contours the Rust's.
 
 use crate::entry::{simpler_numbers, EntryPoint};
+use crate::lent::{Handed, Kept};
 use crate::mesh::SHARE;
+use crate::table::{HandedTable, LentTable};
 use crate::table_simpler::simpler_table;
 use crate::told::Counts;
-use crate::walk::Kept;
 use crate::written::Written;
 use cli::answers::pair_contours;
 use inputs::operands::{self, Pair};
-use inputs::pair_damage::{damaged, ORDER};
+use inputs::pair_damage::{damaged, damaged_on, ORDER};
 use inputs::rng::Rng;
 use inputs::walk_calls::limit_windings;
 use inputs::{contours, rooms, tables, text};
-use judge::limits::CONTOUR;
+use judge::limits::{CONTOUR, PARTS};
 use judge::pairs::{result_bounds, Operand, Operation};
 use judge::room::{Room, Size};
+use judge::shown::Side;
 use judge::table::Table;
-use judge::Contour;
+use judge::{Contour, Fault};
 
-/// Each is given the Rattle function that it asks.
-pub fn sum_parts_beside(rattle: WritesPairs) -> AllPairs {
+/// It is given the Rattle function that it asks.
+pub fn all_pairs_beside<F>(operation: Operation, rattle: F) -> AllPairs<F>
+where
+    F: Fn([HandedOperand; 2], Handed<u32>, Handed<i32>) -> ToldPairs,
+{
     AllPairs {
-        name: "sum_parts",
-        operation: Operation::Sum,
+        operation,
         rattle,
         small: 4,
     }
 }
 
-pub fn difference_parts_beside(rattle: WritesPairs) -> AllPairs {
-    AllPairs {
-        name: "difference_parts",
-        operation: Operation::Difference,
-        rattle,
-        small: 4,
-    }
+/// An operand as it is handed over.
+#[derive(Debug, Clone, Copy)]
+pub struct HandedOperand {
+    pub table: HandedTable,
+    pub bounds: Bounds,
 }
-
-pub type WritesPairs = fn(&Operand, &Operand, &mut [u32], &mut [i32]) -> Kept<ToldPairs>;
 
 /// Least x, greatest x, least y, greatest y, as they pass to C.
 #[repr(C)]
@@ -63,11 +63,9 @@ pub struct Call {
     pub lent: Room,
 }
 
-/// Whether the operands and the numbers about them are as they were; the result's
-/// bounds; the counts and all of the memory about the lent buffers.
+/// The result's bounds; the counts and all of the memory about the lent buffers.
 #[derive(Debug, PartialEq)]
 pub struct PairsWritten {
-    pub kept: bool,
     pub bounds: Bounds,
     pub written: Written,
 }
@@ -85,7 +83,6 @@ pub fn written(call: &Call) -> PairsWritten {
         _ => [0; 4],
     };
     PairsWritten {
-        kept: true,
         bounds: Bounds(bounds.map(|b| i32::try_from(b).expect("a bound in range"))),
         written,
     }
@@ -199,6 +196,14 @@ fn limits(rng: &mut Rng, operation: Operation) -> Vec<Pair> {
         out.push(pair(operation, &[a.clone()], &[b.clone()]));
         out.push(pair(operation, &[a, vec![(5, 5)]], &[vec![], b]));
     }
+    // as many parts and corners as there can be, by 16 parts
+    let square = |i: i32| {
+        let corners = [(0, 0), (3, 0), (3, 3), (0, 3)];
+        corners.map(|(x, y)| (x + i % 90, y + i / 90)).to_vec()
+    };
+    let squares = |parts: usize| -> Vec<Contour> { (0..parts as i32).map(square).collect() };
+    out.push(pair(operation, &squares(PARTS), &squares(16)));
+    out.push(pair(operation, &squares(16), &squares(PARTS)));
     for parts in [127, 128] {
         for other in [1, 127, 128] {
             out.push(pair(operation, &points(parts), &points(other)));
@@ -208,6 +213,116 @@ fn limits(rng: &mut Rng, operation: Operation) -> Vec<Pair> {
         ones.push(vec![(1, 1), (4, 2)]);
         out.push(pair(operation, &ones, &points(3)));
         out.push(pair(operation, &points(3), &ones));
+    }
+    out
+}
+
+/// Every two of the listed contours, from every corner and either way round, alone and
+/// among other parts, in the nine rooms by turns.
+fn listed(operation: Operation) -> impl Iterator<Item = Call> {
+    let turns = |contour: &Contour| -> Vec<Contour> {
+        let back: Contour = contour.iter().rev().copied().collect();
+        match contour.is_empty() {
+            true => vec![contour.clone()],
+            false => contours::turned(contour)
+                .chain(contours::turned(&back))
+                .collect(),
+        }
+    };
+    let named = || contours::LISTED.iter().map(|(_, corners)| corners.to_vec());
+    let lefts = named().flat_map(move |a| turns(&a).into_iter().map(move |t| (t, false)));
+    let rights = named().flat_map(move |b| turns(&b).into_iter().map(move |t| (t, true)));
+    lefts
+        .chain(rights)
+        .enumerate()
+        .flat_map(move |(i, (turned, right))| {
+            named().enumerate().flat_map(move |(j, other)| {
+                let (a, b) = if right {
+                    (other, turned.clone())
+                } else {
+                    (turned.clone(), other)
+                };
+                let alone = pair(operation, &[a.clone()], &[b.clone()]);
+                let among = pair(
+                    operation,
+                    &[vec![(1, 1)], a],
+                    &[b, vec![(0, 0), (1, 0), (0, 1)]],
+                );
+                [in_room(alone, i + j), in_room(among, i + 2 * j + 4)]
+            })
+        })
+}
+
+/// All faults in the order in which they are tried, the last two of the room.
+const FAULTS: [Fault; 8] = [7, 2, 9, 8, 10, 20, 22, 21];
+
+/// A fault, and the side that it is on; of room, no matter which.
+type Sided = (Fault, Side);
+
+/// Each fault by name, on either side, with each other by name, on either side, or with
+/// itself, which is the fault alone.
+fn every_two() -> Vec<[Sided; 2]> {
+    let room = |fault: Fault| fault == 22 || fault == 21;
+    let sided = || {
+        let sides = [Side::Left, Side::Right];
+        let all = FAULTS
+            .into_iter()
+            .flat_map(move |f| sides.map(|side| (f, side)));
+        all.filter(move |&(f, side)| !room(f) || side == Side::Left)
+    };
+    // an operand without parts has no part that winds too far
+    let none = |[a, b]: &[Sided; 2]| a.1 == b.1 && matches!((a.0, b.0), (8, 20) | (20, 8));
+    let two = sided().flat_map(|a| sided().map(move |b| [a, b]));
+    two.filter(|two| !none(two)).collect()
+}
+
+/// A good pair with two faults. Of too little room there is none at all, or one place
+/// less than is needed.
+fn with_faults(rng: &mut Rng, operation: Operation, [a, b]: [Sided; 2]) -> Call {
+    let good = loop {
+        let mut good = operands::good(rng, 3, 6);
+        good.operation = operation;
+        // so that room for corners can be wanting
+        if size(&good).corners > 0 {
+            break good;
+        }
+    };
+    let of_pair: Vec<Sided> = [a, b]
+        .into_iter()
+        .filter(|(f, _)| ORDER.contains(f))
+        .collect();
+    let mut lent = Room {
+        starts: size(&good).starts(),
+        numbers: size(&good).numbers(),
+    };
+    let less = rng.once_in(2);
+    let short = |places: usize| {
+        if less && of_pair.is_empty() {
+            places - 1
+        } else {
+            0
+        }
+    };
+    for (fault, _) in [a, b] {
+        match fault {
+            22 => lent.starts = short(size(&good).starts()),
+            21 => lent.numbers = short(size(&good).numbers()),
+            _ => {}
+        }
+    }
+    Call {
+        pair: damaged_on(rng, &good, &of_pair),
+        lent,
+    }
+}
+
+/// Every two faults by name, so many times.
+fn faults_by_name(rng: &mut Rng, operation: Operation, times: usize) -> Vec<Call> {
+    let mut out = Vec::new();
+    for _ in 0..times {
+        for two in every_two() {
+            out.push(with_faults(rng, operation, two));
+        }
     }
     out
 }
@@ -233,57 +348,77 @@ fn any_call(rng: &mut Rng, operation: Operation) -> Call {
 
 // ---- the entry point
 
-pub struct AllPairs {
-    name: &'static str,
+pub struct AllPairs<F> {
     operation: Operation,
-    rattle: WritesPairs,
+    rattle: F,
     /// How many corners the small contours have at most.
     small: usize,
 }
 
-impl EntryPoint for AllPairs {
+impl<F> EntryPoint for AllPairs<F>
+where
+    F: Fn([HandedOperand; 2], Handed<u32>, Handed<i32>) -> ToldPairs,
+{
     type Input = Call;
-    type Answer = PairsWritten;
+    type Answer = Kept<PairsWritten>;
 
     fn name(&self) -> &'static str {
-        self.name
+        match self.operation {
+            Operation::Sum => "sum_parts",
+            Operation::Difference => "difference_parts",
+        }
     }
 
     fn faults(&self) -> &'static [u32] {
-        &[7, 2, 9, 8, 10, 20, 22, 21]
+        &FAULTS
     }
 
     fn inputs<'a>(&self, rng: &'a mut Rng, count: u64) -> Box<dyn Iterator<Item = Call> + 'a> {
         let operation = self.operation;
         let limits = limits(rng, operation).into_iter().flat_map(in_every_room);
+        let faults = faults_by_name(rng, operation, 20);
         let random = (0..count / SHARE).map(move |_| any_call(rng, operation));
         let fixed = smallest(operation).chain(small(operation, self.small));
+        let fixed = fixed.chain(listed(operation)).chain(faults);
         Box::new(fixed.chain(limits).chain(random))
     }
 
-    fn rattle(&self, call: &Call) -> PairsWritten {
-        let mut written = Written::before(call.lent);
-        let (starts, corners) = written.lent();
+    fn rattle(&self, call: &Call) -> Kept<PairsWritten> {
         let Pair { left, right, .. } = &call.pair;
-        let Kept { told, kept } = (self.rattle)(left, right, starts, corners);
+        let (mut l, mut r) = (LentTable::new(&left.table), LentTable::new(&right.table));
+        let operands = [
+            HandedOperand {
+                table: l.handed(),
+                bounds: Bounds(left.bounds),
+            },
+            HandedOperand {
+                table: r.handed(),
+                bounds: Bounds(right.bounds),
+            },
+        ];
+        let mut written = Written::before(call.lent);
+        let (starts, corners) = (written.starts.handed(), written.corners.handed());
+        let told = (self.rattle)(operands, starts, corners);
         written.counts = Counts {
             fault: told.fault,
             parts: told.contours,
             corners: told.corners,
         };
-        PairsWritten {
-            kept,
-            bounds: told.bounds,
-            written,
+        Kept {
+            told: PairsWritten {
+                bounds: told.bounds,
+                written,
+            },
+            kept: l.holds(&left.table) && r.holds(&right.table),
         }
     }
 
-    fn rust(&self, call: &Call) -> PairsWritten {
-        written(call)
+    fn rust(&self, call: &Call) -> Kept<PairsWritten> {
+        Kept::all(written(call))
     }
 
-    fn fault(&self, answer: &PairsWritten) -> u32 {
-        answer.written.counts.fault
+    fn fault(&self, answer: &Kept<PairsWritten>) -> u32 {
+        answer.told.written.counts.fault
     }
 
     fn simpler(&self, call: &Call) -> Vec<Call> {
@@ -346,15 +481,34 @@ fn simpler_operand(operand: &Operand) -> Vec<Operand> {
 mod tests {
     use super::*;
     use crate::entry::{run, Report};
+    use crate::lent::overruns::{self, plant, seen};
     use std::collections::BTreeSet;
 
     const COUNT: u64 = 10_000;
 
+    type WritesPairs = fn(&Operand, &Operand, &mut [u32], &mut [i32]) -> ToldPairs;
+
+    /// A function on operands and slices as the entry point asks it. Safe: the memory
+    /// is lent.
+    fn asked(f: WritesPairs) -> impl Fn([HandedOperand; 2], Handed<u32>, Handed<i32>) -> ToldPairs {
+        move |operands, starts, corners| unsafe {
+            let [left, right] = operands.map(|o| Operand {
+                table: Table {
+                    starts: o.table.starts.slice().to_vec(),
+                    corners: o.table.corners.slice().to_vec(),
+                },
+                bounds: o.bounds.0,
+            });
+            f(&left, &right, starts.slice(), corners.slice())
+        }
+    }
+
     /// With contours of up to two corners, to be quick.
-    fn beside(rattle: WritesPairs) -> AllPairs {
+    fn beside(rattle: WritesPairs) -> impl EntryPoint {
         AllPairs {
+            operation: Operation::Difference,
+            rattle: asked(rattle),
             small: 2,
-            ..difference_parts_beside(rattle)
         }
     }
 
@@ -364,7 +518,7 @@ mod tests {
         right: &Operand,
         starts: &mut [u32],
         corners: &mut [i32],
-    ) -> Kept<ToldPairs> {
+    ) -> ToldPairs {
         answered(Operation::Difference, left, right, starts, corners)
     }
 
@@ -374,8 +528,8 @@ mod tests {
         right: &Operand,
         starts: &mut [u32],
         corners: &mut [i32],
-    ) -> Kept<ToldPairs> {
-        let mut answer = written(&Call {
+    ) -> ToldPairs {
+        let answer = written(&Call {
             pair: Pair {
                 operation,
                 left: left.clone(),
@@ -386,21 +540,38 @@ mod tests {
                 numbers: corners.len(),
             },
         });
-        let (left_starts, left_corners) = answer.written.lent();
-        starts.copy_from_slice(left_starts);
-        corners.copy_from_slice(left_corners);
-        let Counts {
-            fault,
-            parts,
-            corners,
-        } = answer.written.counts;
-        let told = ToldPairs {
-            fault,
-            contours: parts,
-            corners,
+        let counts = answer.written.copied(starts, corners);
+        ToldPairs {
+            fault: counts.fault,
+            contours: counts.parts,
+            corners: counts.corners,
             bounds: answer.bounds,
-        };
-        Kept { told, kept: true }
+        }
+    }
+
+    /// Right but for a place that is changed after the call.
+    fn planted(
+        change: impl Fn([HandedOperand; 2], Handed<u32>, Handed<i32>),
+    ) -> AllPairs<impl Fn([HandedOperand; 2], Handed<u32>, Handed<i32>) -> ToldPairs> {
+        all_pairs_beside(Operation::Difference, move |operands, starts, corners| {
+            let told = asked(right)(operands, starts, corners);
+            change(operands, starts, corners);
+            told
+        })
+    }
+
+    #[test]
+    fn overruns_are_caught() {
+        for at in overruns::ALL {
+            for side in [0, 1] {
+                seen(&planted(|o, _, _| plant(o[side].table.starts, at)), at);
+                seen(&planted(|o, _, _| plant(o[side].table.corners, at)), at);
+            }
+        }
+        for at in overruns::ENDS {
+            seen(&planted(|_, starts, _| plant(starts, at)), at);
+            seen(&planted(|_, _, corners| plant(corners, at)), at);
+        }
     }
 
     #[test]
@@ -424,10 +595,45 @@ mod tests {
     #[test]
     fn a_bound_that_is_not_told_is_caught() {
         caught(|l, r, starts, corners| {
-            let mut answer = right(l, r, starts, corners);
-            answer.told.bounds.0[3] = 0;
-            answer
+            let mut told = right(l, r, starts, corners);
+            told.bounds.0[3] = 0;
+            told
         });
+    }
+
+    /// Each of the eight faults alone, and with each other, on either side: the first of
+    /// the two is told.
+    #[test]
+    fn every_two_faults_are_met_by_name() {
+        let mut rng = Rng::new(1);
+        for two in every_two() {
+            for _ in 0..10 {
+                let call = with_faults(&mut rng, Operation::Difference, two);
+                let first = FAULTS.into_iter().find(|&f| two.iter().any(|t| t.0 == f));
+                let told = written(&call).written.counts.fault;
+                assert_eq!(Some(told), first, "{two:?}: {call:?}");
+            }
+        }
+        // 14 alone, each with each, but for 8 and 20 on one side
+        assert_eq!(every_two().len(), 14 * 14 - 4);
+    }
+
+    /// The listed contours have windings of every kind: none, once and more than once
+    /// round, both ways, and crossings.
+    #[test]
+    fn the_listed_contours_are_what_their_names_say() {
+        let doubled = |name: &str| {
+            let corners = contours::LISTED.iter().find(|(n, _)| *n == name);
+            judge::listing::area_two(&corners.expect("listed").1.to_vec())
+        };
+        assert_eq!(doubled("bow tie, no winding"), 0);
+        assert!(doubled("bow tie, one half larger") > 0);
+        assert!(doubled("bow tie, one half larger, clockwise") < 0);
+        assert!(doubled("five-pointed star, twice round") > 0);
+        assert!(doubled("five-pointed star, clockwise") < 0);
+        assert_eq!(doubled("square, twice round"), 16);
+        assert_eq!(doubled("segment in line, back by another way"), 0);
+        assert!(doubled("triangle, clockwise") < 0);
     }
 
     /// The bounds of the results at the limits, the longest contours, and operands
@@ -445,6 +651,7 @@ mod tests {
         assert!(past.contains(&(edge + 1)) && past.contains(&(-edge - 1)));
         assert!(!met.contains(&(edge + 1)) && !met.contains(&(-edge - 1)));
         assert!(accepted.clone().any(|pair| size(pair).corners > 2_000));
+        assert!(accepted.clone().any(|pair| size(pair).parts == 16 * PARTS));
         for places in [255, 256, 257] {
             let about = |o: &Operand| o.table.starts.len() + o.table.corner_count() == places;
             assert!(accepted.clone().any(|pair| about(&pair.left)));

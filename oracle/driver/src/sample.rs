@@ -2,15 +2,16 @@
 //! the lines that a program which asks them has to print.
 
 use crate::written::Written;
-use crate::{mesh_sample, plane_sample, split_sample, table_sample};
+use crate::{mesh_sample, pairs_sample, plane_sample, split_sample, table_sample};
 use std::fmt::Display;
 
 /// The stored samples by the names of their files.
-pub const SAMPLES: [(&str, fn() -> Sample); 4] = [
+pub const SAMPLES: [(&str, fn() -> Sample); 5] = [
     ("plane", plane_sample::sample),
     ("tables", table_sample::sample),
     ("meshes", mesh_sample::sample),
     ("splits", split_sample::sample),
+    ("pairs", pairs_sample::sample),
 ];
 
 /// A case: its record, and its line after the case's number.
@@ -59,9 +60,9 @@ pub fn listed(name: &str, list: &[impl Display]) -> String {
 }
 
 /// What a call that writes parts told and left in the lent places.
-pub fn left(mut written: Written) -> String {
+pub fn left(written: Written) -> String {
     let counts = written.counts;
-    let (starts, corners) = written.lent();
+    let (starts, corners) = (written.starts.slice(), written.corners.slice());
     format!(
         "fault {}, parts {}, corners {}; {}; {}",
         counts.fault,

@@ -3,6 +3,7 @@
 //! the Rust's.
 
 use crate::entry::EntryPoint;
+use crate::lent::{Handed, Kept, Lent};
 use crate::mesh::{any, fixed, rows, simpler, Row, SHARE};
 use crate::told::Counts;
 use crate::written::Written;
@@ -16,14 +17,15 @@ use judge::room::{Room, Size};
 use judge::{Contour, Fault};
 
 /// It is given the Rattle function that it asks.
-pub fn with_max_vertices_beside(rattle: WritesSplit) -> WithMaxVertices {
+pub fn with_max_vertices_beside<F>(rattle: F) -> WithMaxVertices<F>
+where
+    F: Fn(Handed<Row>, u32, u32, Handed<u32>, Handed<i32>) -> Counts,
+{
     WithMaxVertices {
         rattle,
         small: || Box::new(fixed()),
     }
 }
-
-pub type WritesSplit = fn(&[Row], u32, u32, &mut [u32], &mut [i32]) -> Counts;
 
 /// A mesh, the limit and the split by its number.
 #[derive(Debug, Clone)]
@@ -160,15 +162,18 @@ fn any_call(rng: &mut Rng) -> Call {
 
 // ---- the entry point
 
-pub struct WithMaxVertices {
-    rattle: WritesSplit,
+pub struct WithMaxVertices<F> {
+    rattle: F,
     /// The small meshes that it is asked.
     small: fn() -> Box<dyn Iterator<Item = Mesh>>,
 }
 
-impl EntryPoint for WithMaxVertices {
+impl<F> EntryPoint for WithMaxVertices<F>
+where
+    F: Fn(Handed<Row>, u32, u32, Handed<u32>, Handed<i32>) -> Counts,
+{
     type Input = Call;
-    type Answer = Written;
+    type Answer = Kept<Written>;
 
     fn name(&self) -> &'static str {
         "to_convex_polygons_with_max_vertices"
@@ -183,20 +188,23 @@ impl EntryPoint for WithMaxVertices {
         Box::new(fixed_calls((self.small)()).chain(random))
     }
 
-    fn rattle(&self, call: &Call) -> Written {
-        let mut written = Written::before(call.lent);
-        let (starts, corners) = written.lent();
+    fn rattle(&self, call: &Call) -> Kept<Written> {
         let Asked { mesh, limit, split } = &call.asked;
-        written.counts = (self.rattle)(&rows(mesh), *limit, *split, starts, corners);
-        written
+        let rows = rows(mesh);
+        let mut lent = Lent::list(&rows);
+        let mut told = Written::before(call.lent);
+        let (starts, corners) = (told.starts.handed(), told.corners.handed());
+        told.counts = (self.rattle)(lent.handed(), *limit, *split, starts, corners);
+        let kept = lent.holds(&rows);
+        Kept { told, kept }
     }
 
-    fn rust(&self, call: &Call) -> Written {
-        written(call)
+    fn rust(&self, call: &Call) -> Kept<Written> {
+        Kept::all(written(call))
     }
 
-    fn fault(&self, answer: &Written) -> u32 {
-        answer.counts.fault
+    fn fault(&self, answer: &Kept<Written>) -> u32 {
+        answer.told.counts.fault
     }
 
     fn simpler(&self, call: &Call) -> Vec<Call> {
@@ -233,15 +241,25 @@ impl EntryPoint for WithMaxVertices {
 mod tests {
     use super::*;
     use crate::entry::{run, Report};
+    use crate::lent::overruns::{self, plant, seen};
     use judge::mesh::Triangle;
     use judge::Point;
 
     const COUNT: u64 = 10_000;
 
+    type WritesSplit = fn(&[Row], u32, u32, &mut [u32], &mut [i32]) -> Counts;
+
+    /// A function on slices as the entry point asks it. Safe: the memory is lent.
+    fn asked(f: WritesSplit) -> impl Fn(Handed<Row>, u32, u32, Handed<u32>, Handed<i32>) -> Counts {
+        move |rows, limit, split, starts, corners| unsafe {
+            f(rows.slice(), limit, split, starts.slice(), corners.slice())
+        }
+    }
+
     /// With one small mesh in so many, to be quick.
-    fn beside(rattle: WritesSplit) -> WithMaxVertices {
+    fn beside(rattle: WritesSplit) -> impl EntryPoint {
         WithMaxVertices {
-            rattle,
+            rattle: asked(rattle),
             small: || Box::new(fixed().step_by(37)),
         }
     }
@@ -269,11 +287,7 @@ mod tests {
         };
         let mesh = mesh_of(rows);
         let asked = Asked { mesh, limit, split };
-        let mut written = written(&Call { asked, lent });
-        let (left_starts, left_corners) = written.lent();
-        starts.copy_from_slice(left_starts);
-        corners.copy_from_slice(left_corners);
-        written.counts
+        written(&Call { asked, lent }).copied(starts, corners)
     }
 
     #[test]
@@ -281,6 +295,32 @@ mod tests {
         let report = run(&beside(right), 1, COUNT);
         assert!(report.passed(), "{report}");
         assert!(report.faults.values().all(|&times| times > 20), "{report}");
+    }
+
+    #[test]
+    fn overruns_are_caught() {
+        for at in overruns::ALL {
+            let entry = with_max_vertices_beside(move |rows, limit, split, starts, corners| {
+                let told = asked(right)(rows, limit, split, starts, corners);
+                plant(rows, at);
+                told
+            });
+            seen(&entry, at);
+        }
+        for at in overruns::ENDS {
+            let entry = with_max_vertices_beside(move |rows, limit, split, starts, corners| {
+                let told = asked(right)(rows, limit, split, starts, corners);
+                plant(starts, at);
+                told
+            });
+            seen(&entry, at);
+            let entry = with_max_vertices_beside(move |rows, limit, split, starts, corners| {
+                let told = asked(right)(rows, limit, split, starts, corners);
+                plant(corners, at);
+                told
+            });
+            seen(&entry, at);
+        }
     }
 
     /// Of each accepted split of a contour: its corners, the limit and split, and the

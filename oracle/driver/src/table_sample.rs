@@ -2,7 +2,7 @@
 //! what the judge answers. The same every time.
 
 use crate::sample::{listed, numbers, record, words, Case, Sample};
-use crate::table::{read_into, show_part, write_into};
+use crate::table::{read_into, show_into, write_into};
 use inputs::rng::Rng;
 use inputs::table_calls::{any_read, any_show, any_write, Read, Show, Write};
 use judge::shown::Side;
@@ -48,44 +48,43 @@ fn head(kind: u32, lists: [usize; 4], more: [u32; 2]) -> Vec<u8> {
 
 /// The lent starts and numbers, and the bytes to read.
 fn read_case(input: Read) -> Drawn {
-    let starts = vec![HELD_START; input.lent.starts];
-    let corners = vec![HELD_NUMBER; input.lent.numbers];
+    let mut starts = vec![HELD_START; input.lent.starts];
+    let mut corners = vec![HELD_NUMBER; input.lent.numbers];
     let record = record(&[
         head(0, [starts.len(), corners.len(), 0, 0], [0, 0]),
         words(&starts),
         numbers(&corners),
         input.bytes.clone(),
     ]);
-    let answer = read_into(&input, starts, corners);
-    let told = answer.told;
+    let told = read_into(&input, &mut starts, &mut corners);
     let line = format!(
         ", read_table: fault {}, parts {}, corners {}; {}; {}",
         told.fault,
         told.parts,
         told.corners,
-        listed("starts", &answer.starts),
-        listed("corners", &answer.corners)
+        listed("starts", &starts),
+        listed("corners", &corners)
     );
     Drawn {
         case: Case { record, line },
         fault: told.fault,
-        fits: fits(answer.starts.len(), answer.corners.len(), input.bytes.len()),
+        fits: fits(starts.len(), corners.len(), input.bytes.len()),
     }
 }
 
 /// The table's starts and numbers, and the lent bytes.
 fn write_case(input: Write) -> Drawn {
-    let bytes = vec![HELD_BYTE; input.lent];
-    let answer = write_into(&input, bytes.clone());
+    let held = vec![HELD_BYTE; input.lent];
+    let mut bytes = held.clone();
+    let told = write_into(&input, &mut bytes);
     let (starts, corners) = (input.table.starts, input.table.corners);
     let record = record(&[
         head(1, [starts.len(), corners.len(), 0, 0], [0, 0]),
         words(&starts),
         numbers(&corners),
-        bytes,
+        held,
     ]);
-    let shown: String = answer.bytes.iter().map(|b| format!("{b:02x}")).collect();
-    let told = answer.told;
+    let shown: String = bytes.iter().map(|b| format!("{b:02x}")).collect();
     let line = format!(
         ", write_table: fault {}, length {}; bytes {shown}",
         told.fault, told.length
@@ -93,14 +92,16 @@ fn write_case(input: Write) -> Drawn {
     Drawn {
         case: Case { record, line },
         fault: told.fault,
-        fits: fits(starts.len(), corners.len(), answer.bytes.len()),
+        fits: fits(starts.len(), corners.len(), bytes.len()),
     }
 }
 
 /// Both tables, left and right; the side asked for and the part's number.
 fn show_case(mut input: Show) -> Drawn {
     input.lent = NUMBERS;
-    let answer = show_part(&input);
+    let mut shown = vec![HELD_NUMBER; NUMBERS];
+    let told = show_into(&input, &mut shown);
+    shown.truncate(told.length);
     let Show {
         left,
         right,
@@ -121,8 +122,7 @@ fn show_case(mut input: Show) -> Drawn {
         words(&right.starts),
         numbers(&right.corners),
     ]);
-    let told = answer.told;
-    let shown = listed("corners", &answer.numbers[..told.length]);
+    let shown = listed("corners", &shown);
     Drawn {
         case: Case {
             record,

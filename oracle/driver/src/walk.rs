@@ -1,9 +1,10 @@
 //! The calls on walks: one walk begun, its point, its edge, its advance, a walk
 //! stepped; a pair begun, a pair stepped, and a pair stepped to its end. Beside the
-//! Rust's `Walk` and `ConvexSum`; refusals beside the judge. The numbers about each
-//! lent contour are watched: they and the contour must stay as they were.
+//! Rust's `Walk` and `ConvexSum`; refusals beside the judge. The lent contours, and
+//! what stands about them, must stay as they were.
 
 use crate::entry::{simpler_numbers, EntryPoint};
+use crate::lent::{Handed, Kept, Lent};
 use i_triangle::int::expose::{self, Operation};
 use i_triangle::int::reach;
 use inputs::rng::Rng;
@@ -80,45 +81,20 @@ pub struct ToldContour {
     pub left: [u16; 2],
 }
 
-/// What a call told, and whether the lent contours and the numbers about them are
-/// as they were.
-#[derive(Debug, Clone, PartialEq, Eq)]
-pub struct Kept<T> {
-    pub told: T,
-    pub kept: bool,
+/// A call on one lent contour.
+fn on_contour<T>(flat: &[i32], call: impl Fn(Handed<i32>) -> T) -> Kept<T> {
+    let mut lent = Lent::list(flat);
+    let told = call(lent.handed());
+    let kept = lent.holds(flat);
+    Kept { told, kept }
 }
 
-/// A list lent with numbers before and after it.
-pub struct Lent<T> {
-    before: Vec<T>,
-    now: Vec<T>,
-}
-
-const ABOUT: usize = 3;
-
-impl<T: Copy + PartialEq> Lent<T> {
-    pub fn new(list: &[T], number: T) -> Self {
-        let about = [number; ABOUT];
-        let before = [&about[..], list, &about[..]].concat();
-        Lent {
-            now: before.clone(),
-            before,
-        }
-    }
-
-    pub fn list(&self) -> &[T] {
-        &self.now[ABOUT..self.now.len() - ABOUT]
-    }
-
-    pub fn kept(&self) -> bool {
-        self.before == self.now
-    }
-}
-
-impl Lent<i32> {
-    pub fn numbers(list: &[i32]) -> Self {
-        Self::new(list, -0x5a5a_0001)
-    }
+/// A call on two.
+fn on_two<T>(two: &Two, call: impl Fn(Handed<i32>, Handed<i32>) -> T) -> Kept<T> {
+    let (mut left, mut right) = (Lent::list(&two.left), Lent::list(&two.right));
+    let told = call(left.handed(), right.handed());
+    let kept = left.holds(&two.left) && right.holds(&two.right);
+    Kept { told, kept }
 }
 
 // ---- what the Rust says, refusals by the judge
@@ -271,19 +247,15 @@ fn whole(input: &Two, operation: Operation) -> ToldContour {
 }
 
 /// A pair begun and stepped by these functions until it tells the end.
-pub fn stepped_to_end(
+fn stepped_to_end(
     input: &Two,
-    begin: fn(&Two) -> Kept<ToldPair>,
-    next: fn(&TwoAt) -> Kept<ToldNext>,
+    begin: impl Fn(Handed<i32>, Handed<i32>) -> ToldPair,
+    next: impl Fn(Handed<i32>, Handed<i32>, Places) -> ToldNext,
 ) -> Kept<ToldContour> {
-    let Kept { told, mut kept } = begin(input);
+    let Kept { told, mut kept } = on_two(input, begin);
     let (mut contour, mut at) = (Vec::new(), told.places);
     while told.fault == 0 {
-        let step = next(&TwoAt {
-            two: input.clone(),
-            a: at.a,
-            b: at.b,
-        });
+        let step = on_two(input, |left, right| next(left, right, at));
         kept &= step.kept && step.told.fault == 0;
         at = step.told.places;
         if step.told.corners == 0 {
@@ -318,12 +290,15 @@ const BEGUN: &[Fault] = &[7, 2, 8, 20];
 const STEPPED: &[Fault] = &[7, 23, 2];
 
 /// Each is given the Rattle function that it asks.
-pub fn begin_beside(rattle: fn(&Begin) -> Kept<ToldPlace>) -> OfWalks<Begin, ToldPlace> {
+pub fn begin_beside<F>(rattle: F) -> OfWalks<Begin, ToldPlace>
+where
+    F: Fn(Handed<i32>, bool) -> ToldPlace + 'static,
+{
     OfWalks {
         name: "walk begin",
         faults: BEGUN,
         inputs: begins,
-        rattle: Box::new(rattle),
+        rattle: Box::new(move |q: &Begin| on_contour(&q.flat, |lent| rattle(lent, q.reflected))),
         rust: begin,
         fault: |told| told.fault,
         simpler: simpler_begin,
@@ -332,70 +307,95 @@ pub fn begin_beside(rattle: fn(&Begin) -> Kept<ToldPlace>) -> OfWalks<Begin, Tol
 
 fn step_beside<T>(
     name: &'static str,
-    rattle: fn(&Step) -> Kept<T>,
+    rattle: impl Fn(Handed<i32>, Place) -> T + 'static,
     rust: fn(&Step) -> T,
     fault: fn(&T) -> Fault,
-) -> OfWalks<Step, T>
-where
-    T: 'static,
-{
+) -> OfWalks<Step, T> {
     OfWalks {
         name,
         faults: STEPPED,
         inputs: steps,
-        rattle: Box::new(rattle),
+        rattle: Box::new(move |q: &Step| on_contour(&q.flat, |lent| rattle(lent, q.at))),
         rust,
         fault,
         simpler: simpler_step,
     }
 }
 
-pub fn point_beside(rattle: fn(&Step) -> Kept<ToldPoint>) -> OfWalks<Step, ToldPoint> {
+pub fn point_beside<F>(rattle: F) -> OfWalks<Step, ToldPoint>
+where
+    F: Fn(Handed<i32>, Place) -> ToldPoint + 'static,
+{
     step_beside("walk point", rattle, point, |told| told.fault)
 }
 
-pub fn edge_beside(rattle: fn(&Step) -> Kept<ToldEdge>) -> OfWalks<Step, ToldEdge> {
+pub fn edge_beside<F>(rattle: F) -> OfWalks<Step, ToldEdge>
+where
+    F: Fn(Handed<i32>, Place) -> ToldEdge + 'static,
+{
     step_beside("walk edge", rattle, edge, |told| told.fault)
 }
 
-pub fn advance_beside(rattle: fn(&Step) -> Kept<ToldPlace>) -> OfWalks<Step, ToldPlace> {
+pub fn advance_beside<F>(rattle: F) -> OfWalks<Step, ToldPlace>
+where
+    F: Fn(Handed<i32>, Place) -> ToldPlace + 'static,
+{
     step_beside("walk advance", rattle, advance, |told| told.fault)
 }
 
-pub fn next_beside(rattle: fn(&Step) -> Kept<ToldStep>) -> OfWalks<Step, ToldStep> {
+pub fn next_beside<F>(rattle: F) -> OfWalks<Step, ToldStep>
+where
+    F: Fn(Handed<i32>, Place) -> ToldStep + 'static,
+{
     step_beside("walk next", rattle, next, |told| told.fault)
 }
 
-fn pair_beside(
+fn pair_beside<F>(
     name: &'static str,
-    rattle: fn(&Two) -> Kept<ToldPair>,
+    rattle: F,
     rust: fn(&Two) -> ToldPair,
-) -> OfWalks<Two, ToldPair> {
+) -> OfWalks<Two, ToldPair>
+where
+    F: Fn(Handed<i32>, Handed<i32>) -> ToldPair + 'static,
+{
     OfWalks {
         name,
         faults: BEGUN,
         inputs: twos,
-        rattle: Box::new(rattle),
+        rattle: Box::new(move |q: &Two| on_two(q, &rattle)),
         rust,
         fault: |told| told.fault,
         simpler: simpler_two,
     }
 }
 
-pub fn pair_new_beside(rattle: fn(&Two) -> Kept<ToldPair>) -> OfWalks<Two, ToldPair> {
+pub fn pair_new_beside<F>(rattle: F) -> OfWalks<Two, ToldPair>
+where
+    F: Fn(Handed<i32>, Handed<i32>) -> ToldPair + 'static,
+{
     pair_beside("pair new", rattle, pair_new)
 }
 
-pub fn pair_difference_beside(rattle: fn(&Two) -> Kept<ToldPair>) -> OfWalks<Two, ToldPair> {
+pub fn pair_difference_beside<F>(rattle: F) -> OfWalks<Two, ToldPair>
+where
+    F: Fn(Handed<i32>, Handed<i32>) -> ToldPair + 'static,
+{
     pair_beside("pair difference", rattle, pair_difference)
 }
 
-pub fn pair_next_beside(rattle: fn(&TwoAt) -> Kept<ToldNext>) -> OfWalks<TwoAt, ToldNext> {
+pub fn pair_next_beside<F>(rattle: F) -> OfWalks<TwoAt, ToldNext>
+where
+    F: Fn(Handed<i32>, Handed<i32>, Places) -> ToldNext + 'static,
+{
+    let asked = move |q: &TwoAt| {
+        let at = Places { a: q.a, b: q.b };
+        on_two(&q.two, |left, right| rattle(left, right, at))
+    };
     OfWalks {
         name: "pair next",
         faults: STEPPED,
         inputs: twos_at,
-        rattle: Box::new(rattle),
+        rattle: Box::new(asked),
         rust: pair_next,
         fault: |told| told.fault,
         simpler: simpler_two_at,
@@ -404,34 +404,36 @@ pub fn pair_next_beside(rattle: fn(&TwoAt) -> Kept<ToldNext>) -> OfWalks<TwoAt, 
 
 fn whole_beside(
     name: &'static str,
-    begin: fn(&Two) -> Kept<ToldPair>,
-    next: fn(&TwoAt) -> Kept<ToldNext>,
+    begin: impl Fn(Handed<i32>, Handed<i32>) -> ToldPair + 'static,
+    next: impl Fn(Handed<i32>, Handed<i32>, Places) -> ToldNext + 'static,
     rust: fn(&Two) -> ToldContour,
 ) -> OfWalks<Two, ToldContour> {
     OfWalks {
         name,
         faults: BEGUN,
         inputs: twos,
-        rattle: Box::new(move |input| stepped_to_end(input, begin, next)),
+        rattle: Box::new(move |input| stepped_to_end(input, &begin, &next)),
         rust,
         fault: |told| told.fault,
         simpler: simpler_two,
     }
 }
 
-pub fn sum_to_end_beside(
-    begin: fn(&Two) -> Kept<ToldPair>,
-    next: fn(&TwoAt) -> Kept<ToldNext>,
-) -> OfWalks<Two, ToldContour> {
+pub fn sum_to_end_beside<F, G>(begin: F, next: G) -> OfWalks<Two, ToldContour>
+where
+    F: Fn(Handed<i32>, Handed<i32>) -> ToldPair + 'static,
+    G: Fn(Handed<i32>, Handed<i32>, Places) -> ToldNext + 'static,
+{
     whole_beside("sum to its end", begin, next, |input| {
         whole(input, Operation::Sum)
     })
 }
 
-pub fn difference_to_end_beside(
-    begin: fn(&Two) -> Kept<ToldPair>,
-    next: fn(&TwoAt) -> Kept<ToldNext>,
-) -> OfWalks<Two, ToldContour> {
+pub fn difference_to_end_beside<F, G>(begin: F, next: G) -> OfWalks<Two, ToldContour>
+where
+    F: Fn(Handed<i32>, Handed<i32>) -> ToldPair + 'static,
+    G: Fn(Handed<i32>, Handed<i32>, Places) -> ToldNext + 'static,
+{
     whole_beside("difference to its end", begin, next, |input| {
         whole(input, Operation::Difference)
     })
@@ -461,10 +463,7 @@ impl<I: Clone + Debug, T: PartialEq + Debug> EntryPoint for OfWalks<I, T> {
     }
 
     fn rust(&self, input: &I) -> Kept<T> {
-        Kept {
-            told: (self.rust)(input),
-            kept: true,
-        }
+        Kept::all((self.rust)(input))
     }
 
     fn fault(&self, answer: &Kept<T>) -> u32 {
@@ -582,34 +581,122 @@ fn simpler_two_at(input: &TwoAt) -> Vec<TwoAt> {
 mod tests {
     use super::*;
     use crate::entry::{run, Report};
+    use crate::lent::overruns::{self, plant, seen, At};
 
     const COUNT: u64 = 20_000;
 
-    fn kept<I, T>(told: fn(&I) -> T, input: &I) -> Kept<T> {
-        Kept {
-            told: told(input),
-            kept: true,
+    // ---- functions on an input as the entry points ask them. Safe: the memory is lent.
+
+    fn two_of(left: Handed<i32>, right: Handed<i32>) -> Two {
+        unsafe {
+            Two {
+                left: left.slice().to_vec(),
+                right: right.slice().to_vec(),
+            }
+        }
+    }
+
+    fn begin_asked(f: fn(&Begin) -> ToldPlace) -> impl Fn(Handed<i32>, bool) -> ToldPlace {
+        move |contour, reflected| {
+            let flat = unsafe { contour.slice() }.to_vec();
+            f(&Begin { flat, reflected })
+        }
+    }
+
+    fn step_asked<T>(f: fn(&Step) -> T) -> impl Fn(Handed<i32>, Place) -> T {
+        move |contour, at| {
+            let flat = unsafe { contour.slice() }.to_vec();
+            f(&Step { flat, at })
+        }
+    }
+
+    fn two_asked(f: fn(&Two) -> ToldPair) -> impl Fn(Handed<i32>, Handed<i32>) -> ToldPair {
+        move |left, right| f(&two_of(left, right))
+    }
+
+    fn next_asked(
+        f: fn(&TwoAt) -> ToldNext,
+    ) -> impl Fn(Handed<i32>, Handed<i32>, Places) -> ToldNext {
+        move |left, right, at| {
+            f(&TwoAt {
+                two: two_of(left, right),
+                a: at.a,
+                b: at.b,
+            })
         }
     }
 
     #[test]
     fn right_functions_pass() {
-        let new = |q: &Two| kept(pair_new, q);
-        let difference = |q: &Two| kept(pair_difference, q);
-        let step = |q: &TwoAt| kept(pair_next, q);
+        let new = || two_asked(pair_new);
+        let difference = || two_asked(pair_difference);
+        let step = || next_asked(pair_next);
         for report in [
-            run(&begin_beside(|q| kept(begin, q)), 1, COUNT),
-            run(&point_beside(|q| kept(point, q)), 1, COUNT),
-            run(&edge_beside(|q| kept(edge, q)), 1, COUNT),
-            run(&advance_beside(|q| kept(advance, q)), 1, COUNT),
-            run(&next_beside(|q| kept(next, q)), 1, COUNT),
-            run(&pair_new_beside(new), 1, COUNT),
-            run(&pair_difference_beside(difference), 1, COUNT),
-            run(&pair_next_beside(step), 1, COUNT),
-            run(&sum_to_end_beside(new, step), 1, COUNT),
-            run(&difference_to_end_beside(difference, step), 1, COUNT),
+            run(&begin_beside(begin_asked(begin)), 1, COUNT),
+            run(&point_beside(step_asked(point)), 1, COUNT),
+            run(&edge_beside(step_asked(edge)), 1, COUNT),
+            run(&advance_beside(step_asked(advance)), 1, COUNT),
+            run(&next_beside(step_asked(next)), 1, COUNT),
+            run(&pair_new_beside(new()), 1, COUNT),
+            run(&pair_difference_beside(difference()), 1, COUNT),
+            run(&pair_next_beside(step()), 1, COUNT),
+            run(&sum_to_end_beside(new(), step()), 1, COUNT),
+            run(&difference_to_end_beside(difference(), step()), 1, COUNT),
         ] {
             assert!(report.passed(), "{report}");
+        }
+    }
+
+    /// Right but for a place of the contour, or about it, that is changed after the call.
+    fn planted<T>(f: impl Fn(Handed<i32>, Place) -> T, at: At) -> impl Fn(Handed<i32>, Place) -> T {
+        move |contour, place| {
+            let told = f(contour, place);
+            plant(contour, at);
+            told
+        }
+    }
+
+    #[test]
+    fn overruns_on_one_contour_are_caught() {
+        for at in overruns::ALL {
+            let entry = begin_beside(move |contour, reflected| {
+                let told = begin_asked(begin)(contour, reflected);
+                plant(contour, at);
+                told
+            });
+            seen(&entry, at);
+            seen(&point_beside(planted(step_asked(point), at)), at);
+            seen(&edge_beside(planted(step_asked(edge), at)), at);
+            seen(&advance_beside(planted(step_asked(advance), at)), at);
+            seen(&next_beside(planted(step_asked(next), at)), at);
+        }
+    }
+
+    #[test]
+    fn overruns_on_two_contours_are_caught() {
+        for (at, right) in overruns::ALL
+            .into_iter()
+            .flat_map(|at| [(at, false), (at, true)])
+        {
+            let begun = move |f: fn(&Two) -> ToldPair| {
+                move |l, r| {
+                    let told = two_asked(f)(l, r);
+                    plant(if right { r } else { l }, at);
+                    told
+                }
+            };
+            let stepped = move |l, r, places| {
+                let told = next_asked(pair_next)(l, r, places);
+                plant(if right { r } else { l }, at);
+                told
+            };
+            seen(&pair_new_beside(begun(pair_new)), at);
+            seen(&pair_difference_beside(begun(pair_difference)), at);
+            seen(&pair_next_beside(stepped), at);
+            let entry = sum_to_end_beside(begun(pair_new), next_asked(pair_next));
+            seen(&entry, at);
+            let entry = difference_to_end_beside(begun(pair_difference), next_asked(pair_next));
+            seen(&entry, at);
         }
     }
 
@@ -621,67 +708,57 @@ mod tests {
     /// The reflected walk begun at the lowest corner.
     #[test]
     fn a_reflected_walk_from_the_lowest_is_caught() {
-        let small = caught(&run(
-            &begin_beside(|q| {
-                let low = Begin {
-                    reflected: false,
-                    ..q.clone()
-                };
-                let mut told = begin(&low);
-                told.place.reflected = q.reflected && told.fault == 0;
-                Kept { told, kept: true }
-            }),
-            1,
-            COUNT,
-        ))
-        .to_string();
+        let wrong = |q: &Begin| {
+            let low = Begin {
+                reflected: false,
+                ..q.clone()
+            };
+            let mut told = begin(&low);
+            told.place.reflected = q.reflected && told.fault == 0;
+            told
+        };
+        let report = run(&begin_beside(begin_asked(wrong)), 1, COUNT);
+        let small = caught(&report);
         assert!(small.contains("reflected: true"), "{small}");
     }
 
     #[test]
     fn a_refused_walk_handed_back_moved_is_caught() {
-        let report = run(
-            &next_beside(|q| {
-                let mut told = next(q);
-                if told.fault == 23 {
-                    told.place.index = q.at.start;
-                }
-                Kept { told, kept: true }
-            }),
-            1,
-            COUNT,
-        );
+        let wrong = |q: &Step| {
+            let mut told = next(q);
+            if told.fault == 23 {
+                told.place.index = q.at.start;
+            }
+            told
+        };
+        let report = run(&next_beside(step_asked(wrong)), 1, COUNT);
         assert!(caught(&report).contains("fault: 23"));
     }
 
     #[test]
     fn a_changed_contour_is_caught() {
-        let report = run(
-            &point_beside(|q| Kept {
-                told: point(q),
-                kept: q.flat.len() < 4,
-            }),
-            1,
-            COUNT,
-        );
-        assert!(caught(&report).contains("kept: false"));
+        let wrong = |contour: Handed<i32>, at| {
+            let told = step_asked(point)(contour, at);
+            if contour.length > 3 {
+                plant(contour, At::First);
+            }
+            told
+        };
+        let report = run(&point_beside(wrong), 1, COUNT);
+        assert!(caught(&report).contains("changed"));
     }
 
     #[test]
     fn an_end_told_without_the_last_corner_is_caught() {
-        let report = run(
-            &pair_next_beside(|q| {
-                let mut told = pair_next(q);
-                let over = told.places.a.remaining == 0 && told.places.b.remaining == 0;
-                if told.corners == 1 && over {
-                    told.corners = 0;
-                    (told.x, told.y) = (0, 0);
-                }
-                Kept { told, kept: true }
-            }),
-            1,
-            COUNT,
-        );
-        caught(&report);
+        let wrong = |q: &TwoAt| {
+            let mut told = pair_next(q);
+            let over = told.places.a.remaining == 0 && told.places.b.remaining == 0;
+            if told.corners == 1 && over {
+                told.corners = 0;
+                (told.x, told.y) = (0, 0);
+            }
+            told
+        };
+        caught(&run(&pair_next_beside(next_asked(wrong)), 1, COUNT));
     }
 }

@@ -1,22 +1,17 @@
 //! The memory about lent starts and corners, and what a call that writes parts
 //! leaves there.
 
+use crate::lent::Lent;
 use crate::told::Counts;
 use judge::room::{self, Room, Size};
 use judge::{Contour, Fault};
-
-/// What the memory holds before the call, and how many places on either side of
-/// the lent ones are not lent.
-const START: u32 = 0xa5a5_a5a5;
-const NUMBER: i32 = 0x5a5a_5a5a;
-const NOT_LENT: usize = 2;
 
 /// The counts, and all of the memory about the lent buffers.
 #[derive(Debug, PartialEq)]
 pub struct Written {
     pub counts: Counts,
-    starts: Vec<u32>,
-    corners: Vec<i32>,
+    pub starts: Lent<u32>,
+    pub corners: Lent<i32>,
 }
 
 impl Written {
@@ -28,8 +23,8 @@ impl Written {
                 parts: 0,
                 corners: 0,
             },
-            starts: vec![START; lent.starts + 2 * NOT_LENT],
-            corners: vec![NUMBER; lent.numbers + 2 * NOT_LENT],
+            starts: Lent::places(lent.starts),
+            corners: Lent::places(lent.numbers),
         }
     }
 
@@ -56,7 +51,8 @@ impl Written {
         let size = Size::of(parts);
         written.counts.parts = size.parts as u32;
         written.counts.corners = size.corners as u32;
-        let (starts, corners) = written.lent();
+        let starts = written.starts.slice_mut();
+        let corners = written.corners.slice_mut();
         let mut corner = 0;
         starts[0] = 0;
         for (part, contour) in parts.iter().enumerate() {
@@ -69,31 +65,11 @@ impl Written {
         written
     }
 
-    /// The lent starts and corners.
-    pub fn lent(&mut self) -> (&mut [u32], &mut [i32]) {
-        let (starts, corners) = (self.starts.len(), self.corners.len());
-        (
-            &mut self.starts[NOT_LENT..starts - NOT_LENT],
-            &mut self.corners[NOT_LENT..corners - NOT_LENT],
-        )
-    }
-}
-
-#[cfg(test)]
-mod tests {
-    use super::*;
-
-    #[test]
-    fn places_on_both_sides_are_not_lent() {
-        let lent = Room {
-            starts: 2,
-            numbers: 6,
-        };
-        let mut written = Written::after(lent, Ok(vec![vec![(1, 2), (3, 4), (5, 6)]]));
-        assert_eq!(written.starts, [START, START, 0, 3, START, START]);
-        assert_eq!(written.corners[..4], [NUMBER, NUMBER, 1, 2]);
-        assert_eq!(written.corners[6..], [5, 6, NUMBER, NUMBER]);
-        let (starts, corners) = written.lent();
-        assert_eq!((starts, corners.len()), ([0, 3].as_mut_slice(), 6));
+    /// What a function that is right leaves in lent starts and corners.
+    #[cfg(test)]
+    pub fn copied(&self, starts: &mut [u32], corners: &mut [i32]) -> Counts {
+        starts.copy_from_slice(self.starts.slice());
+        corners.copy_from_slice(self.corners.slice());
+        self.counts
     }
 }

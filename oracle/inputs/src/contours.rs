@@ -208,6 +208,35 @@ pub fn crossing(rng: &mut Rng, reach: i32) -> Contour {
     }
 }
 
+/// Contours that are not once round a strictly convex area, or not plainly so: each by
+/// name, since chance seldom makes one small enough to see.
+pub const LISTED: &[(&str, &[Point])] = &[
+    ("empty", &[]),
+    ("point", &[(2, 1)]),
+    ("point, three times", &[(2, 1), (2, 1), (2, 1)]),
+    ("segment", &[(0, 0), (3, 1)]),
+    ("level segment, from its right end", &[(4, 0), (0, 0)]),
+    ("segment through its middle", &[(0, 0), (2, 2), (4, 4), (2, 2)]),
+    ("segment in line, back by another way", &[(0, 0), (6, 0), (2, 0), (4, 0)]),
+    ("triangle", &[(0, 0), (3, 0), (1, 2)]),
+    ("triangle, clockwise", &[(0, 0), (1, 2), (3, 0)]),
+    ("square with repeated corners", &[(0, 0), (0, 0), (2, 0), (2, 2), (2, 2), (2, 2), (0, 2)]),
+    ("square with corners in line", &[(1, 0), (2, 0), (2, 1), (2, 2), (1, 2), (0, 2), (0, 1), (0, 0)]),
+    ("square, clockwise, in line and repeated", &[(0, 0), (0, 1), (0, 1), (0, 2), (2, 2), (2, 0), (1, 0)]),
+    ("triangle with a spike in line", &[(0, 0), (3, 0), (5, 0), (3, 0), (1, 2)]),
+    ("arrow, not convex", &[(0, 0), (4, 2), (0, 4), (1, 2)]),
+    ("bow tie, no winding", &[(0, 0), (4, 4), (4, 0), (0, 4)]),
+    ("bow tie, one half larger", &[(0, 2), (6, 0), (6, 6), (0, 0)]),
+    ("bow tie, one half larger, clockwise", &[(0, 0), (6, 6), (6, 0), (0, 2)]),
+    ("five-pointed star, twice round", &[(0, 5), (-3, -4), (5, 2), (-5, 2), (3, -4)]),
+    ("five-pointed star, clockwise", &[(3, -4), (-5, 2), (5, 2), (-3, -4), (0, 5)]),
+    ("square, twice round", &[(0, 0), (2, 0), (2, 2), (0, 2), (0, 0), (2, 0), (2, 2), (0, 2)]),
+    ("loop within", &[(0, 0), (8, 0), (8, 8), (2, 8), (2, 3), (5, 3), (5, 6), (0, 6)]),
+    ("loop the other way round within", &[(0, 0), (8, 0), (8, 8), (5, 8), (5, 3), (2, 3), (2, 6), (8, 6), (0, 8)]),
+    ("spiral", &[(0, 0), (6, 0), (6, 6), (1, 6), (1, 1), (5, 1), (5, 5), (2, 5)]),
+    ("two triangles that share a corner", &[(0, 0), (2, 1), (1, 2), (0, 0), (-1, -2), (-2, -1)]),
+];
+
 /// Zero winding with an area: a figure eight, or out and back by one way.
 pub fn zero_winding(rng: &mut Rng, reach: i32) -> Contour {
     if rng.once_in(2) {

@@ -1,6 +1,6 @@
-//! Copies of an accepted pair with one fault, or with two: 7, 2, 9, 8, 10, 20.
-//! An operand without parts stands on one side, every other fault on the other,
-//! so that each is really there.
+//! Copies of an accepted pair with one fault, or with two: 7, 2, 9, 8, 10, 20, each
+//! on a side that is named; or by chance, an operand without parts on one side and
+//! every other fault on the other.
 
 use crate::contours;
 use crate::coordinates::{self, EDGE};
@@ -8,29 +8,39 @@ use crate::operands::Pair;
 use crate::rng::Rng;
 use crate::tables::{break_rule, RULES};
 use judge::pairs::{Operand, Operation};
+use judge::shown::Side;
 use judge::table::Table;
 use judge::{Contour, Fault};
 
 /// The faults of a pair, in the order in which they are tried.
 pub const ORDER: [Fault; 6] = [7, 2, 9, 8, 10, 20];
 
-/// An accepted pair with these faults put in, later kinds first.
+/// An accepted pair with these faults put in.
 pub fn damaged(rng: &mut Rng, pair: &Pair, faults: &[Fault]) -> Pair {
+    let [empty, hurt] = rng.pick(&[[Side::Left, Side::Right], [Side::Right, Side::Left]]);
+    let side = |fault: &Fault| if *fault == 20 { empty } else { hurt };
+    let sided: Vec<(Fault, Side)> = faults.iter().map(|f| (*f, side(f))).collect();
+    damaged_on(rng, pair, &sided)
+}
+
+/// Each once on its own side, later kinds first; of 10, the side whose bound is at the
+/// limit. Not 8 and 20 on one side: a part that winds too far is a part.
+pub fn damaged_on(rng: &mut Rng, pair: &Pair, faults: &[(Fault, Side)]) -> Pair {
     let mut out = pair.clone();
-    let empty_left = rng.once_in(2);
-    for fault in ORDER.iter().rev().filter(|f| faults.contains(f)) {
-        let (hurt, other) = if empty_left {
-            (&mut out.right, &mut out.left)
-        } else {
-            (&mut out.left, &mut out.right)
+    let sides = [Side::Left, Side::Right];
+    let all = ORDER.into_iter().rev().flat_map(|f| sides.map(|s| (f, s)));
+    for (fault, side) in all.filter(|one| faults.contains(one)) {
+        let hurt = match side {
+            Side::Left => &mut out.left,
+            Side::Right => &mut out.right,
         };
         match fault {
             7 => break_rules(rng, &mut hurt.table),
             2 => out_of_range(rng, hurt),
             9 => break_bounds(rng, hurt),
             8 => wind_too_far(rng, hurt),
-            10 => reach_too_far(rng, &mut out),
-            _ => other.table = Table::of(&[]),
+            10 => reach_too_far(rng, &mut out, side),
+            _ => hurt.table = Table::of(&[]),
         }
     }
     out
@@ -86,25 +96,33 @@ fn wind_too_far(rng: &mut Rng, operand: &mut Operand) {
     operand.bounds = [b[0].min(lx), b[1].max(gx), b[2].min(ly), b[3].max(gy)];
 }
 
-/// Bounds widened until the result's leave the range, by one or by more.
-fn reach_too_far(rng: &mut Rng, pair: &mut Pair) {
+/// Bounds widened until the result's leave the range, by one or by more: one side's at
+/// the limit, the other's past 0 the same way.
+fn reach_too_far(rng: &mut Rng, pair: &mut Pair, side: Side) {
     let axis = 2 * rng.below(2);
-    let greatest = rng.once_in(2);
+    let greatest = rng.below(2);
     let past = rng.pick(&[1, 1, 2, 1 << 20]);
-    let (left, right) = (&mut pair.left.bounds, &mut pair.right.bounds);
-    if greatest {
-        left[axis + 1] = EDGE;
-        match pair.operation {
-            Operation::Sum => right[axis + 1] = right[axis + 1].max(past),
-            Operation::Difference => right[axis] = right[axis].min(-past),
-        }
-    } else {
-        left[axis] = -EDGE;
-        match pair.operation {
-            Operation::Sum => right[axis] = right[axis].min(-past),
-            Operation::Difference => right[axis + 1] = right[axis + 1].max(past),
-        }
-    }
+    let mut widen = |which: Side, by: i32| {
+        // of a difference, the right operand's least bound makes the greatest
+        let turned = which == Side::Right && pair.operation == Operation::Difference;
+        let (operand, end) = match which {
+            Side::Left => (&mut pair.left, greatest),
+            Side::Right if turned => (&mut pair.right, 1 - greatest),
+            Side::Right => (&mut pair.right, greatest),
+        };
+        let bound = &mut operand.bounds[axis + end];
+        *bound = if end == 1 {
+            (*bound).max(by)
+        } else {
+            (*bound).min(-by)
+        };
+    };
+    let other = match side {
+        Side::Left => Side::Right,
+        Side::Right => Side::Left,
+    };
+    widen(side, EDGE);
+    widen(other, past);
 }
 
 #[cfg(test)]
@@ -124,6 +142,31 @@ mod tests {
                     let hurt = damaged(&mut rng, &pair, &[a, b]);
                     let found = fault(hurt.operation, &hurt.left, &hurt.right);
                     assert_eq!(found, first_of(&ORDER, &[a, b]), "{a} and {b}: {hurt:?}");
+                }
+            }
+        }
+    }
+
+    #[test]
+    fn each_fault_on_either_side_with_each_on_either_side() {
+        let mut rng = Rng::new(42);
+        let sides = [Side::Left, Side::Right];
+        let sided = || ORDER.into_iter().flat_map(|f| sides.map(|side| (f, side)));
+        for _ in 0..20 {
+            let pair = operands::good(&mut rng, 3, 8);
+            for a in sided() {
+                for b in sided() {
+                    if a.1 == b.1
+                        && [a.0, b.0] != [a.0, a.0]
+                        && [8, 20].contains(&a.0)
+                        && [8, 20].contains(&b.0)
+                    {
+                        continue;
+                    }
+                    let hurt = damaged_on(&mut rng, &pair, &[a, b]);
+                    let found = fault(hurt.operation, &hurt.left, &hurt.right);
+                    let first = first_of(&ORDER, &[a.0, b.0]);
+                    assert_eq!(found, first, "{a:?} and {b:?}: {hurt:?}");
                 }
             }
         }

@@ -11,12 +11,14 @@
 //! - `stored`: the stored form, read and written
 //! - `shown`: the part shown, 7 and 12
 //! - `pairs`: 7, 2, 9, 8, 10, 20
+//! - `job`: a pair job, 13 and 7, then those of pairs; its text
 //! - `walk`: a walk begun, stepped, its point, and a pair's step
 //! - `room`: 22 and 21, once the answer's size is known
 //! - `round`: once round a convex area above zero; strictly convex
 //! - `listing`: the text of the area program
 
 pub mod file;
+pub mod job;
 pub mod limits;
 pub mod listing;
 pub mod mesh;

@@ -1,4 +1,5 @@
 -- `convex_gather::hand_out` meets its contract: each refusal and the answer, by the laws of Answer. Assumes nothing.
+use native.Mathlib.Omega.{arith}
 use borrow.Author.Needs.{needs}
 use Rattle.convex_gather.proofs.Answer.{starts-refused, corners-refused, handed}
 use Rattle.convex_gather.proofs.hand_out.Statement.{statement}
@@ -21,7 +22,7 @@ refusal-requires-2 c κs = search needs
 returns-2 : tie.Need-returns-2
 returns-2 c =
     let g = c .before .before .before .before .before .args in
-    corners-refused (g .begins .now) (g .points .now) (g .t) (g .starts .now) (g .corners .now) (c .before .before .if1 .left) (c .before .if2 .taken) (c .refusal2 .ensures)
+    corners-refused (g .begins .now) (g .points .now) (g .t) (g .starts .now) (g .corners .now) (c .before .before .if1 .left) (omega (arith, c .before .if2 .taken)) (c .refusal2 .ensures)
 
 add-copy-starts : tie.Need-add-copy-starts
 add-copy-starts c = search needs

@@ -71,7 +71,7 @@ read : {r s t : Bool} → r ≡ s → r ≡ t → s ≡ t
 read e h = sym e ∙ h
 
 returns : tie.Need-returns
-returns c = one (rowsMesh (c .before .args .mesh .now)) (many _ (c .if1 .taken))
+returns c = one (rowsMesh (c .before .args .mesh .now)) (many _ (omega (arith, c .if1 .taken)))
 
 off-grid-requires : tie.Need-off-grid-requires
 off-grid-requires c κs = search needs

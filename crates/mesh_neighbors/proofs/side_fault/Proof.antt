@@ -1,4 +1,5 @@
 -- `mesh_neighbors::side_fault` meets its contract: the cases of Side. Assumes nothing.
+use native.Mathlib.Omega.{arith}
 use borrow.Author.Needs.{needs}
 use Rattle.plane.specs.Machine.{point}
 use Rattle.mesh_neighbors.proofs.Side.{side-none, side-itself, side-past, side-second, side-third, side-back}
@@ -18,7 +19,7 @@ returns-2 c =
 returns-3 : tie.Need-returns-3
 returns-3 c =
     let s = c .before .before .before in
-    side-past (s .args .mesh .now) (s .args .k) (s .args .n) (s .args .o) (s .args .p) (point (s .args .a)) (point (s .args .b)) (c .before .before .if1 .left) (c .before .if2 .left) (c .if3 .taken)
+    side-past (s .args .mesh .now) (s .args .k) (s .args .n) (s .args .o) (s .args .p) (point (s .args .a)) (point (s .args .b)) (c .before .before .if1 .left) (c .before .if2 .left) (omega (arith, c .if3 .taken))
 
 returns-4 : tie.Need-returns-4
 returns-4 c =

@@ -90,7 +90,7 @@ slice-reshare-prefix-put-contour c =
     let g = s .args in
     let e = walk-placed (g .lf .now) (g .lp .now) (g .left) (g .p) (s .pre .lefts .walks) (s .pre .p-inside) .corners in
     let m = c .before .merge-one .ensures in
-    pair-inside (g .lf .now) (g .lp .now) (g .left) (g .p) (g .rf .now) (g .rp .now) (g .right) (g .q) (g .work .now) (g .out .now) (s .pre) e m refl
+    omega (arith, pair-inside (g .lf .now) (g .lp .now) (g .left) (g .p) (g .rf .now) (g .rp .now) (g .right) (g .q) (g .work .now) (g .out .now) (s .pre) e m refl)
 
 slice-aggregate-put-contour : tie.Need-slice-aggregate-put-contour
 slice-aggregate-put-contour c =
@@ -98,7 +98,7 @@ slice-aggregate-put-contour c =
     let g = s .args in
     let e = walk-placed (g .lf .now) (g .lp .now) (g .left) (g .p) (s .pre .lefts .walks) (s .pre .p-inside) .corners in
     let m = c .before .before .merge-one .ensures in
-    sym (length-take-le _ _ (pair-inside (g .lf .now) (g .lp .now) (g .left) (g .p) (g .rf .now) (g .rp .now) (g .right) (g .q) (g .work .now) (g .out .now) (s .pre) e m refl))
+    sym (length-take-le _ _ (omega (arith, pair-inside (g .lf .now) (g .lp .now) (g .left) (g .p) (g .rf .now) (g .rp .now) (g .right) (g .q) (g .work .now) (g .out .now) (s .pre) e m refl)))
 
 put-contour-requires : tie.Need-put-contour-requires
 put-contour-requires c κs =

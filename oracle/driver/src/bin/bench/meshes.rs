@@ -69,7 +69,7 @@ impl Call for Joining {
     }
 
     fn ours(&self, mesh: &[Row], starts: &mut [u32], corners: &mut [i32]) -> Counts {
-        to_convex_polygons(mesh, starts, corners)
+        to_convex_polygons(mesh.into(), starts.into(), corners.into())
     }
 }
 
@@ -86,7 +86,13 @@ impl Call for Splitting {
     }
 
     fn ours(&self, mesh: &[Row], starts: &mut [u32], corners: &mut [i32]) -> Counts {
-        to_convex_polygons_with_max_vertices(mesh, self.limit, self.by, starts, corners)
+        to_convex_polygons_with_max_vertices(
+            mesh.into(),
+            self.limit,
+            self.by,
+            starts.into(),
+            corners.into(),
+        )
     }
 }
 
@@ -224,7 +230,7 @@ fn ratios(all: &[Timed], call: &impl Call, rounds: usize) -> String {
                 black_box(&mut corners),
             )
         }));
-        checks.push(timed(times, |k| mesh_fault(&at(k + 40).ours)));
+        checks.push(timed(times, |k| mesh_fault(at(k + 40).ours[..].into())));
     }
     let [rust, whole, checks] = [rust, whole, checks].map(median);
     format!("{:4.2} {:4.2}", (whole - checks) / rust, whole / rust)

@@ -3,11 +3,11 @@
 
 use crate::peers;
 use crate::timing::{median, timed};
-use driver::boundary::{all_pairs, Lists};
+use driver::boundary::sum_parts;
+use driver::pairs::{Bounds, HandedOperand};
 use i_triangle::int::expose::PreparedPairs;
 use inputs::contours;
 use inputs::rng::Rng;
-use judge::pairs::Operation::Sum;
 use judge::table::Table;
 use judge::Contour;
 use std::hint::black_box;
@@ -116,8 +116,11 @@ impl Side {
         }
     }
 
-    fn lists(&self) -> Lists<'_> {
-        (&self.table.starts, &self.table.corners, self.bounds)
+    fn handed(&self) -> HandedOperand {
+        HandedOperand {
+            table: (&self.table).into(),
+            bounds: Bounds(self.bounds),
+        }
     }
 }
 
@@ -126,7 +129,8 @@ impl Subject {
     /// all tie: so the pairs have fewer corners than there could be, and exact room
     /// makes the call count them.
     fn of(rng: &mut Rng, (left, right, corners): Size) -> Self {
-        let mut parts = |count| -> Vec<Contour> { (0..count).map(|_| convex(rng, corners)).collect() };
+        let mut parts =
+            |count| -> Vec<Contour> { (0..count).map(|_| convex(rng, corners)).collect() };
         let (left, mut right) = (parts(left), parts(right));
         right[0].clone_from(&left[0]);
         let (l, r) = (Side::of(&left), Side::of(&right));
@@ -167,9 +171,10 @@ impl Subject {
     }
 
     fn ours(&mut self, room: usize) -> usize {
-        let (left, right) = (self.left.lists(), self.right.lists());
+        let operands = [self.left.handed(), self.right.handed()];
+        let starts = black_box(&mut self.starts[..]);
         let numbers = black_box(&mut self.numbers[..room]);
-        let told = all_pairs(Sum, left, right, black_box(&mut self.starts), numbers);
+        let told = sum_parts(operands, starts.into(), numbers.into());
         assert_eq!(told.fault, 0);
         told.corners as usize
     }
@@ -231,7 +236,8 @@ impl Times {
             all[k % n].ours(room)
         });
         self.exact.push(exact);
-        self.rust.push(timed(calls, |k| all[k % n].rust.sum_parts()));
+        self.rust
+            .push(timed(calls, |k| all[k % n].rust.sum_parts()));
         // CGAL takes so long that three rounds are enough.
         if self.cgal.len() < 3 && all[0].cgal().is_some() {
             self.cgal.push(timed(calls, |k| all[k % n].cgal()));

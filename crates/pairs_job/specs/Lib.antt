@@ -1,0 +1,2 @@
+-- A pair job: its bytes.
+pub mod Job

@@ -1,0 +1,2 @@
+-- What is printed of a pair job, in pieces.
+pub mod Printed

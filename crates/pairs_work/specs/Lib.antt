@@ -1,0 +1,2 @@
+-- What the contracts cite: the answer to a pair job before its lines.
+pub mod Begun

@@ -1,0 +1,213 @@
+// A pair job before its lines: `begin_job` takes any bytes, tells the job's fault or the numbers of its head line, and leaves the walks of both operands in lent work
+// buffers, which pair_lines puts into lines (`Begins` of specs/Begun.antt, with pairs_job's `jobFault`, `leftOf` and `rightOf`). Corners are counted here, so that
+// the lines can be printed pair by pair and need no room for all. Leans on pairs_job, minkowski_faults, minkowski_work and minkowski_count.
+ghost use mathlib.Core.Path.{_≡_};
+ghost use Rattle.integers.specs.Faults.{firstFault};
+ghost use Rattle.minkowski.specs.Pairs.{pairKinds};
+ghost use Rattle.minkowski_faults.specs.Kinds.{operand};
+ghost use Rattle.pairs_job.specs.Job.{reflectedOf, leftOf, rightOf, jobFault};
+ghost use Rattle.pairs_work.specs.Begun.{Large, Shapely, PairsTold, refusedBegun, Begins};
+use pairs_job::LEFT;
+use pairs_job::LEFT_BOUNDS;
+use table::IntRect;
+use table_words::word_at;
+
+// The points and the firsts of any operand's walks: 8,192 corners, and one more point for each of 2,048 parts.
+pub const POINTS: usize = 10240;
+
+pub const FIRSTS: usize = 2049;
+
+// What a job answers before its lines: the fault number, 0 for none, how many parts each operand has, how many corners all pairs have, and the result's bounds; all
+// 0 where it is refused.
+pub struct Begun {
+    pub fault: u32,
+    pub left: usize,
+    pub right: usize,
+    pub corners: usize,
+    pub bounds: IntRect,
+}
+
+// A refusal: its number and zeros.
+fn refused(fault: u32) -> Begun
+    ensures { λ r. ⌜ r ≡ refusedBegun fault ⌝ }
+{
+    Begun {
+        fault: fault,
+        left: 0,
+        right: 0,
+        corners: 0,
+        bounds: IntRect {
+            min_x: 0,
+            max_x: 0,
+            min_y: 0,
+            max_y: 0,
+        },
+    }
+}
+
+// The first fault of two operands in the order of pairs up to 20; 0 for none, and then the work buffers hold the walks of both.
+fn pairs_fault(
+    reflected: bool,
+    left_starts: &[u32],
+    left_corners: &[i32],
+    left_bounds: IntRect,
+    right_starts: &[u32],
+    right_corners: &[i32],
+    right_bounds: IntRect,
+    left_points: &mut [[i32; 2]],
+    left_firsts: &mut [u32],
+    right_points: &mut [[i32; 2]],
+    right_firsts: &mut [u32],
+) -> u32
+    requires { ⌜ Large (now «left_points») (now «left_firsts») (now «right_points») (now «right_firsts») ⌝ }
+    ensures { λ r. ⌜ PairsTold reflected (operand (now («left_starts» .entry)) (now («left_corners» .entry)) «left_bounds») (operand (now («right_starts» .entry)) (now («right_corners» .entry)) «right_bounds») (now («left_points» .exit)) (now («left_firsts» .exit)) (now («right_points» .exit)) (now («right_firsts» .exit)) r ⌝ }
+{
+    let fault = minkowski_faults::operands_fault(
+        left_starts,
+        left_corners,
+        left_bounds,
+        right_starts,
+        right_corners,
+        right_bounds,
+    );
+    if fault != 0 {
+        return fault;
+    }
+    minkowski_work::walks_fault(
+        reflected,
+        left_starts,
+        left_corners,
+        left_bounds,
+        right_starts,
+        right_corners,
+        right_bounds,
+        left_points,
+        left_firsts,
+        right_points,
+        right_firsts,
+    )
+}
+
+// What the pairs of two operands answer before their lines.
+fn begin_operands(
+    reflected: bool,
+    left_starts: &[u32],
+    left_corners: &[i32],
+    left_bounds: IntRect,
+    right_starts: &[u32],
+    right_corners: &[i32],
+    right_bounds: IntRect,
+    left_points: &mut [[i32; 2]],
+    left_firsts: &mut [u32],
+    right_points: &mut [[i32; 2]],
+    right_firsts: &mut [u32],
+) -> Begun
+    requires { ⌜ Large (now «left_points») (now «left_firsts») (now «right_points») (now «right_firsts») ⌝ }
+    ensures { λ r. ⌜ Begins reflected (operand (now («left_starts» .entry)) (now («left_corners» .entry)) «left_bounds») (operand (now («right_starts» .entry)) (now («right_corners» .entry)) «right_bounds») (firstFault (pairKinds reflected (operand (now («left_starts» .entry)) (now («left_corners» .entry)) «left_bounds») (operand (now («right_starts» .entry)) (now («right_corners» .entry)) «right_bounds»))) (now («left_points» .exit)) (now («left_firsts» .exit)) (now («right_points» .exit)) (now («right_firsts» .exit)) r ⌝ }
+{
+    let fault = pairs_fault(
+        reflected,
+        left_starts,
+        left_corners,
+        left_bounds,
+        right_starts,
+        right_corners,
+        right_bounds,
+        left_points,
+        left_firsts,
+        right_points,
+        right_firsts,
+    );
+    if fault != 0 {
+        return refused(fault);
+    }
+    let left = left_starts.len() - 1;
+    let right = right_starts.len() - 1;
+    let corners = minkowski_count::count_all(
+        left_firsts,
+        left_points,
+        left,
+        right_firsts,
+        right_points,
+        right,
+    );
+    let bounds = minkowski_faults::result_bounds(left_bounds, right_bounds, reflected);
+    Begun {
+        fault: 0,
+        left: left,
+        right: right,
+        corners: corners,
+        bounds: bounds,
+    }
+}
+
+// What a job without a fault of its shape answers before its lines: both tables are read into places for any table within the limits.
+fn begin_shaped(
+    bytes: &[u8],
+    left_starts: &mut [u32],
+    left_corners: &mut [i32],
+    right_starts: &mut [u32],
+    right_corners: &mut [i32],
+    left_points: &mut [[i32; 2]; POINTS],
+    left_firsts: &mut [u32; FIRSTS],
+    right_points: &mut [[i32; 2]; POINTS],
+    right_firsts: &mut [u32; FIRSTS],
+) -> Begun
+    requires { ⌜ Shapely (now bytes) (now «left_starts») (now «left_corners») (now «right_starts») (now «right_corners») ⌝ }
+    ensures { λ r. ⌜ Begins (reflectedOf (now (bytes .entry))) (leftOf (now (bytes .entry))) (rightOf (now (bytes .entry))) (jobFault (now (bytes .entry))) (now («left_points» .exit)) (now («left_firsts» .exit)) (now («right_points» .exit)) (now («right_firsts» .exit)) r ⌝ }
+{
+    let place = pairs_job::right_place(bytes);
+    let l = word_at(bytes, LEFT) as usize;
+    let m = word_at(bytes, LEFT + 1) as usize;
+    let r = word_at(bytes, place) as usize;
+    let n = word_at(bytes, place + 1) as usize;
+    pairs_job::read_operand(bytes, LEFT, left_starts, left_corners);
+    pairs_job::read_operand(bytes, place, right_starts, right_corners);
+    let reflected = word_at(bytes, 0) == pairs_job::DIFFERENCE;
+    let left_bounds = pairs_job::bounds_at(bytes, LEFT_BOUNDS);
+    let right_bounds = pairs_job::bounds_at(bytes, place - 4);
+    begin_operands(
+        reflected,
+        &left_starts[..l + 1],
+        &left_corners[..2 * m],
+        left_bounds,
+        &right_starts[..r + 1],
+        &right_corners[..2 * n],
+        right_bounds,
+        left_points,
+        left_firsts,
+        right_points,
+        right_firsts,
+    )
+}
+
+// What a job answers before its lines.
+pub fn begin_job(
+    bytes: &[u8],
+    left_points: &mut [[i32; 2]; POINTS],
+    left_firsts: &mut [u32; FIRSTS],
+    right_points: &mut [[i32; 2]; POINTS],
+    right_firsts: &mut [u32; FIRSTS],
+) -> Begun
+    ensures { λ r. ⌜ Begins (reflectedOf (now (bytes .entry))) (leftOf (now (bytes .entry))) (rightOf (now (bytes .entry))) (jobFault (now (bytes .entry))) (now («left_points» .exit)) (now («left_firsts» .exit)) (now («right_points» .exit)) (now («right_firsts» .exit)) r ⌝ }
+{
+    let fault = pairs_job::shape_fault(bytes);
+    if fault != 0 {
+        return refused(fault);
+    }
+    let mut left_starts = [0u32; 2049];
+    let mut left_corners = [0i32; 16384];
+    let mut right_starts = [0u32; 2049];
+    let mut right_corners = [0i32; 16384];
+    begin_shaped(
+        bytes,
+        &mut left_starts,
+        &mut left_corners,
+        &mut right_starts,
+        &mut right_corners,
+        left_points,
+        left_firsts,
+        right_points,
+        right_firsts,
+    )
+}
