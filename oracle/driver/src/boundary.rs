@@ -134,7 +134,8 @@ mod archive {
             corners: *mut i32,
             corners_lent: usize,
         ) -> ToldPairs;
-        pub fn beside_listing(bytes: *const u8, bytes_length: usize, out: *mut [u8; TEXT]) -> usize;
+        pub fn beside_listing(bytes: *const u8, bytes_length: usize, out: *mut [u8; TEXT])
+            -> usize;
         pub fn beside_difference_parts(
             left_starts: *const u32,
             left_starts_length: usize,

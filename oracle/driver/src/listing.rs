@@ -57,12 +57,10 @@ impl Printed {
 
 /// What document 01 and the Rust print for a file.
 pub fn printed(bytes: &[u8]) -> Printed {
-    Printed::whole(
-        match file::decode(bytes).and_then(|f| parts_of_file(&f)) {
-            Ok(parts) => listing(&parts),
-            Err(fault) => refusal(fault),
-        },
-    )
+    Printed::whole(match file::decode(bytes).and_then(|f| parts_of_file(&f)) {
+        Ok(parts) => listing(&parts),
+        Err(fault) => refusal(fault),
+    })
 }
 
 // ---- the memory about the lent text
@@ -226,7 +224,7 @@ impl EntryPoint for Listing {
     }
 
     fn inputs<'a>(&self, rng: &'a mut Rng, count: u64) -> Box<dyn Iterator<Item = Vec<u8>> + 'a> {
-        let random = (0..count / SHARE / 2).map(move |_| any_file(rng));
+        let random = (0..count / SHARE / 10).map(move |_| any_file(rng));
         let fixed = every_length().chain(wrong_headers());
         let fixed = fixed.chain(limits()).chain(contours_listed());
         Box::new(fixed.chain(random))
@@ -255,7 +253,12 @@ impl EntryPoint for Listing {
             let halves = halves.into_iter().filter(|&k| k < file.mesh.len());
             out.extend(halves.map(|k| fewer(meshes::apart(k))));
         }
-        out.extend([n / 2, n.saturating_sub(1)].into_iter().filter(|&k| k < n).map(|k| bytes[..k].to_vec()));
+        out.extend(
+            [n / 2, n.saturating_sub(1)]
+                .into_iter()
+                .filter(|&k| k < n)
+                .map(|k| bytes[..k].to_vec()),
+        );
         let words = (0..n.min(400) / 4).filter(|&w| bytes[4 * w..4 * w + 4] != [0; 4]);
         out.extend(words.map(|word| with(bytes, word, 0)));
         out
@@ -275,7 +278,7 @@ mod tests {
     use super::*;
     use crate::entry::{run, Report};
 
-    const COUNT: u64 = 20_000;
+    const COUNT: u64 = 100_000;
 
     fn put(text: &str, out: &mut [u8; TEXT]) -> usize {
         out[..text.len()].copy_from_slice(text.as_bytes());
