@@ -36,7 +36,7 @@ returns-3 : tie.Need-returns-3
 returns-3 c =
     let r = c .before .before in
     let l = r .before .before in
-    sym (past _ _ _ _ _ _ _ (asked _ _ (c .before .if3 .taken)) (sym (l .before .rules-broken .ensures) ∙ l .if1 .left) (sym (r .before .rules-broken2 .ensures) ∙ r .if2 .left) (c .if4 .taken))
+    sym (past _ _ _ _ _ _ _ (asked _ _ (c .before .if3 .taken)) (sym (l .before .rules-broken .ensures) ∙ l .if1 .left) (sym (r .before .rules-broken2 .ensures) ∙ r .if2 .left) (omega (arith, c .if4 .taken)))
 
 returns-4 : tie.Need-returns-4
 returns-4 c =
