@@ -2,9 +2,11 @@
 use mathlib.Core.Path.{_≡_}
 use mathlib.Core.Bool.{true, false}
 use Prim.Native.Nat.{ℕ, _≤_, _<_}
+use native.Mathlib.Omega.{arith}
 use borrow.Author.Needs.{needs}
 use borrow.Author.Tests.{le-leb, lt-leb}
 use lib.Dec.{leb}
+use Rattle.integers.proofs.Order.{by-test}
 use Rattle.pair.specs.declared.Place.{Place}
 use Rattle.walk.specs.Calls.{misplaced}
 use Rattle.walk_read.proofs.misplaced.Statement.{statement}
@@ -15,9 +17,9 @@ module _ (n : ℕ) (w : Place) where
   unfolding misplaced
   by-place h = rw (le-leb n (w .index) h)
 
-  by-start : w .index < n → w .segment ≡ true → n ≤ w .start → true ≡ misplaced n w
+  by-start : w .segment ≡ true → n ≤ w .start → true ≡ misplaced n w
   unfolding misplaced
-  by-start h s k = rw (lt-leb n (w .index) h, s, le-leb n (w .start) k)
+  by-start s k = by-test (leb n (w .index)) (λ e. rw e) (λ e. rw (e, s, le-leb n (w .start) k))
 
   by-end : w .index < n → w .segment ≡ true → w .start < n → leb n (w .end) ≡ misplaced n w
   unfolding misplaced
@@ -31,13 +33,13 @@ cast-if1 : tie.Need-cast-if1
 cast-if1 c = search needs
 
 returns : tie.Need-returns
-returns c = by-place _ _ (c .if1 .taken)
+returns c = by-place _ _ (omega (arith, c .if1 .taken))
 
 cast-if3 : tie.Need-cast-if3
 cast-if3 c = search needs
 
 returns-2 : tie.Need-returns-2
-returns-2 c = by-start _ _ (c .before .before .before .if1 .left) (c .before .before .if2 .taken) (c .if3 .taken)
+returns-2 c = by-start _ _ (c .before .before .if2 .taken) (c .if3 .taken)
 
 cast-result : tie.Need-cast-result
 cast-result c = search needs
