@@ -3,6 +3,7 @@
 //! Rust's (`cli`'s answers, as the oracle's own `areas` prints them).
 
 use crate::entry::EntryPoint;
+use crate::lent::Lent;
 use crate::mesh::{any, SHARE};
 use cli::answers::parts_of_file;
 use inputs::mesh_damage::damaged;
@@ -74,16 +75,15 @@ thread_local! {
     static MEMORY: RefCell<Vec<u8>> = RefCell::new(vec![HELD; TEXT + 2 * NOT_LENT]);
 }
 
-/// The Rattle function's answer. The file's bytes are lent in memory of just their
-/// length.
+/// The Rattle function's answer. The file's bytes are lent as every list is.
 fn asked(rattle: WritesListing, bytes: &[u8]) -> Printed {
-    let lent = bytes.to_vec();
+    let lent = Lent::list(bytes);
     MEMORY.with_borrow_mut(|memory| {
         let text = &mut memory[NOT_LENT..NOT_LENT + TEXT];
-        let length = rattle(&lent, text.try_into().expect("as long as the text"));
+        let length = rattle(lent.slice(), text.try_into().expect("as long as the text"));
         let end = NOT_LENT + length.min(TEXT);
         let held = |place: &[u8]| place.iter().all(|&b| b == HELD);
-        let kept = held(&memory[..NOT_LENT]) && held(&memory[end..]) && lent == bytes;
+        let kept = held(&memory[..NOT_LENT]) && held(&memory[end..]) && lent.holds(bytes);
         let front = String::from_utf8_lossy(&memory[NOT_LENT..end]).into_owned();
         if kept {
             memory[NOT_LENT..end].fill(HELD);
