@@ -161,8 +161,8 @@ fn points(parts: usize) -> Vec<Contour> {
 
 /// Operands about the limits: result bounds at the limit and past it, windings at the
 /// limits of 64 bits, tables at each limit, one fewer and one more, the longest
-/// contours, and operands of which all corners and starts are 256, which the Rattle
-/// code holds in smaller work buffers, one fewer and one more.
+/// contours, and operands of which all corners and starts are 16 or 256, which the
+/// Rattle code holds in smaller work buffers, one fewer and one more.
 fn limits(rng: &mut Rng, operation: Operation) -> Vec<Pair> {
     let near = vec![vec![(0, 0)]];
     let mut out = operands::edges();
@@ -204,8 +204,13 @@ fn limits(rng: &mut Rng, operation: Operation) -> Vec<Pair> {
     let squares = |parts: usize| -> Vec<Contour> { (0..parts as i32).map(square).collect() };
     out.push(pair(operation, &squares(PARTS), &squares(16)));
     out.push(pair(operation, &squares(16), &squares(PARTS)));
-    for parts in [127, 128] {
-        for other in [1, 127, 128] {
+    for (parts, others) in [
+        (7, [1, 7, 8]),
+        (8, [1, 7, 8]),
+        (127, [1, 127, 128]),
+        (128, [1, 127, 128]),
+    ] {
+        for other in others {
             out.push(pair(operation, &points(parts), &points(other)));
             out.push(pair(operation, &points(other), &points(parts)));
         }
@@ -652,7 +657,7 @@ mod tests {
         assert!(!met.contains(&(edge + 1)) && !met.contains(&(-edge - 1)));
         assert!(accepted.clone().any(|pair| size(pair).corners > 2_000));
         assert!(accepted.clone().any(|pair| size(pair).parts == 16 * PARTS));
-        for places in [255, 256, 257] {
+        for places in [15, 16, 17, 255, 256, 257] {
             let about = |o: &Operand| o.table.starts.len() + o.table.corner_count() == places;
             assert!(accepted.clone().any(|pair| about(&pair.left)));
             assert!(accepted.clone().any(|pair| about(&pair.right)));

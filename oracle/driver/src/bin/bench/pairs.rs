@@ -125,19 +125,21 @@ impl Side {
 }
 
 impl Subject {
-    /// Of strictly convex parts. The first right part is the first left one, whose edges
-    /// all tie: so the pairs have fewer corners than there could be, and exact room
-    /// makes the call count them.
+    /// Of strictly convex parts. Where there is more than one pair, the first right part is
+    /// the first left one, whose edges all tie: so the pairs have fewer corners than there
+    /// could be, and exact room makes the call count them.
     fn of(rng: &mut Rng, (left, right, corners): Size) -> Self {
         let mut parts =
             |count| -> Vec<Contour> { (0..count).map(|_| convex(rng, corners)).collect() };
         let (left, mut right) = (parts(left), parts(right));
-        right[0].clone_from(&left[0]);
+        if right.len() > 1 {
+            right[0].clone_from(&left[0]);
+        }
         let (l, r) = (Side::of(&left), Side::of(&right));
         let mut rust = PreparedPairs::of(&left, l.bounds, &right, r.bounds);
         let most = right.len() * l.table.corner_count() + left.len() * r.table.corner_count();
         let corners = rust.draw();
-        assert!(corners < most);
+        assert_eq!(corners < most, right.len() > 1);
         let mut subject = Self {
             starts: vec![0; left.len() * right.len() + 1],
             numbers: vec![0; 2 * most],
