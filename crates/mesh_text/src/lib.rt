@@ -24,7 +24,7 @@ pub const FILE_ROOM: usize = 36920;
 
 const GATHER_ROOM: usize = 9227;
 
-// The bytes of the header and of a record, and where the records begin (document 01).
+// The bytes of the header, behind which the records begin, and of a record (document 01).
 const HEADER: usize = 20;
 
 const RECORD: usize = 36;
@@ -134,14 +134,14 @@ fn write_file(count: usize, gathered: &[u32], out: &mut [u8]) -> usize
 }
 
 // Turns a text into a mesh file on the front of the lent bytes. Refuses a text that is too long, and then by its first wrong line, before the first store.
-pub fn to_mesh_file(text: &[u8], out: &mut [u8; 36920]) -> Converted
+pub fn to_mesh_file(text: &[u8], out: &mut [u8; FILE_ROOM]) -> Converted
     ensures told { λ r. ⌜ r ≡ conversion (now (text .entry)) ⌝ }
     ensures bytes { λ r. ⌜ now (out .exit) ≡ bytesConverted (now (text .entry)) (now (out .entry)) ⌝ }
 {
     if text.len() > MAX_TEXT {
         return Converted::TooLong;
     }
-    let mut words = [0u32; 9227];
+    let mut words = [0u32; GATHER_ROOM];
     let read = gather(text, &mut words);
     if read.wrong != 0 {
         return Converted::Wrong(read.wrong);

@@ -1,6 +1,10 @@
 // Turns a mesh written by hand, on standard input, into a mesh file on standard output.
 // A text that is not as a mesh is written is refused by its first wrong line, on standard error, and nothing is written. Leans on mesh_text, input and lines.
 use mesh_text::Converted;
+use mesh_text::FILE_ROOM;
+
+// One byte more than the longest text, so that a longer one is told from it.
+const INPUT: usize = 262145;
 
 // Tells on standard error which line is wrong, and what a line looks like.
 fn tell_line(line: usize) {
@@ -19,9 +23,9 @@ fn tell_line(line: usize) {
 }
 
 fn main() {
-    let mut text = [0u8; 262145];
+    let mut text = [0u8; INPUT];
     let size = input::read_input(&mut text);
-    let mut file = [0u8; 36920];
+    let mut file = [0u8; FILE_ROOM];
     let told = mesh_text::to_mesh_file(&text[..size], &mut file);
     match told {
         Converted::Written(length) => {
