@@ -1,6 +1,6 @@
-// The area program (document 01, "The file and its listing"): reads a mesh file from standard input and prints its convex parts with their areas, or its
-// refusal. It reads at most one byte more than the longest good file; more input would change nothing (area_listing/specs/MoreInput.antt). Leans on input
-// and area_listing.
+// Prints the convex parts of a mesh file with their areas and shares, or its refusal: document 01's area program ("The file and its listing"). It reads at
+// most one byte more than the longest good file from standard input; more input would change nothing (area_listing/specs/MoreInput.antt). Leans on input and
+// area_listing.
 use area_listing::INPUT;
 use area_listing::LISTING;
 
