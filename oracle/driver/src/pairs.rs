@@ -276,7 +276,7 @@ fn every_two() -> Vec<[Sided; 2]> {
         all.filter(move |&(f, side)| !room(f) || side == Side::Left)
     };
     // an operand without parts has no part that winds too far
-    let none = |[a, b]: &[Sided; 2]| a.1 == b.1 && a.0 != b.0 && a.0 + b.0 == 28;
+    let none = |[a, b]: &[Sided; 2]| a.1 == b.1 && [[8, 20], [20, 8]].contains(&[a.0, b.0]);
     let two = sided().flat_map(|a| sided().map(move |b| [a, b]));
     two.filter(|two| !none(two)).collect()
 }
