@@ -156,11 +156,7 @@ mod tests {
             let pair = operands::good(&mut rng, 3, 8);
             for a in sided() {
                 for b in sided() {
-                    if a.1 == b.1
-                        && [a.0, b.0] != [a.0, a.0]
-                        && [8, 20].contains(&a.0)
-                        && [8, 20].contains(&b.0)
-                    {
+                    if a.1 == b.1 && [[8, 20], [20, 8]].contains(&[a.0, b.0]) {
                         continue;
                     }
                     let hurt = damaged_on(&mut rng, &pair, &[a, b]);
