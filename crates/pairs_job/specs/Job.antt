@@ -10,6 +10,7 @@ use lib.IntN.{ℤ}
 use Rattle.integers.specs.Faults.{Kind, firstFault, faultFile, faultRules}
 use Rattle.plane.specs.Plane.{Pt}
 use Rattle.table.specs.declared.IntRect.{IntRect}
+use Rattle.table.specs.Table.{maxParts, maxCorners}
 use Rattle.table.specs.Stored.{wordsOf, wordAt, signed}
 use Rattle.text.specs.Text.{refusal}
 use Rattle.minkowski.specs.Pairs.{Operand, operandParts, pairContours, resultBounds, pairKinds}
@@ -91,7 +92,7 @@ MoreInput = (bytes more : List ℕ) → length bytes ≡ 147517 → pairsText (b
 
 -- a count of the table at word k past its limit
 abbrev pub countsBroken : List ℕ → ℕ → Bool
-countsBroken bytes k = cond (ltb 2048 (wordAt bytes k)) true (ltb 8192 (wordAt bytes (k + 1)))
+countsBroken bytes k = cond (ltb maxParts (wordAt bytes k)) true (ltb maxCorners (wordAt bytes (k + 1)))
 
 -- a job whose counts are past the limits is told so before its tables are read into places of that many; the other rules are judged of what was read
 unfoldable pub shapeFault : List ℕ → ℕ
