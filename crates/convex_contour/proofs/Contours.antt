@@ -31,12 +31,12 @@ use Rattle.convex_ring.proofs.Reading.{length-done}
 
 -- ---- the contour of a zipper
 
-pub contour-zipper : (cs : List (List ℤ)) (es : List (List ℕ)) (flags : List Bool) (p : Progress) (seen : List ℕ) (z : Zipper) → length cs ≡ 1026 → p .done ≤ p .last → Holds cs es flags p seen z → fromLastZ z ≡ contourAt cs p
+pub contour-zipper : (cs : List (List ℤ)) (es : List (List ℕ)) (flags : List Bool) (p : Progress) (seen : List ℕ) (z : Zipper) {size : ℕ} → length cs ≡ size → p .done ≤ p .last → Holds size cs es flags p seen z → fromLastZ z ≡ contourAt cs p
 unfolding contourAt
-contour-zipper cs es flags p seen z size placed h =
+contour-zipper cs es flags p seen z e₀ placed h =
     let k = p .last - p .done in
     let l = drop (p .done) cs in
-    let e : length (z .done) - z .last ≡ k = omega (arith, ap length (h .done), length-done cs (p .done), size, h .last) in
+    let e : length (z .done) - z .last ≡ k = omega (arith, ap length (h .done), length-done cs (p .done), e₀, h .last) in
     let n : p .done + k ≡ p .last = omega arith in
     (λ i. rotate (e i) (h .done i)) ∙ rotate-eq k (map cornerOf l) ∙ ap₂ _++_ (sym (map-drop cornerOf k l)) (sym (map-take cornerOf k l)) ∙ sym (map-append cornerOf (drop k l) (take k l))
     ∙ ap (λ r. map cornerOf (r ++ take k l)) (drop-drop k (p .done) cs ∙ ap (λ j. drop j cs) n)
@@ -53,89 +53,89 @@ abbrev pub cornerAfter : List Pt → ℕ → Pt
 cornerAfter l i = getD l (suc i) (getD l 0 O)
 
 -- where corner i stands; after the last one the first again
-abbrev pub placeAt : Progress → ℕ → ℕ
-placeAt p i = cond (ltb (p .last + i) 1026) (p .last + i) (p .last + i - 1026 + p .done)
+abbrev pub placeAt : ℕ → Progress → ℕ → ℕ
+placeAt size p i = cond (ltb (p .last + i) size) (p .last + i) (p .last + i - size + p .done)
 
 module _ (cs : List (List ℤ)) (p : Progress) (w : Whole cs p) where
   abbrev tail : List (List ℤ)
   tail = take (p .last - p .done) (drop (p .done) cs)
 
-  pub length-contour : length (contourAt cs p) ≡ 1026 - p .done
+  pub length-contour : length (contourAt cs p) ≡ length cs - p .done
   unfolding contourAt
   length-contour =
-      length-map (drop (p .last) cs ++ tail) cornerOf ∙ length-append (drop (p .last) cs) tail ∙ ap₂ _+_ (length-drop (p .last) cs) (length-take-le (p .last - p .done) (drop (p .done) cs) (omega (arith, length-drop (p .done) cs, w .size, w .placed, w .ended)))
-      ∙ omega (arith, w .size, w .placed, w .ended)
+      length-map (drop (p .last) cs ++ tail) cornerOf ∙ length-append (drop (p .last) cs) tail ∙ ap₂ _+_ (length-drop (p .last) cs) (length-take-le (p .last - p .done) (drop (p .done) cs) (omega (arith, length-drop (p .done) cs, w .placed, w .ended)))
+      ∙ omega (arith, w .placed, w .ended)
 
   read : (i : ℕ) → getD (contourAt cs p) i O ≡ cornerOf (getD (drop (p .last) cs ++ tail) i [])
   unfolding contourAt
   read i = List·getD-map cornerOf (drop (p .last) cs ++ tail) i []
 
-  pub contour-near : (i : ℕ) → p .last + i < 1026 → getD (contourAt cs p) i O ≡ cornerAt cs (p .last + i)
-  contour-near i h = read i ∙ ap cornerOf (List·getD-append (drop (p .last) cs) tail [] i (omega (arith, length-drop (p .last) cs, w .size)) ∙ getD-drop (p .last) cs i [])
+  pub contour-near : (i : ℕ) → p .last + i < length cs → getD (contourAt cs p) i O ≡ cornerAt cs (p .last + i)
+  contour-near i h = read i ∙ ap cornerOf (List·getD-append (drop (p .last) cs) tail [] i (omega (arith, length-drop (p .last) cs)) ∙ getD-drop (p .last) cs i [])
 
-  pub contour-far : (i : ℕ) → i + p .done < 1026 → 1026 ≤ p .last + i → getD (contourAt cs p) i O ≡ cornerAt cs (p .last + i - 1026 + p .done)
+  pub contour-far : (i : ℕ) → i + p .done < length cs → length cs ≤ p .last + i → getD (contourAt cs p) i O ≡ cornerAt cs (p .last + i - length cs + p .done)
   contour-far i h k =
-      let j = p .last + i - 1026 in
-      let e : i ≡ length (drop (p .last) cs) + j = omega (arith, length-drop (p .last) cs, w .size, w .ended) in
+      let j = p .last + i - length cs in
+      let e : i ≡ length (drop (p .last) cs) + j = omega (arith, length-drop (p .last) cs, w .ended) in
       read i
       ∙ ap cornerOf
       (ap (λ q. getD (drop (p .last) cs ++ tail) q []) e ∙ getD-append-add (drop (p .last) cs) tail j [] ∙ getD-take (p .last - p .done) (drop (p .done) cs) j [] (omega (arith, w .ended)) ∙ getD-drop (p .done) cs j [] ∙ ap (λ q. getD cs q []) (omega arith))
 
   -- the corner before, and the one after
-  pub after-inner : (i : ℕ) → i + 1 + p .done < 1026 → getD (contourAt cs p) (i + 1) O ≡ cornerAfter (contourAt cs p) i
+  pub after-inner : (i : ℕ) → i + 1 + p .done < length cs → getD (contourAt cs p) (i + 1) O ≡ cornerAfter (contourAt cs p) i
   after-inner i h = ap (λ n. getD (contourAt cs p) n O) (add-one i) ∙ getD-any (contourAt cs p) (suc i) O (getD (contourAt cs p) 0 O) (omega (arith, length-contour))
 
-  pub after-last : (i : ℕ) → 1026 ≤ i + 1 + p .done → getD (contourAt cs p) 0 O ≡ cornerAfter (contourAt cs p) i
+  pub after-last : (i : ℕ) → length cs ≤ i + 1 + p .done → getD (contourAt cs p) 0 O ≡ cornerAfter (contourAt cs p) i
   after-last i h = sym (List·getD-eq-default (contourAt cs p) (getD (contourAt cs p) 0 O) {n = suc i} (omega (arith, length-contour)))
 
   -- ---- places, round the contour
 
-  pub place-first : p .last ≡ placeAt p 0
-  place-first = sym (rw (lt-ltb (p .last + 0) 1026 (omega (arith, w .ended))) (omega arith))
+  pub place-first : p .last ≡ placeAt (length cs) p 0
+  place-first = sym (rw (lt-ltb (p .last + 0) (length cs) (omega (arith, w .ended))) (omega arith))
 
-  pub place-below : (i : ℕ) → i + p .done ≤ 1026 → placeAt p i < 1026
-  place-below i h = by-test (ltb (p .last + i) 1026)
-      (λ t. rw t (omega (arith, ltb-true (p .last + i) 1026 t)))
-      (λ t. rw t (omega (arith, ltb-false (p .last + i) 1026 t, w .ended)))
+  pub place-below : (i : ℕ) → i + p .done ≤ length cs → placeAt (length cs) p i < length cs
+  place-below i h = by-test (ltb (p .last + i) (length cs))
+      (λ t. rw t (omega (arith, ltb-true (p .last + i) (length cs) t)))
+      (λ t. rw t (omega (arith, ltb-false (p .last + i) (length cs) t, w .ended)))
 
-  pub place-next : (i : ℕ) {k r : ℕ} → i + p .done < 1026 → k ≡ placeAt p i → r ≡ placeAfter (p .done) k → r ≡ placeAt p (i + 1)
+  pub place-next : (i : ℕ) {k r : ℕ} → i + p .done < length cs → k ≡ placeAt (length cs) p i → r ≡ placeAfter (length cs) (p .done) k → r ≡ placeAt (length cs) p (i + 1)
   unfolding placeAfter
-  place-next i {k} h e f = f ∙ ap (placeAfter (p .done)) e ∙ by-test (ltb (p .last + i) 1026)
-      (λ t. rw t (near (ltb-true (p .last + i) 1026 t)))
-      (λ t. rw t (far (ltb-false (p .last + i) 1026 t)))
+  place-next i {k} h e f = f ∙ ap (placeAfter (length cs) (p .done)) e ∙ by-test (ltb (p .last + i) (length cs))
+      (λ t. rw t (near (ltb-true (p .last + i) (length cs) t)))
+      (λ t. rw t (far (ltb-false (p .last + i) (length cs) t)))
     where
-      near : p .last + i < 1026 → placeAfter (p .done) (p .last + i) ≡ placeAt p (i + 1)
-      near g = by-test (eqb (p .last + i + 1) 1026)
-          (λ t. rw (t, le-ltb (p .last + (i + 1)) 1026 (omega (arith, eqb-true (p .last + i + 1) 1026 t))) (omega (arith, eqb-true (p .last + i + 1) 1026 t)))
-          (λ t. rw (t, lt-ltb (p .last + (i + 1)) 1026 (omega (arith, eqb-false (p .last + i + 1) 1026 t))) (omega arith))
+      near : p .last + i < length cs → placeAfter (length cs) (p .done) (p .last + i) ≡ placeAt (length cs) p (i + 1)
+      near g = by-test (eqb (p .last + i + 1) (length cs))
+          (λ t. rw (t, le-ltb (p .last + (i + 1)) (length cs) (omega (arith, eqb-true (p .last + i + 1) (length cs) t))) (omega (arith, eqb-true (p .last + i + 1) (length cs) t)))
+          (λ t. rw (t, lt-ltb (p .last + (i + 1)) (length cs) (omega (arith, eqb-false (p .last + i + 1) (length cs) t))) (omega arith))
 
-      far : 1026 ≤ p .last + i → placeAfter (p .done) (p .last + i - 1026 + p .done) ≡ placeAt p (i + 1)
-      far g = rw (ne-eqb (p .last + i - 1026 + p .done + 1) 1026 (λ q. omega (arith, q, w .ended)), le-ltb (p .last + (i + 1)) 1026 (omega arith)) (omega arith)
+      far : length cs ≤ p .last + i → placeAfter (length cs) (p .done) (p .last + i - length cs + p .done) ≡ placeAt (length cs) p (i + 1)
+      far g = rw (ne-eqb (p .last + i - length cs + p .done + 1) (length cs) (λ q. omega (arith, q, w .ended)), le-ltb (p .last + (i + 1)) (length cs) (omega arith)) (omega arith)
 
   -- what stands at a place
-  at-place : (i : ℕ) → i + p .done < 1026 → cornerAt cs (placeAt p i) ≡ getD (contourAt cs p) i O
-  at-place i h = by-test (ltb (p .last + i) 1026)
-      (λ t. rw t (sym (contour-near i (ltb-true (p .last + i) 1026 t))))
-      (λ t. rw t (sym (contour-far i h (ltb-false (p .last + i) 1026 t))))
+  at-place : (i : ℕ) → i + p .done < length cs → cornerAt cs (placeAt (length cs) p i) ≡ getD (contourAt cs p) i O
+  at-place i h = by-test (ltb (p .last + i) (length cs))
+      (λ t. rw t (sym (contour-near i (ltb-true (p .last + i) (length cs) t))))
+      (λ t. rw t (sym (contour-far i h (ltb-false (p .last + i) (length cs) t))))
 
-  pub place-corner : (i : ℕ) {q : Pt} {k : ℕ} → i + p .done < 1026 → k ≡ placeAt p (i + 1) → q ≡ cornerAt cs k → q ≡ cornerAfter (contourAt cs p) i
-  place-corner i h e f = f ∙ ap (cornerAt cs) e ∙ by-test (ltb (i + 1 + p .done) 1026)
-      (λ t. at-place (i + 1) (ltb-true (i + 1 + p .done) 1026 t) ∙ after-inner i (ltb-true (i + 1 + p .done) 1026 t))
-      (λ t. let g = ltb-false (i + 1 + p .done) 1026 t in
-      ap (cornerAt cs) (rw (le-ltb (p .last + (i + 1)) 1026 (omega (arith, g, w .placed))) (omega (arith, g, w .placed))) ∙ sym (contour-near 0 (omega (arith, w .ended))) ∙ after-last i g)
+  pub place-corner : (i : ℕ) {q : Pt} {k : ℕ} → i + p .done < length cs → k ≡ placeAt (length cs) p (i + 1) → q ≡ cornerAt cs k → q ≡ cornerAfter (contourAt cs p) i
+  place-corner i h e f = f ∙ ap (cornerAt cs) e ∙ by-test (ltb (i + 1 + p .done) (length cs))
+      (λ t. at-place (i + 1) (ltb-true (i + 1 + p .done) (length cs) t) ∙ after-inner i (ltb-true (i + 1 + p .done) (length cs) t))
+      (λ t. let g = ltb-false (i + 1 + p .done) (length cs) t in
+      ap (cornerAt cs) (rw (le-ltb (p .last + (i + 1)) (length cs) (omega (arith, g, w .placed))) (omega (arith, g, w .placed))) ∙ sym (contour-near 0 (omega (arith, w .ended))) ∙ after-last i g)
 
   -- the corner before the first
-  pub place-last : {k : ℕ} {q : Pt} → k ≡ placeBefore (p .done) (p .last) → q ≡ cornerAt cs k → q ≡ getD (contourAt cs p) (1026 - p .done - 1) O
+  pub place-last : {k : ℕ} {q : Pt} → k ≡ placeBefore (length cs) (p .done) (p .last) → q ≡ cornerAt cs k → q ≡ getD (contourAt cs p) (length cs - p .done - 1) O
   unfolding placeBefore
   place-last e f = f ∙ ap (cornerAt cs) (e ∙ by-test (ltb (p .done) (p .last))
-      (λ t. rw (t, le-ltb (p .last + (1026 - p .done - 1)) 1026 (omega (arith, ltb-true (p .done) (p .last) t, w .some))) (omega (arith, ltb-true (p .done) (p .last) t, w .some)))
-      (λ t. rw (t, lt-ltb (p .last + (1026 - p .done - 1)) 1026 (omega (arith, ltb-false (p .done) (p .last) t, w .some, w .placed))) (omega (arith, ltb-false (p .done) (p .last) t, w .some, w .placed))))
-      ∙ at-place (1026 - p .done - 1) (omega (arith, w .some))
+      (λ t. rw (t, le-ltb (p .last + (length cs - p .done - 1)) (length cs) (omega (arith, ltb-true (p .done) (p .last) t, w .some))) (omega (arith, ltb-true (p .done) (p .last) t, w .some)))
+      (λ t. rw (t, lt-ltb (p .last + (length cs - p .done - 1)) (length cs) (omega (arith, ltb-false (p .done) (p .last) t, w .some, w .placed))) (omega (arith, ltb-false (p .done) (p .last) t, w .some, w .placed))))
+      ∙ at-place (length cs - p .done - 1) (omega (arith, w .some))
 
   pub first-at : getD (contourAt cs p) 0 O ≡ cornerAt cs (p .last)
   first-at = contour-near 0 (omega (arith, w .ended)) ∙ ap (cornerAt cs) (omega arith)
 
-  pub before-below : {k : ℕ} → k ≡ placeBefore (p .done) (p .last) → k < 1026
+  pub before-below : {k : ℕ} → k ≡ placeBefore (length cs) (p .done) (p .last) → k < length cs
   unfolding placeBefore
   before-below e = rw e (by-test (ltb (p .done) (p .last)) (λ t. rw t (omega (arith, w .ended))) (λ t. rw t (omega arith)))
 

@@ -6,7 +6,6 @@ use Prim.Native.Nat.{ℕ, _+_, _-_, _≤_, _<_}
 use lib.Dec.{eqb, ltb}
 use lib.ListN.{length, take, drop}
 use lib.IntN.{ℤ}
-use Rattle.table.specs.Table.{maxContour}
 use Rattle.plane.specs.Plane.{Pt}
 use Rattle.convex_ring.specs.declared.Progress.{Progress}
 use Rattle.convex_ring.specs.Buffers.{cornerOf, Grid}
@@ -18,18 +17,17 @@ contourAt cs p = map cornerOf (drop (p .last) cs ++ take (p .last - p .done) (dr
 
 -- what reading it asks: the done corners run to the end of the buffer, and the last one added stands among them
 pub record Whole (cs : List (List ℤ)) (p : Progress) : Type 0 where
-  pub size : length cs ≡ maxContour
   pub placed : p .done ≤ p .last
-  pub ended : p .last < maxContour
-  pub some : p .done < maxContour
+  pub ended : p .last < length cs
+  pub some : p .done < length cs
   pub grid : Grid cs
 
--- the place after a place of the contour, round its part of the buffer, which begins at d; and the place before
-unfoldable pub placeAfter : ℕ → ℕ → ℕ
-placeAfter d i = cond (eqb (i + 1) maxContour) d (i + 1)
+-- the place after a place of the contour, round its part of a buffer of n places, which begins at d; and the place before
+unfoldable pub placeAfter : ℕ → ℕ → ℕ → ℕ
+placeAfter n d i = cond (eqb (i + 1) n) d (i + 1)
 
-unfoldable pub placeBefore : ℕ → ℕ → ℕ
-placeBefore d i = cond (ltb d i) (i - 1) (maxContour - 1)
+unfoldable pub placeBefore : ℕ → ℕ → ℕ → ℕ
+placeBefore n d i = cond (ltb d i) (i - 1) (n - 1)
 
 -- p where it stays
 abbrev pub keptIf : Bool → Pt → List Pt

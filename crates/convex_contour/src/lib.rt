@@ -5,7 +5,6 @@ ghost use mathlib.Core.Bool.{not};
 ghost use Prim.Native.Nat.{_+_, _<_, _≤_};
 ghost use lib.ListN.{length};
 ghost use lib.IntN.{pos};
-ghost use Rattle.table.specs.Table.{maxContour};
 ghost use Rattle.integers.specs.Test.{eqZ};
 ghost use Rattle.plane.specs.Plane.{turn};
 ghost use Rattle.plane.specs.Machine.{point, OnGrid};
@@ -13,28 +12,28 @@ ghost use Rattle.convex.specs.Joining.{withoutStraight};
 ghost use Rattle.convex_contour.specs.Contour.{contourAt, Whole, placeAfter, placeBefore, keptIf, Appended};
 use convex_ring::Progress;
 use plane::IntPoint;
-use table::MAX_CONTOUR;
 
-// The place after a place of a whole region's contour, which stands from `done` to the end of the buffer; round it.
-fn place_after(done: usize, place: usize) -> usize
-    requires { ⌜ place < maxContour ⌝ }
-    ensures { λ r. ⌜ r ≡ placeAfter done place ⌝ }
+// The place after a place of a whole region's contour, which stands from `done` to the end of a buffer of `size` places; round it.
+fn place_after(size: usize, done: usize, place: usize) -> usize
+    requires { ⌜ place < size ⌝ }
+    ensures { λ r. ⌜ r ≡ placeAfter size done place ⌝ }
 {
     let next = place + 1;
-    if next == MAX_CONTOUR {
+    if next == size {
         return done;
     }
     next
 }
 
 // The place before it.
-fn place_before(done: usize, place: usize) -> usize
-    ensures { λ r. ⌜ r ≡ placeBefore done place ⌝ }
+fn place_before(size: usize, done: usize, place: usize) -> usize
+    requires { ⌜ 0 < size ⌝ }
+    ensures { λ r. ⌜ r ≡ placeBefore size done place ⌝ }
 {
     if place > done {
         return place - 1;
     }
-    MAX_CONTOUR - 1
+    size - 1
 }
 
 // Whether the turn at b, from a to c, is not 0.
@@ -70,17 +69,18 @@ pub fn append_contour(
     points: &mut [[i32; 2]],
     from: usize,
 ) -> usize
-    requires { ⌜ Whole (now corners) p × (from + maxContour ≤ length (now points) + p .done) ⌝ }
+    requires { ⌜ Whole (now corners) p × (from + length (now corners) ≤ length (now points) + p .done) ⌝ }
     ensures { λ r. ⌜ Appended (withoutStraight (contourAt (now (corners .entry)) p)) (now (points .entry)) from (now (points .exit)) r ⌝ }
 {
-    let size = MAX_CONTOUR - p.done;
+    let end = corners.len();
+    let size = end - p.done;
     let mut place = p.last;
-    let mut a = convex_ring::corner_at(corners, place_before(p.done, place));
+    let mut a = convex_ring::corner_at(corners, place_before(end, p.done, place));
     let mut b = convex_ring::corner_at(corners, place);
     let mut count = from;
     let mut i: usize = 0;
     while i < size {
-        place = place_after(p.done, place);
+        place = place_after(end, p.done, place);
         let c = convex_ring::corner_at(corners, place);
         count = append_corner(points, count, a, b, c);
         a = b;

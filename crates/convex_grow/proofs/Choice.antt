@@ -29,7 +29,7 @@ chosen m flags x r =
     (cond (getD flags (x .across) false) none
     (cond (joinsZ x r (triangleAt m (x .across)) (opposite (triangleAt m (x .across)) (x .inside))) (x .across) none))
 
-module _ (rows : List (List ℤ)) (cs : List (List ℤ)) (es : List (List ℕ)) (flags : List Bool) (p : Progress) (s : Sound (rowsMesh rows) cs es flags p) where
+module _ (size : ℕ) (rows : List (List ℤ)) (cs : List (List ℤ)) (es : List (List ℕ)) (flags : List Bool) (p : Progress) (s : Sound size (rowsMesh rows) cs es flags p) where
   abbrev x : Slot
   x = slotAt cs es (p .pending - 1)
 
@@ -48,7 +48,7 @@ module _ (rows : List (List ℤ)) (cs : List (List ℤ)) (es : List (List ℕ)) 
 
   module _ (d : x .across ≡ none → ⊥) where
     in-mesh : x .across < length (rowsMesh rows)
-    in-mesh = s .ready .across (p .pending - 1) (omega (arith, s .room, s .whole)) d
+    in-mesh = s .ready .across (p .pending - 1) (omega (arith, s .room, s .whole)) (s .meshed) d
 
     pub in-rows : x .across < length rows
     in-rows = omega (arith, in-mesh, length-rows rows)

@@ -69,13 +69,13 @@ pub grid-set : (cs : List (List ℤ)) (i : ℕ) (c : List ℤ) → i < length cs
 grid-set cs i c h g e = record { at = set-all (λ r. onGrid (cornerOf r) ≡ true) cs i c [] h (g .at) e }
 
 abbrev Within : ℕ → List ℕ → Type 0
-Within size e = (getD e 1 0 ≡ none → ⊥) → getD e 1 0 < size
+Within count e = (getD e 1 0 ≡ none → ⊥) → getD e 1 0 < count
 
-pub across-set : (size : ℕ) (es : List (List ℕ)) (i : ℕ) (e : List ℕ) → 1026 ≤ length es → ((j : ℕ) → j < 1026 → Within size (getD es j [])) → Within size e → (j : ℕ) → j < 1026 → Within size (getD (set es i e) j [])
-across-set size es i e h f g j k =
+pub across-set : (size count : ℕ) (es : List (List ℕ)) (i : ℕ) (e : List ℕ) → size ≤ length es → ((j : ℕ) → j < size → 0 < count → Within count (getD es j [])) → Within count e → (j : ℕ) → j < size → 0 < count → Within count (getD (set es i e) j [])
+across-set size count es i e h f g j k some =
     by-test (eqb i j)
-    (λ q. subst (Within size) (sym (ap (λ n. getD (set es n e) j []) (eqb-true i j q) ∙ getD-set-same es j e [] (omega arith))) g)
-    (λ q. subst (Within size) (sym (getD-set-other es i j e [] (λ n. eqb-false i j q (sym n)))) (f j k))
+    (λ q. subst (Within count) (sym (ap (λ n. getD (set es n e) j []) (eqb-true i j q) ∙ getD-set-same es j e [] (omega arith))) g)
+    (λ q. subst (Within count) (sym (getD-set-other es i j e [] (λ n. eqb-false i j q (sym n)))) (f j k some))
 
 -- ---- the three tests: no neighbour, taken, joins
 
@@ -102,33 +102,33 @@ found false false false a h = absurd (h refl)
 found false false true a h = (refl, (refl, refl))
 
 -- the place of the last corner added
-last-moved : (t s : Bool) (size zl d pl : ℕ) → t ≡ s → suc size + d ≡ 1026 → zl + pl ≡ 1026 → cond t (suc size) zl + cond s d pl ≡ 1026
-last-moved true true size zl d pl e h k = h
-last-moved true false size zl d pl e h k = differ (sym e)
-last-moved false true size zl d pl e h k = differ e
-last-moved false false size zl d pl e h k = k
+last-moved : (t s : Bool) (size n zl d pl : ℕ) → t ≡ s → suc n + d ≡ size → zl + pl ≡ size → cond t (suc n) zl + cond s d pl ≡ size
+last-moved true true size n zl d pl e h k = h
+last-moved true false size n zl d pl e h k = differ (sym e)
+last-moved false true size n zl d pl e h k = differ e
+last-moved false false size n zl d pl e h k = k
 
 place-moved : (t : Bool) (d l : ℕ) → d ≤ l → d - 1 ≤ cond t (d - 1) l
 place-moved true d l h = omega arith
 place-moved false d l h = omega arith
 
-end-moved : (t : Bool) (d l : ℕ) → d ≤ 1026 → l ≤ 1026 → cond t (d - 1) l ≤ 1026
-end-moved true d l h k = omega arith
-end-moved false d l h k = k
+end-moved : (t : Bool) (size d l : ℕ) → d ≤ size → l ≤ size → cond t (d - 1) l ≤ size
+end-moved true size d l h k = omega arith
+end-moved false size d l h k = k
 
-settle-moved : (t : Bool) (d l : ℕ) → 0 < d → d ≤ 1026 → (t ≡ false → l < 1026) → cond t (d - 1) l < 1026
-settle-moved true d l g h k = omega arith
-settle-moved false d l g h k = k refl
+settle-moved : (t : Bool) (size d l : ℕ) → 0 < d → d ≤ size → (t ≡ false → l < size) → cond t (d - 1) l < size
+settle-moved true size d l g h k = omega arith
+settle-moved false size d l g h k = k refl
 
 -- ---- a step
 
-pub stepped-by : {m : Mesh} {cs : List (List ℤ)} {es : List (List ℕ)} {flags : List Bool} {p : Progress} {cs1 cs2 : List (List ℤ)} {es1 es2 : List (List ℕ)} {flags1 flags2 : List Bool} {p1 p2 : Progress} → cs2 ≡ cs1 → es2 ≡ es1 → flags2 ≡ flags1 → p2 ≡ p1 → Stepped m cs es flags p cs1 es1 flags1 p1 → Stepped m cs es flags p cs2 es2 flags2 p2
-stepped-by {m} {cs} {es} {flags} {p} {cs1} {cs2} {es1} {es2} {flags1} {flags2} {p1} {p2} ce ee fe pe h =
-    subst (λ c. Stepped m cs es flags p c es2 flags2 p2) (sym ce)
-    (subst (λ e. Stepped m cs es flags p cs1 e flags2 p2) (sym ee)
-    (subst (λ f. Stepped m cs es flags p cs1 es1 f p2) (sym fe) (subst (λ q. Stepped m cs es flags p cs1 es1 flags1 q) (sym pe) h)))
+pub stepped-by : {size : ℕ} {m : Mesh} {cs : List (List ℤ)} {es : List (List ℕ)} {flags : List Bool} {p : Progress} {cs1 cs2 : List (List ℤ)} {es1 es2 : List (List ℕ)} {flags1 flags2 : List Bool} {p1 p2 : Progress} → cs2 ≡ cs1 → es2 ≡ es1 → flags2 ≡ flags1 → p2 ≡ p1 → Stepped size m cs es flags p cs1 es1 flags1 p1 → Stepped size m cs es flags p cs2 es2 flags2 p2
+stepped-by {size} {m} {cs} {es} {flags} {p} {cs1} {cs2} {es1} {es2} {flags1} {flags2} {p1} {p2} ce ee fe pe h =
+    subst (λ c. Stepped size m cs es flags p c es2 flags2 p2) (sym ce)
+    (subst (λ e. Stepped size m cs es flags p cs1 e flags2 p2) (sym ee)
+    (subst (λ f. Stepped size m cs es flags p cs1 es1 f p2) (sym fe) (subst (λ q. Stepped size m cs es flags p cs1 es1 flags1 q) (sym pe) h)))
 
-module _ (m : Mesh) (cs : List (List ℤ)) (es : List (List ℕ)) (flags : List Bool) (p : Progress) (s : Sound m cs es flags p) (some : 0 < p .pending) where
+module _ (size : ℕ) (m : Mesh) (cs : List (List ℤ)) (es : List (List ℕ)) (flags : List Bool) (p : Progress) (s : Sound size m cs es flags p) (some : 0 < p .pending) where
   abbrev x : Slot
   x = slotAt cs es (p .pending - 1)
 
@@ -145,9 +145,9 @@ module _ (m : Mesh) (cs : List (List ℤ)) (es : List (List ℕ)) (flags : List 
   v = opposite u (x .inside)
 
   pub in-mesh : (x .across ≡ none → ⊥) → x .across < length flags
-  in-mesh d = omega (arith, s .ready .across (p .pending - 1) (omega (arith, s .room, s .whole)) d, s .ready .marks)
+  in-mesh d = omega (arith, s .ready .across (p .pending - 1) (omega (arith, s .room, s .whole)) (s .meshed) d, s .ready .marks)
 
-  module _ (seen : List ℕ) (z : Zipper) (h : Holds cs es flags p seen z) where
+  module _ (seen : List ℕ) (z : Zipper) (h : Holds size cs es flags p seen z) where
     same-flag : eqb (x .across) none ≡ false → getD flags (x .across) false ≡ isIn (x .across) (seen ++ z .taken)
     same-flag e = h .taken .at (x .across) (in-mesh (eqb-false (x .across) none e))
 
@@ -171,41 +171,43 @@ module _ (m : Mesh) (cs : List (List ℤ)) (es : List (List ℕ)) (flags : List 
   abbrev top : List ℤ
   top = getD cs (p .pending - 1) []
 
-  move-sound : Sound m (set cs (p .done - 1) top) es flags (movedBy p)
+  move-sound : Sound size m (set cs (p .done - 1) top) es flags (movedBy p)
   move-sound = record {
     ready = record {
       accepted = s .ready .accepted;
+      enough = s .ready .enough;
       corners = length-set cs (p .done - 1) top ∙ s .ready .corners;
       edges = s .ready .edges;
       marks = s .ready .marks;
       grid = grid-set cs (p .done - 1) top (omega (arith, s .ready .corners, s .room, s .whole)) (s .ready .grid) (s .ready .grid .at (p .pending - 1));
       across = s .ready .across;
     };
+    meshed = s .meshed;
     room = omega (arith, s .room);
     whole = omega (arith, s .whole);
     three = omega (arith, s .three, s .room);
     placed = place-moved (p .fresh) (p .done) (p .last) (s .placed);
-    ended = end-moved (p .fresh) (p .done) (p .last) (s .whole) (s .ended);
-    settled = λ e. settle-moved (p .fresh) (p .done) (p .last) (omega (arith, s .room)) (s .whole) (s .settled);
+    ended = end-moved (p .fresh) size (p .done) (p .last) (s .whole) (s .ended);
+    settled = λ e. settle-moved (p .fresh) size (p .done) (p .last) (omega (arith, s .room)) (s .whole) (s .settled);
     rested = λ e. refl;
   }
 
-  move-holds : (seen : List ℕ) (z : Zipper) → Holds cs es flags p seen z → Holds (set cs (p .done - 1) top) es flags (movedBy p) seen (moved x rest z)
+  move-holds : (seen : List ℕ) (z : Zipper) → Holds size cs es flags p seen z → Holds size (set cs (p .done - 1) top) es flags (movedBy p) seen (moved x rest z)
   unfolding moved
   move-holds seen z h = record {
     pending = sym (pending-set-corner cs es (p .pending - 1) (p .done - 1) top (omega (arith, s .room)));
     done = ap (λ l. x .corner ∷ l) (h .done) ∙ sym (done-move cs (p .done) top (omega (arith, s .room)) (omega (arith, s .whole, s .ready .corners)));
     fresh = refl;
-    last = last-moved (z .fresh) (p .fresh) (length (z .done)) (z .last) (p .done - 1) (p .last) (h .fresh) (omega (arith, ap length (h .done), length-done cs (p .done), s .ready .corners, s .whole, s .room)) (h .last);
+    last = last-moved (z .fresh) (p .fresh) size (length (z .done)) (z .last) (p .done - 1) (p .last) (h .fresh) (omega (arith, ap length (h .done), length-done cs (p .done), s .ready .corners, s .whole, s .room)) (h .last);
     taken = h .taken;
   }
 
-  pub moved-step : chosen m flags x r ≡ none → Stepped m cs es flags p (set cs (p .done - 1) top) es flags (movedBy p)
+  pub moved-step : chosen m flags x r ≡ none → Stepped size m cs es flags p (set cs (p .done - 1) top) es flags (movedBy p)
   moved-step e = record {
     sound = move-sound;
     less = omega arith;
     kept = omega (arith, s .room);
-    holds = λ seen z h. subst (Holds (set cs (p .done - 1) top) es flags (movedBy p) seen) (sym (step-stays seen z h e)) (move-holds seen z h);
+    holds = λ seen z h. subst (Holds size (set cs (p .done - 1) top) es flags (movedBy p) seen) (sym (step-stays seen z h e)) (move-holds seen z h);
   }
 
   -- ---- a triangle joins
@@ -234,22 +236,24 @@ module _ (m : Mesh) (cs : List (List ℤ)) (es : List (List ℕ)) (flags : List 
     abbrev es′ : List (List ℕ)
     es′ = set (set es (p .pending - 1) first) (p .pending) second
 
-    push-sound : Sound m cs′ es′ (set flags (x .across) true) (pushedBy p)
+    push-sound : Sound size m cs′ es′ (set flags (x .across) true) (pushedBy p)
     push-sound =
         let a = accepted m (s .ready .accepted) in
-        let l : x .across < length m = s .ready .across (p .pending - 1) (omega (arith, s .room, s .whole)) across-some in
+        let l : x .across < length m = s .ready .across (p .pending - 1) (omega (arith, s .room, s .whole)) (s .meshed) across-some in
         record {
           ready = record {
             accepted = s .ready .accepted;
+            enough = s .ready .enough;
             corners = length-set cs (p .pending) (pairOf (vertex u v)) ∙ s .ready .corners;
             edges = length-set (set es (p .pending - 1) first) (p .pending) second ∙ length-set es (p .pending - 1) first ∙ s .ready .edges;
             marks = length-set flags (x .across) true ∙ s .ready .marks;
             grid = grid-set cs (p .pending) (pairOf (vertex u v)) (omega (arith, s .ready .corners, s .room, s .whole, free-less)) (s .ready .grid) (a .on-grid (x .across) v l);
             across =
-                across-set (length m) (set es (p .pending - 1) first) (p .pending) second (omega (arith, length-set es (p .pending - 1) first, s .ready .edges, s .room, s .whole, free-less))
-                (across-set (length m) es (p .pending - 1) first (omega (arith, s .ready .edges, s .room, s .whole)) (s .ready .across) (a .in-mesh (x .across) (after v) l (after-side v)))
+                across-set size (length m) (set es (p .pending - 1) first) (p .pending) second (omega (arith, length-set es (p .pending - 1) first, s .ready .edges, s .room, s .whole, free-less))
+                (across-set size (length m) es (p .pending - 1) first (omega (arith, s .ready .edges, s .room, s .whole)) (s .ready .across) (a .in-mesh (x .across) (after v) l (after-side v)))
                 (a .in-mesh (x .across) (before v) l (after-side (after v)));
           };
+          meshed = s .meshed;
           room = omega (arith, s .room, free-less);
           whole = s .whole;
           three = omega (arith, s .three);
@@ -274,7 +278,7 @@ module _ (m : Mesh) (cs : List (List ℤ)) (es : List (List ℕ)) (flags : List 
         slot-eq : {c c′ : List ℤ} {e e′ : List ℕ} → c ≡ c′ → e ≡ e′ → _≡_ {A = Slot} (record { corner = cornerOf c; inside = getD e 0 0; across = getD e 1 0 }) (record { corner = cornerOf c′; inside = getD e′ 0 0; across = getD e′ 1 0 })
         slot-eq f g = λ i. record { corner = cornerOf (f i); inside = getD (g i) 0 0; across = getD (g i) 1 0 }
 
-    push-holds : (seen : List ℕ) (z : Zipper) → Holds cs es flags p seen z → Holds cs′ es′ (set flags (x .across) true) (pushedBy p) seen (pushed x rest u v z)
+    push-holds : (seen : List ℕ) (z : Zipper) → Holds size cs es flags p seen z → Holds size cs′ es′ (set flags (x .across) true) (pushedBy p) seen (pushed x rest u v z)
     unfolding pushed
     push-holds seen z h = record {
       pending = sym push-pending;
@@ -284,20 +288,20 @@ module _ (m : Mesh) (cs : List (List ℤ)) (es : List (List ℕ)) (flags : List 
       taken = subst (Marked (set flags (x .across) true)) (append-assoc seen (z .taken) (x .across ∷ [])) (marked-set flags (seen ++ z .taken) (x .across) (in-mesh across-some) (h .taken));
     }
 
-    push-step : Stepped m cs es flags p cs′ es′ (set flags (x .across) true) (pushedBy p)
+    push-step : Stepped size m cs es flags p cs′ es′ (set flags (x .across) true) (pushedBy p)
     push-step = record {
       sound = push-sound;
       less = omega (arith, free-less);
       kept = omega (arith, free-less);
-      holds = λ seen z h. subst (Holds cs′ es′ (set flags (x .across) true) (pushedBy p) seen) (sym (step-goes seen z h d)) (push-holds seen z h);
+      holds = λ seen z h. subst (Holds size cs′ es′ (set flags (x .across) true) (pushedBy p) seen) (sym (step-goes seen z h d)) (push-holds seen z h);
     }
 
-    pub push-room : p .pending < 1026
+    pub push-room : p .pending < size
     push-room = omega (arith, s .room, s .whole, free-less)
 
   -- ---- the same of the code's numbers: v is the side of the neighbour across that names the triangle inside, far its vertex there
 
-  pub pushed-step : x .across ≡ chosen m flags x r → (x .across ≡ none → ⊥) → {j : ℕ} {far : Pt} {cs2 : List (List ℤ)} {es2 : List (List ℕ)} {p2 : Progress} → j ≡ v → far ≡ vertex u j → cs2 ≡ set cs (p .pending) (pairOf far) → es2 ≡ set (set es (p .pending - 1) (x .across ∷ neighbour u (after j) ∷ [])) (p .pending) (x .across ∷ neighbour u (before j) ∷ []) → p2 ≡ pushedBy p → Stepped m cs es flags p cs2 es2 (set flags (x .across) true) p2
+  pub pushed-step : x .across ≡ chosen m flags x r → (x .across ≡ none → ⊥) → {j : ℕ} {far : Pt} {cs2 : List (List ℤ)} {es2 : List (List ℕ)} {p2 : Progress} → j ≡ v → far ≡ vertex u j → cs2 ≡ set cs (p .pending) (pairOf far) → es2 ≡ set (set es (p .pending - 1) (x .across ∷ neighbour u (after j) ∷ [])) (p .pending) (x .across ∷ neighbour u (before j) ∷ []) → p2 ≡ pushedBy p → Stepped size m cs es flags p cs2 es2 (set flags (x .across) true) p2
   pushed-step q n {j} jv fe ce ee pe =
       let d : chosen m flags x r ≡ none → ⊥ = λ e. n (q ∙ e) in
       stepped-by (ce ∙ ap (λ w. set cs (p .pending) (pairOf w)) (fe ∙ ap (vertex u) jv))

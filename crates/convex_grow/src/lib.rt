@@ -5,7 +5,6 @@ ghost use mathlib.Core.Bool.{false};
 ghost use mathlib.Core.List.{_∷_, []};
 ghost use Prim.Native.Nat.{_-_, _<_, _≤_};
 ghost use lib.ListN.{length, getD, set};
-ghost use Rattle.table.specs.Table.{maxContour};
 ghost use Rattle.plane.specs.Machine.{point};
 ghost use Rattle.mesh.specs.Mesh.{vertex, neighbour, after, before, triangleAt};
 ghost use Rattle.mesh.specs.Rows.{rowTriangle, rowsMesh};
@@ -14,11 +13,10 @@ ghost use Rattle.convex_grow.specs.Growing.{movedBy, pushedBy, Stepped, 
 use convex_ring::Progress;
 use mesh::NIL_INDEX;
 use plane::IntPoint;
-use table::MAX_CONTOUR;
 
 // The top corner is done.
 fn move_top(corners: &mut [[i32; 2]], p: Progress) -> Progress
-    requires { ⌜ (length (now corners) ≡ maxContour) × (0 < p .pending) × (p .pending ≤ p .done) × (p .done ≤ maxContour) ⌝ }
+    requires { ⌜ (0 < p .pending) × (p .pending ≤ p .done) × (p .done ≤ length (now corners)) ⌝ }
     ensures buffer { λ r. ⌜ now (corners .exit) ≡ set (now (corners .entry)) (p .done - 1) (getD (now (corners .entry)) (p .pending - 1) []) ⌝ }
     ensures counts { λ r. ⌜ r ≡ movedBy p ⌝ }
 {
@@ -60,7 +58,7 @@ fn push(
     far: IntPoint,
     p: Progress,
 ) -> Progress
-    requires { ⌜ (length (now corners) ≡ maxContour) × (length (now edges) ≡ maxContour) × (0 < p .pending) × (p .pending < maxContour) × (k < length (now mesh)) × (v < 3) ⌝ }
+    requires { ⌜ (length (now edges) ≡ length (now corners)) × (0 < p .pending) × (p .pending < length (now corners)) × (k < length (now mesh)) × (v < 3) ⌝ }
     ensures buffer { λ r. ⌜ now (corners .exit) ≡ set (now (corners .entry)) (p .pending) (pairOf (point far)) ⌝ }
     ensures both { λ r. ⌜ now (edges .exit) ≡ set (set (now (edges .entry)) (p .pending - 1) (k ∷ neighbour (triangleAt (rowsMesh (now (mesh .entry))) k) (after v) ∷ [])) (p .pending) (k ∷ neighbour (triangleAt (rowsMesh (now (mesh .entry))) k) (before v) ∷ []) ⌝ }
     ensures counts { λ r. ⌜ r ≡ pushedBy p ⌝ }
@@ -87,8 +85,8 @@ fn step(
     taken: &mut [bool],
     p: Progress,
 ) -> Progress
-    requires { ⌜ Sound (rowsMesh (now mesh)) (now corners) (now edges) (now taken) p × (0 < p .pending) ⌝ }
-    ensures { λ r. ⌜ Stepped (rowsMesh (now (mesh .entry))) (now (corners .entry)) (now (edges .entry)) (now (taken .entry)) p (now (corners .exit)) (now (edges .exit)) (now (taken .exit)) r ⌝ }
+    requires { ⌜ Sound (length (now corners)) (rowsMesh (now mesh)) (now corners) (now edges) (now taken) p × (0 < p .pending) ⌝ }
+    ensures { λ r. ⌜ Stepped (length (now (corners .entry))) (rowsMesh (now (mesh .entry))) (now (corners .entry)) (now (edges .entry)) (now (taken .entry)) p (now (corners .exit)) (now (edges .exit)) (now (taken .exit)) r ⌝ }
 {
     let pending = p.pending;
     let edge = edges[pending - 1];
@@ -111,7 +109,7 @@ fn step(
 
 // Vertex i of triangle k as pending corner i, with the edge to the next vertex.
 fn put_vertex(corners: &mut [[i32; 2]], edges: &mut [[usize; 2]], row: [i32; 9], k: usize, i: usize)
-    requires { ⌜ (length (now corners) ≡ maxContour) × (length (now edges) ≡ maxContour) × (i < 3) ⌝ }
+    requires { ⌜ (length (now edges) ≡ length (now corners)) × (3 ≤ length (now corners)) × (i < 3) ⌝ }
     ensures buffer { λ r. ⌜ now (corners .exit) ≡ set (now (corners .entry)) i (pairOf (vertex (rowTriangle row) i)) ⌝ }
     ensures edge { λ r. ⌜ now (edges .exit) ≡ set (now (edges .entry)) i (k ∷ neighbour (rowTriangle row) (before i) ∷ []) ⌝ }
 {
@@ -132,18 +130,19 @@ fn start_region(
     taken: &mut [bool],
     k: usize,
 ) -> Progress
-    requires { ⌜ Ready (rowsMesh (now mesh)) (now corners) (now edges) (now taken) × (k < length (now mesh)) × (getD (now taken) k false ≡ false) ⌝ }
-    ensures { λ r. ⌜ Started (rowsMesh (now (mesh .entry))) k (now (taken .entry)) (now (corners .exit)) (now (edges .exit)) (now (taken .exit)) r ⌝ }
+    requires { ⌜ Ready (length (now corners)) (rowsMesh (now mesh)) (now corners) (now edges) (now taken) × (k < length (now mesh)) × (getD (now taken) k false ≡ false) ⌝ }
+    ensures { λ r. ⌜ Started (length (now (corners .entry))) (rowsMesh (now (mesh .entry))) k (now (taken .entry)) (now (corners .exit)) (now (edges .exit)) (now (taken .exit)) r ⌝ }
 {
     let row = mesh[k];
+    let size = corners.len();
     put_vertex(corners, edges, row, k, 0);
     put_vertex(corners, edges, row, k, 1);
     put_vertex(corners, edges, row, k, 2);
     taken[k] = true;
     Progress {
         pending: 3,
-        done: MAX_CONTOUR,
-        last: MAX_CONTOUR,
+        done: size,
+        last: size,
         fresh: true,
     }
 }
@@ -156,8 +155,8 @@ fn run(
     taken: &mut [bool],
     from: Progress,
 ) -> Progress
-    requires { ⌜ Sound (rowsMesh (now mesh)) (now corners) (now edges) (now taken) from ⌝ }
-    ensures { λ r. ⌜ Ran (rowsMesh (now (mesh .entry))) (now (corners .entry)) (now (edges .entry)) (now (taken .entry)) from (now (corners .exit)) (now (edges .exit)) (now (taken .exit)) r ⌝ }
+    requires { ⌜ Sound (length (now corners)) (rowsMesh (now mesh)) (now corners) (now edges) (now taken) from ⌝ }
+    ensures { λ r. ⌜ Ran (length (now (corners .entry))) (rowsMesh (now (mesh .entry))) (now (corners .entry)) (now (edges .entry)) (now (taken .entry)) from (now (corners .exit)) (now (edges .exit)) (now (taken .exit)) r ⌝ }
 {
     let mut p = from;
     while p.pending > 0 {
@@ -174,8 +173,8 @@ pub fn grow(
     taken: &mut [bool],
     k: usize,
 ) -> Progress
-    requires { ⌜ Ready (rowsMesh (now mesh)) (now corners) (now edges) (now taken) × (k < length (now mesh)) × (getD (now taken) k false ≡ false) ⌝ }
-    ensures { λ r. ⌜ Grown (rowsMesh (now (mesh .entry))) k (now (taken .entry)) (now (corners .exit)) (now (edges .exit)) (now (taken .exit)) r ⌝ }
+    requires { ⌜ Ready (length (now corners)) (rowsMesh (now mesh)) (now corners) (now edges) (now taken) × (k < length (now mesh)) × (getD (now taken) k false ≡ false) ⌝ }
+    ensures { λ r. ⌜ Grown (length (now (corners .entry))) (rowsMesh (now (mesh .entry))) k (now (taken .entry)) (now (corners .exit)) (now (edges .exit)) (now (taken .exit)) r ⌝ }
 {
     let p = start_region(mesh, corners, edges, taken, k);
     run(mesh, corners, edges, taken, p)

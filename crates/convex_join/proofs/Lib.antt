@@ -1,2 +1,2 @@
--- All regions gathered.
-pub mod Regions
+-- Parts that are gathered, answered.
+pub mod Answer

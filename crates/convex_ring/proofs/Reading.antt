@@ -110,18 +110,17 @@ module _ (cs : List (List ℤ)) where
 -- ---- what `Around` gives
 
 module _ (cs : List (List ℤ)) (n d : ℕ) (a : Around cs n d) where
-  pub around-near : (i : ℕ) → d + i < 1026 → getD (around cs n d) i O ≡ cornerAt cs (d + i)
-  around-near i h = around-at cs n d i (omega (arith, a .size))
+  pub around-near : (i : ℕ) → d + i < length cs → getD (around cs n d) i O ≡ cornerAt cs (d + i)
+  around-near i h = around-at cs n d i h
 
-  pub around-far : (i : ℕ) → i < 2 → 1026 ≤ d + i → getD (around cs n d) i O ≡ cornerAt cs (d + i - 1026)
-  around-far i h k = around-past cs n d i (d + i - 1026) (omega (arith, a .size, a .whole)) (omega (arith, a .size)) (omega (arith, a .three))
+  pub around-far : (i : ℕ) → i < 2 → length cs ≤ d + i → getD (around cs n d) i O ≡ cornerAt cs (d + i - length cs)
+  around-far i h k = around-past cs n d i (d + i - length cs) (a .whole) (omega arith) (omega (arith, a .three))
 
   pub around-below : 1 < n → getD (around cs n d) (length (around cs n d) - 1) O ≡ cornerAt cs (n - 2)
-  around-below h = around-end-pending cs n d h (omega (arith, a .size, a .room, a .whole)) (omega (arith, a .size, a .whole))
+  around-below h = around-end-pending cs n d h (omega (arith, a .room, a .whole)) (a .whole)
 
-  pub around-back : n ≤ 1 → getD (around cs n d) (length (around cs n d) - 1) O ≡ cornerAt cs 1025
-  around-back h =
-      around-end-done cs n d (omega (arith, a .some)) (omega (arith, a .size, a .room, a .whole)) (omega (arith, a .size, a .three)) ∙ ap (cornerAt cs) (omega (arith, a .size))
+  pub around-back : n ≤ 1 → getD (around cs n d) (length (around cs n d) - 1) O ≡ cornerAt cs (length cs - 1)
+  around-back h = around-end-done cs n d (omega (arith, a .some)) (omega (arith, a .room, a .whole)) (omega (arith, a .three))
 
 pub on-grid-of : (p : IntPoint) {q : Pt} → point p ≡ q → onGrid q ≡ true → OnGrid p
 on-grid-of p e h = let b = on-grid-both (point p) (ap onGrid e ∙ h) in record { x-small = b .0; y-small = b .1 }
@@ -130,5 +129,5 @@ on-grid-of p e h = let b = on-grid-both (point p) (ap onGrid e ∙ h) in record 
 pub side-below : {j : ℕ} (t : List ℤ) (k : ℕ) → j ≡ opposite (rowTriangle t) k → j < 3
 side-below t k e = omega (arith, e, opposite-side (rowTriangle t) k)
 
-pub around-of : (m : Mesh) (cs : List (List ℤ)) (es : List (List ℕ)) (flags : List Bool) (p : Progress) → Sound m cs es flags p → 0 < p .pending → Around cs (p .pending) (p .done)
-around-of m cs es flags p s some = record { size = s .ready .corners; some = some; room = omega (arith, s .room); whole = s .whole; three = s .three; grid = s .ready .grid }
+pub around-of : (size : ℕ) (m : Mesh) (cs : List (List ℤ)) (es : List (List ℕ)) (flags : List Bool) (p : Progress) → Sound size m cs es flags p → 0 < p .pending → Around cs (p .pending) (p .done)
+around-of size m cs es flags p s some = record { some = some; room = omega (arith, s .room); whole = omega (arith, s .whole, s .ready .corners); three = omega (arith, s .three, s .ready .corners); grid = s .ready .grid }

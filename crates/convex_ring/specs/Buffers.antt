@@ -5,7 +5,6 @@ use mathlib.Core.List.{List, [], _∷_, _++_, map}
 use Prim.Native.Nat.{ℕ, zero, suc, _+_, _-_, _≤_, _<_}
 use lib.ListN.{length, getD, take, drop}
 use lib.IntN.{ℤ}
-use Rattle.table.specs.Table.{maxContour}
 use Rattle.integers.specs.Faults.{firstFault}
 use Rattle.plane.specs.Plane.{Pt, onGrid}
 use Rattle.mesh.specs.Mesh.{Mesh, none, meshKinds}
@@ -58,41 +57,43 @@ pub record Grid (cs : List (List ℤ)) : Type 0 where
 
 -- what reading round the contour asks: n pending, from d on done, at least three in all
 pub record Around (cs : List (List ℤ)) (n d : ℕ) : Type 0 where
-  pub size : length cs ≡ maxContour
   pub some : 0 < n
   pub room : n ≤ d
-  pub whole : d ≤ maxContour
-  pub three : 3 + d ≤ n + maxContour
+  pub whole : d ≤ length cs
+  pub three : 3 + d ≤ n + length cs
   pub grid : Grid cs
 
--- ---- the buffers with their counts are a zipper
+-- ---- the buffers, of `size` places each, with their counts are a zipper
 
-pub record Holds (cs : List (List ℤ)) (es : List (List ℕ)) (flags : List Bool) (p : Progress) (seen : List ℕ) (z : Zipper) : Type 0 where
+pub record Holds (size : ℕ) (cs : List (List ℤ)) (es : List (List ℕ)) (flags : List Bool) (p : Progress) (seen : List ℕ) (z : Zipper) : Type 0 where
   pub pending : z .pending ≡ pendingOf cs es (p .pending)
   pub done : z .done ≡ doneOf cs (p .done)
   pub fresh : z .fresh ≡ p .fresh
-  pub last : z .last + p .last ≡ maxContour
+  pub last : z .last + p .last ≡ size
   pub taken : Marked flags (seen ++ z .taken)
 
--- what a region's work asks of the buffers: an accepted mesh, and every entry on the grid and in the mesh, used or not
-pub record Ready (m : Mesh) (cs : List (List ℤ)) (es : List (List ℕ)) (flags : List Bool) : Type 0 where
+-- what a region's work asks of the buffers: an accepted mesh and two places more than it has triangles, for a region has at most two corners more than
+-- triangles; and every entry on the grid and in the mesh, used or not
+pub record Ready (size : ℕ) (m : Mesh) (cs : List (List ℤ)) (es : List (List ℕ)) (flags : List Bool) : Type 0 where
   pub accepted : firstFault (meshKinds m) ≡ 0
-  pub corners : length cs ≡ maxContour
-  pub edges : length es ≡ maxContour
+  pub enough : length m + 2 ≤ size
+  pub corners : length cs ≡ size
+  pub edges : length es ≡ size
   pub marks : length flags ≡ length m
   pub grid : Grid cs
-  pub across : (i : ℕ) → i < maxContour → (acrossAt es i ≡ none → ⊥) → acrossAt es i < length m
+  pub across : (i : ℕ) → i < size → 0 < length m → (acrossAt es i ≡ none → ⊥) → acrossAt es i < length m
 
 -- and of the counts: each triangle not taken has a place between those pending and those done; the last corner added, once done, has its own, and is
 -- done where nothing is pending
-pub record Sound (m : Mesh) (cs : List (List ℤ)) (es : List (List ℕ)) (flags : List Bool) (p : Progress) : Type 0 where
-  pub ready : Ready m cs es flags
+pub record Sound (size : ℕ) (m : Mesh) (cs : List (List ℤ)) (es : List (List ℕ)) (flags : List Bool) (p : Progress) : Type 0 where
+  pub ready : Ready size m cs es flags
+  pub meshed : 0 < length m
   pub room : p .pending + free flags ≤ p .done
-  pub whole : p .done ≤ maxContour
-  pub three : 3 + p .done ≤ p .pending + maxContour
+  pub whole : p .done ≤ size
+  pub three : 3 + p .done ≤ p .pending + size
   pub placed : p .done ≤ p .last
-  pub ended : p .last ≤ maxContour
-  pub settled : p .fresh ≡ false → p .last < maxContour
+  pub ended : p .last ≤ size
+  pub settled : p .fresh ≡ false → p .last < size
   pub rested : p .pending ≡ 0 → p .fresh ≡ false
 
 -- ---- round the contour

@@ -1,6 +1,6 @@
 // A region's contour while it grows, in one buffer: pending corners from the front, each with its outgoing edge, done corners from the back
 // (specs/Buffers.antt; convex/specs/Zipper.antt says why this is the paper's contour). Here it is read: the corners round the edge on top, and
-// whether a point joins there (`joins_over`). Leans on plane, table (the limit) and convex's definitions.
+// whether a point joins there (`joins_over`). The buffer is as long as its lender made it. Leans on plane and convex's definitions.
 ghost use mathlib.Core.Path.{_≡_};
 ghost use Prim.Native.Nat.{_-_, _<_};
 ghost use lib.ListN.{length, getD, set};
@@ -9,7 +9,6 @@ ghost use Rattle.plane.specs.Machine.{point, OnGrid};
 ghost use Rattle.convex.specs.Joining.{joins};
 ghost use Rattle.convex_ring.specs.Buffers.{cornerAt, pairOf, Grid, Around, around};
 use plane::IntPoint;
-use table::MAX_CONTOUR;
 
 // Where a region stands: how many corners are pending, where the done ones begin, where the last corner added stands among them, and whether
 // it is still pending.
@@ -45,10 +44,10 @@ fn ring_at(corners: &[[i32; 2]], pending: usize, done: usize, i: usize) -> IntPo
     requires { ⌜ Around (now corners) pending done × (i < 2) ⌝ }
     ensures { λ r. ⌜ (point r ≡ getD (around (now (corners .entry)) pending done) i O) × OnGrid r ⌝ }
 {
-    if done + i < MAX_CONTOUR {
+    if done + i < corners.len() {
         return corner_at(corners, done + i);
     }
-    corner_at(corners, done + i - MAX_CONTOUR)
+    corner_at(corners, done + i - corners.len())
 }
 
 // The corner before the top one, round the contour.
@@ -59,7 +58,7 @@ fn ring_end(corners: &[[i32; 2]], pending: usize, done: usize) -> IntPoint
     if pending > 1 {
         return corner_at(corners, pending - 2);
     }
-    corner_at(corners, MAX_CONTOUR - 1)
+    corner_at(corners, corners.len() - 1)
 }
 
 // Whether the point p joins after the top corner.

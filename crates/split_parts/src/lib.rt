@@ -1,6 +1,6 @@
 // Joining with parts past a corner limit split (advanced/convex.rs): `to_convex_polygons_with_max_vertices`, with no `requires`. Its answer and both lent
 // buffers equal `splitCounts`, `splitStarts` and `splitCorners` of split/specs/Splitting.antt. The joined parts are gathered, each is split into
-// further buffers, and all are handed out once there is room. Leans on convex_join, split_contour and convex_gather.
+// further buffers, and all are handed out once there is room. Leans on convex_regions, split_contour and convex_gather.
 ghost use mathlib.Core.Path.{_≡_};
 ghost use Prim.Native.Nat.{_+_, _<_, _≤_, max};
 ghost use lib.ListN.{length, getD};
@@ -91,7 +91,7 @@ pub fn to_convex_polygons_with_max_vertices(
     }
     let mut begins = [0u32; mesh::MAX_TRIANGLES + 1];
     let mut joined = [[0i32; 2]; 3 * mesh::MAX_TRIANGLES];
-    let u = convex_join::gather(mesh, &mut begins, &mut joined);
+    let u = convex_regions::gather(mesh, &mut begins, &mut joined);
     let mut split_begins = [0u32; table::MAX_PARTS + 1];
     let mut points = [[0i32; 2]; 6 * mesh::MAX_TRIANGLES];
     let t = split_all(

@@ -9,28 +9,28 @@ use Rattle.convex_contour.proofs.append_contour.Statement.{statement}
 use Rattle.convex_contour.proofs.append_contour.Tie as tie
 
 abbrev Inv-loop : tie.InvT-loop
-Inv-loop corners p points₀ from size place₀ a₀ b₀ count₀ i₀ points place a b count i = Keeping (contourAt corners p) points₀ from points count i × (Sliding (contourAt corners p) i a b × (place ≡ placeAt p i))
+Inv-loop corners p points₀ from end size place₀ a₀ b₀ count₀ i₀ points place a b count i = Keeping (contourAt corners p) points₀ from points count i × (Sliding (contourAt corners p) i a b × (place ≡ placeAt (length corners) p i))
 
 abbrev μ-loop : tie.MeasureT-loop
-μ-loop corners p points₀ from size place₀ a₀ b₀ count₀ i₀ points place a b count i = size - i
+μ-loop corners p points₀ from end size place₀ a₀ b₀ count₀ i₀ points place a b count i = size - i
 
 sub-size : tie.Need-sub-size Inv-loop μ-loop
 sub-size c = omega (arith, c .before .pre .0 .some)
 
 place-before-requires : tie.Need-place-before-requires Inv-loop μ-loop
-place-before-requires c κs = tt
+place-before-requires c κs = omega (arith, c .before .pre .0 .some)
 
 corner-at-requires : tie.Need-corner-at-requires Inv-loop μ-loop
 corner-at-requires c κs =
     let s = c .before .before in
     let g = s .args in
-    (omega (arith, before-below (g .corners .now) (g .p) (s .pre .0) (c .place-before .ensures), (s .pre .0) .size), (s .pre .0) .grid)
+    (omega (arith, before-below (g .corners .now) (g .p) (s .pre .0) (c .place-before .ensures)), (s .pre .0) .grid)
 
 corner-at-requires-2 : tie.Need-corner-at-requires-2 Inv-loop μ-loop
 corner-at-requires-2 c κs =
     let s = c .before .before .before in
     let g = s .args in
-    (omega (arith, (s .pre .0) .ended, (s .pre .0) .size), (s .pre .0) .grid)
+    (omega (arith, (s .pre .0) .ended), (s .pre .0) .grid)
 
 loop-holds : tie.Need-loop-holds Inv-loop μ-loop
 loop-holds c =
@@ -48,7 +48,7 @@ corner-at-requires-3 : tie.Need-corner-at-requires-3 Inv-loop μ-loop
 corner-at-requires-3 c κs =
     let s = c .before .before .before .before .before .before .before in
     let g = s .args in
-    (omega (arith, (place-next (g .corners .now) (g .p) (s .pre .0) (c .before .before .loop .i) (omega (arith, c .before .loop-test .taken, (s .pre .0) .some)) (c .before .before .loop .inv .1 .1) (c .place-after .ensures)), place-below (g .corners .now) (g .p) (s .pre .0) (c .before .before .loop .i + 1) (omega (arith, c .before .loop-test .taken, (s .pre .0) .some)), (s .pre .0) .size), (s .pre .0) .grid)
+    (omega (arith, (place-next (g .corners .now) (g .p) (s .pre .0) (c .before .before .loop .i) (omega (arith, c .before .loop-test .taken, (s .pre .0) .some)) (c .before .before .loop .inv .1 .1) (c .place-after .ensures)), place-below (g .corners .now) (g .p) (s .pre .0) (c .before .before .loop .i + 1) (omega (arith, c .before .loop-test .taken, (s .pre .0) .some))), (s .pre .0) .grid)
 
 append-corner-requires : tie.Need-append-corner-requires Inv-loop μ-loop
 append-corner-requires c κs =

@@ -10,11 +10,11 @@ add-next c = search needs
 
 returns : tie.Need-returns
 unfolding placeAfter
-returns c = rw (eq-eqb _ 1026 (c .if1 .taken))
+returns c = rw (eq-eqb _ _ (c .if1 .taken))
 
 returns-2 : tie.Need-returns-2
 unfolding placeAfter
-returns-2 c = rw (ne-eqb _ 1026 (c .if1 .left))
+returns-2 c = rw (ne-eqb _ _ (c .if1 .left))
 
 pub place-after-spec : {M : Type 1} → statement M
 place-after-spec = tie.close (tie.spec add-next returns returns-2)

@@ -1,7 +1,8 @@
 -- `convex_grow::grow` meets its contract: `grown` of Growth. Assumes nothing.
 use borrow.Author.Needs.{needs}
+use lib.ListN.{length}
 use Rattle.mesh.specs.Rows.{rowsMesh}
-use Rattle.convex_grow.proofs.Growth.{grown}
+use Rattle.convex_grow.proofs.Growth.{sound-here, grown}
 use Rattle.convex_grow.proofs.grow.Statement.{statement}
 use Rattle.convex_grow.proofs.grow.Tie as tie
 
@@ -9,7 +10,7 @@ start-region-requires : tie.Need-start-region-requires
 start-region-requires c κs = search needs
 
 run-requires : tie.Need-run-requires
-run-requires c κs = search needs
+run-requires c κs = sound-here (c .before .before .before .before .before .before .before .start-region .ensures .sound)
 
 same-length : tie.Need-same-length
 same-length c = search needs
@@ -21,7 +22,7 @@ same-length-3 : tie.Need-same-length-3
 same-length-3 c = search needs
 
 returns : tie.Need-returns
-returns c = let g = c .before .before .before .before .before .before .before .before .before .before .before .before .before .before .before .before .before .args in grown (rowsMesh (g .mesh .now)) (g .k) (g .taken .now) (c .before .before .before .before .before .before .before .before .before .before .before .before .start-region .ensures) (c .before .before .before .before .run .ensures)
+returns c = let g = c .before .before .before .before .before .before .before .before .before .before .before .before .before .before .before .before .before .args in grown (length (g .corners .now)) (rowsMesh (g .mesh .now)) (g .k) (g .taken .now) (c .before .before .before .before .before .before .before .before .before .before .before .before .start-region .ensures) (c .before .before .before .before .run .ensures)
 
 pub grow-spec : {M : Type 1} → statement M
 grow-spec =

@@ -1,23 +1,24 @@
 -- `convex_grow::run` meets its contract: the invariant is `Going` of Growth. Assumes nothing.
 use Prim.Native.Nat.{_+_, _*_}
 use native.Mathlib.Omega.{arith}
+use lib.ListN.{length}
 use Rattle.mesh.specs.Rows.{rowsMesh}
 use Rattle.convex_ring.specs.Buffers.{free}
-use Rattle.convex_grow.proofs.Growth.{Going, going-start, going-turn, going-end}
+use Rattle.convex_grow.proofs.Growth.{sound-here, Going, going-start, going-turn, going-end}
 use Rattle.convex_grow.proofs.run.Statement.{statement}
 use Rattle.convex_grow.proofs.run.Tie as tie
 
 abbrev Inv-loop : tie.InvT-loop
-Inv-loop mesh corners₀ edges₀ taken₀ p₀ corners edges taken p = Going (rowsMesh mesh) corners₀ edges₀ taken₀ p₀ corners edges taken p
+Inv-loop mesh corners₀ edges₀ taken₀ p₀ corners edges taken p = Going (length corners₀) (rowsMesh mesh) corners₀ edges₀ taken₀ p₀ corners edges taken p
 
 abbrev μ-loop : tie.MeasureT-loop
 μ-loop mesh corners₀ edges₀ taken₀ p₀ corners edges taken p = p .pending + 2 * free taken
 
 loop-holds : tie.Need-loop-holds Inv-loop μ-loop
-loop-holds c = let g = c .before .args in going-start (rowsMesh (g .mesh .now)) (g .corners .now) (g .edges .now) (g .taken .now) (g .from) (c .before .pre)
+loop-holds c = let g = c .before .args in going-start (length (g .corners .now)) (rowsMesh (g .mesh .now)) (g .corners .now) (g .edges .now) (g .taken .now) (g .from) (c .before .pre)
 
 step-requires : tie.Need-step-requires Inv-loop μ-loop
-step-requires c κs = (c .before .before .before .before .before .loop .inv .sound, c .before .before .before .if1 .taken)
+step-requires c κs = (sound-here (c .before .before .before .before .before .loop .inv .sound), c .before .before .before .if1 .taken)
 
 loop-less : tie.Need-loop-less Inv-loop μ-loop
 loop-less c = c .before .before .before .before .step .ensures .less
@@ -25,7 +26,7 @@ loop-less c = c .before .before .before .before .step .ensures .less
 loop-again : tie.Need-loop-again Inv-loop μ-loop
 loop-again c =
     let g = c .before .before .before .before .before .before .before .before .before .before .before .before .args in
-    going-turn (rowsMesh (g .mesh .now)) (g .corners .now) (g .edges .now) (g .taken .now) (g .from) (c .before .before .before .before .before .before .before .before .if1 .taken) (c .before .before .before .before .before .before .before .before .before .before .loop .inv) (c .before .before .before .before .step .ensures)
+    going-turn (length (g .corners .now)) (rowsMesh (g .mesh .now)) (g .corners .now) (g .edges .now) (g .taken .now) (g .from) (c .before .before .before .before .before .before .before .before .if1 .taken) (c .before .before .before .before .before .before .before .before .before .before .loop .inv) (c .before .before .before .before .step .ensures)
 
 same-length : tie.Need-same-length Inv-loop μ-loop
 same-length c = omega (arith, c .before .before .loop .inv .sound .ready .corners, c .before .before .before .before .pre .ready .corners)
@@ -39,7 +40,7 @@ same-length-3 c = omega (arith, c .before .before .loop .inv .sound .ready .mark
 returns : tie.Need-returns Inv-loop μ-loop
 returns c =
     let g = c .before .before .before .before .args in
-    going-end (rowsMesh (g .mesh .now)) (g .corners .now) (g .edges .now) (g .taken .now) (g .from) (omega (arith, c .if1 .left)) (c .before .before .loop .inv)
+    going-end (length (g .corners .now)) (rowsMesh (g .mesh .now)) (g .corners .now) (g .edges .now) (g .taken .now) (g .from) (omega (arith, c .if1 .left)) (c .before .before .loop .inv)
 
 pub run-spec : {M : Type 1} → statement M
 run-spec =

@@ -1,7 +1,7 @@
 -- `convex_grow::start_region` meets its contract: `started-by` of Growth. Assumes nothing.
 use borrow.Author.Needs.{needs}
 use mathlib.Core.Path.{sym}
-use Prim.Native.Nat.{_<_}
+use Prim.Native.Nat.{_<_, _≤_}
 use native.Mathlib.Omega.{arith}
 use lib.ListN.{length}
 use Rattle.mesh.specs.Rows.{rowsMesh}
@@ -17,13 +17,22 @@ shared-slice-copy-out-row : tie.Need-shared-slice-copy-out-row
 shared-slice-copy-out-row c = search needs
 
 put-vertex-requires : tie.Need-put-vertex-requires
-put-vertex-requires c κs = search needs
+put-vertex-requires c κs =
+    let s = c .before .before .before .before in
+    let h : 3 ≤ length (s .args .corners .now) = omega (arith, s .pre .0 .enough, s .pre .1, length-rows (s .args .mesh .now)) in
+    search needs
 
 put-vertex-requires-2 : tie.Need-put-vertex-requires-2
-put-vertex-requires-2 c κs = search needs
+put-vertex-requires-2 c κs =
+    let s = c .before .before .before .before .before .before .before .before .before in
+    let h : 3 ≤ length (s .args .corners .now) = omega (arith, s .pre .0 .enough, s .pre .1, length-rows (s .args .mesh .now)) in
+    search needs
 
 put-vertex-requires-3 : tie.Need-put-vertex-requires-3
-put-vertex-requires-3 c κs = search needs
+put-vertex-requires-3 c κs =
+    let s = c .before .before .before .before .before .before .before .before .before .before .before .before .before .before in
+    let h : 3 ≤ length (s .args .corners .now) = omega (arith, s .pre .0 .enough, s .pre .1, length-rows (s .args .mesh .now)) in
+    search needs
 
 slice-write-taken : tie.Need-slice-write-taken
 slice-write-taken c =
@@ -47,7 +56,7 @@ returns c =
     let a = c .before .before .before .before .before .before .before .before .before .before .before .before .put-vertex .ensures in
     let d = c .before .before .before .before .before .before .before .put-vertex2 .ensures in
     let e = c .before .before .put-vertex3 .ensures in
-    started-by (rowsMesh (g .mesh .now)) (g .corners .now) (g .edges .now) (g .taken .now) (g .k) (s .pre .0) l (s .pre .2) (sym (triangle-row (g .mesh .now) (g .k) (s .pre .1))) (a .0) (d .0) (e .0) (a .1) (d .1) (e .1)
+    started-by (length (g .corners .now)) (rowsMesh (g .mesh .now)) (g .corners .now) (g .edges .now) (g .taken .now) (g .k) (s .pre .0) l (s .pre .2) (sym (triangle-row (g .mesh .now) (g .k) (s .pre .1))) (a .0) (d .0) (e .0) (a .1) (d .1) (e .1)
 
 pub start-region-spec : {M : Type 1} → statement M
 start-region-spec =

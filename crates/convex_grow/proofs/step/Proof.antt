@@ -1,6 +1,7 @@
 -- `convex_grow::step` meets its contract: what is across by Choice, `moved-step` and `pushed-step` of Steps. Assumes nothing.
 use borrow.Author.Needs.{needs}
 use mathlib.Core.Path.{refl, _∙_}
+use lib.ListN.{length}
 use Rattle.mesh.specs.Rows.{rowsMesh}
 use Rattle.convex_ring.proofs.Reading.{side-below, around-of}
 use Rattle.convex_grow.proofs.Choice.{nothing, in-rows, in-flags, skipped, far-side, far-grid, joined, apart}
@@ -33,13 +34,13 @@ returns : tie.Need-returns
 returns c =
     let s = c .before .before .before .before .before .before in
     let g = s .args in
-    stepped-by (c .before .move-top .ensures .0) refl refl (c .before .move-top .ensures .1) (moved-step (rowsMesh (g .mesh .now)) (g .corners .now) (g .edges .now) (g .taken .now) (g .p) (s .pre .0) (s .pre .1) (nothing (g .mesh .now) (g .corners .now) (g .edges .now) (g .taken .now) (g .p) (s .pre .0) (c .before .before .before .if1 .taken)))
+    stepped-by (c .before .move-top .ensures .0) refl refl (c .before .move-top .ensures .1) (moved-step (length (g .corners .now)) (rowsMesh (g .mesh .now)) (g .corners .now) (g .edges .now) (g .taken .now) (g .p) (s .pre .0) (s .pre .1) (nothing (length (g .corners .now)) (g .mesh .now) (g .corners .now) (g .edges .now) (g .taken .now) (g .p) (s .pre .0) (c .before .before .before .if1 .taken)))
 
 slice-read-if2 : tie.Need-slice-read-if2
 slice-read-if2 c =
     let s = c .before .before .before .before in
     let g = s .args in
-    in-flags (g .mesh .now) (g .corners .now) (g .edges .now) (g .taken .now) (g .p) (s .pre .0) (c .before .if1 .left)
+    in-flags (length (g .corners .now)) (g .mesh .now) (g .corners .now) (g .edges .now) (g .taken .now) (g .p) (s .pre .0) (c .before .if1 .left)
 
 move-top-requires-2 : tie.Need-move-top-requires-2
 move-top-requires-2 c κs = search needs
@@ -51,20 +52,20 @@ returns-2 : tie.Need-returns-2
 returns-2 c =
     let s = c .before .before .before .before .before .before .before .before in
     let g = s .args in
-    stepped-by (c .before .move-top2 .ensures .0) refl refl (c .before .move-top2 .ensures .1) (moved-step (rowsMesh (g .mesh .now)) (g .corners .now) (g .edges .now) (g .taken .now) (g .p) (s .pre .0) (s .pre .1) (skipped (g .mesh .now) (g .corners .now) (g .edges .now) (g .taken .now) (g .p) (s .pre .0) (c .before .before .before .before .before .if1 .left) (c .before .before .before .if2 .taken)))
+    stepped-by (c .before .move-top2 .ensures .0) refl refl (c .before .move-top2 .ensures .1) (moved-step (length (g .corners .now)) (rowsMesh (g .mesh .now)) (g .corners .now) (g .edges .now) (g .taken .now) (g .p) (s .pre .0) (s .pre .1) (skipped (length (g .corners .now)) (g .mesh .now) (g .corners .now) (g .edges .now) (g .taken .now) (g .p) (s .pre .0) (c .before .before .before .before .before .if1 .left) (c .before .before .before .if2 .taken)))
 
 mul-opposite-of : tie.Need-mul-opposite-of
 mul-opposite-of c =
     let s = c .before .before .before .before .before in
     let g = s .args in
-    let h = in-rows (g .mesh .now) (g .corners .now) (g .edges .now) (g .taken .now) (g .p) (s .pre .0) (c .before .before .if1 .left) in
+    let h = in-rows (length (g .corners .now)) (g .mesh .now) (g .corners .now) (g .edges .now) (g .taken .now) (g .p) (s .pre .0) (c .before .before .if1 .left) in
     search needs
 
 shared-slice-copy-out-opposite-of : tie.Need-shared-slice-copy-out-opposite-of
 shared-slice-copy-out-opposite-of c =
     let s = c .before .before .before .before .before in
     let g = s .args in
-    in-rows (g .mesh .now) (g .corners .now) (g .edges .now) (g .taken .now) (g .p) (s .pre .0) (c .before .before .if1 .left)
+    in-rows (length (g .corners .now)) (g .mesh .now) (g .corners .now) (g .edges .now) (g .taken .now) (g .p) (s .pre .0) (c .before .before .if1 .left)
 
 opposite-of-requires : tie.Need-opposite-of-requires
 opposite-of-requires c κs = search needs
@@ -73,26 +74,26 @@ vertex-at-requires : tie.Need-vertex-at-requires
 vertex-at-requires c κs =
     let s = c .before .before .before .before .before .before .before in
     let g = s .args in
-    (in-rows (g .mesh .now) (g .corners .now) (g .edges .now) (g .taken .now) (g .p) (s .pre .0) (c .before .before .before .before .if1 .left), side-below _ _ (c .opposite-of .ensures))
+    (in-rows (length (g .corners .now)) (g .mesh .now) (g .corners .now) (g .edges .now) (g .taken .now) (g .p) (s .pre .0) (c .before .before .before .before .if1 .left), side-below _ _ (c .opposite-of .ensures))
 
 joins-over-requires : tie.Need-joins-over-requires
 joins-over-requires c κs =
     let s = c .before .before .before .before .before .before .before .before .before in
     let g = s .args in
-    (around-of (rowsMesh (g .mesh .now)) (g .corners .now) (g .edges .now) (g .taken .now) (g .p) (s .pre .0) (s .pre .1), far-grid (g .mesh .now) (g .corners .now) (g .edges .now) (g .taken .now) (g .p) (s .pre .0) (c .before .before .before .before .before .before .if1 .left) (c .before .before .opposite-of .ensures) (c .before .vertex-at .ensures))
+    (around-of (length (g .corners .now)) (rowsMesh (g .mesh .now)) (g .corners .now) (g .edges .now) (g .taken .now) (g .p) (s .pre .0) (s .pre .1), far-grid (length (g .corners .now)) (g .mesh .now) (g .corners .now) (g .edges .now) (g .taken .now) (g .p) (s .pre .0) (c .before .before .before .before .before .before .if1 .left) (c .before .before .opposite-of .ensures) (c .before .vertex-at .ensures))
 
 slice-write-taken : tie.Need-slice-write-taken
 slice-write-taken c =
     let s = c .before .before .before .before .before .before .before .before .before .before .before in
     let g = s .args in
-    in-flags (g .mesh .now) (g .corners .now) (g .edges .now) (g .taken .now) (g .p) (s .pre .0) (c .before .before .before .before .before .before .before .before .if1 .left)
+    in-flags (length (g .corners .now)) (g .mesh .now) (g .corners .now) (g .edges .now) (g .taken .now) (g .p) (s .pre .0) (c .before .before .before .before .before .before .before .before .if1 .left)
 
 push-requires : tie.Need-push-requires
 push-requires c κs =
     let s = c .before .before .before .before .before .before .before .before .before .before .before .before .before in
     let g = s .args in
     let n = c .before .before .before .before .before .before .before .before .before .before .if1 .left in
-    (s .pre .0 .ready .corners, s .pre .0 .ready .edges, s .pre .1, push-room (rowsMesh (g .mesh .now)) (g .corners .now) (g .edges .now) (g .taken .now) (g .p) (s .pre .0) (s .pre .1) (λ e. n (joined (g .mesh .now) (g .corners .now) (g .edges .now) (g .taken .now) (g .p) (s .pre .0) (c .before .before .before .before .before .before .before .before .before .before .if1 .left) (c .before .before .before .before .before .before .opposite-of .ensures) (c .before .before .before .before .before .vertex-at .ensures) (c .before .before .before .before .before .before .before .before .if2 .left) (c .before .before .before .joins-over .ensures) (c .before .before .if3 .taken) ∙ e)), in-rows (g .mesh .now) (g .corners .now) (g .edges .now) (g .taken .now) (g .p) (s .pre .0) n, side-below _ _ (c .before .before .before .before .before .before .opposite-of .ensures))
+    (s .pre .0 .ready .edges, s .pre .1, push-room (length (g .corners .now)) (rowsMesh (g .mesh .now)) (g .corners .now) (g .edges .now) (g .taken .now) (g .p) (s .pre .0) (s .pre .1) (λ e. n (joined (length (g .corners .now)) (g .mesh .now) (g .corners .now) (g .edges .now) (g .taken .now) (g .p) (s .pre .0) (c .before .before .before .before .before .before .before .before .before .before .if1 .left) (c .before .before .before .before .before .before .opposite-of .ensures) (c .before .before .before .before .before .vertex-at .ensures) (c .before .before .before .before .before .before .before .before .if2 .left) (c .before .before .before .joins-over .ensures) (c .before .before .if3 .taken) ∙ e)), in-rows (length (g .corners .now)) (g .mesh .now) (g .corners .now) (g .edges .now) (g .taken .now) (g .p) (s .pre .0) n, side-below _ _ (c .before .before .before .before .before .before .opposite-of .ensures))
 
 same-length-3 : tie.Need-same-length-3
 same-length-3 c = search needs
@@ -107,7 +108,7 @@ returns-3 : tie.Need-returns-3
 returns-3 c =
     let s = c .before .before .before .before .before .before .before .before .before .before .before .before .before .before .before .before in
     let g = s .args in
-    pushed-step (rowsMesh (g .mesh .now)) (g .corners .now) (g .edges .now) (g .taken .now) (g .p) (s .pre .0) (s .pre .1) (joined (g .mesh .now) (g .corners .now) (g .edges .now) (g .taken .now) (g .p) (s .pre .0) (c .before .before .before .before .before .before .before .before .before .before .before .before .before .if1 .left) (c .before .before .before .before .before .before .before .before .before .opposite-of .ensures) (c .before .before .before .before .before .before .before .before .vertex-at .ensures) (c .before .before .before .before .before .before .before .before .before .before .before .if2 .left) (c .before .before .before .before .before .before .joins-over .ensures) (c .before .before .before .before .before .if3 .taken)) (c .before .before .before .before .before .before .before .before .before .before .before .before .before .if1 .left) (far-side (g .mesh .now) (g .corners .now) (g .edges .now) (g .taken .now) (g .p) (s .pre .0) (c .before .before .before .before .before .before .before .before .before .before .before .before .before .if1 .left) (c .before .before .before .before .before .before .before .before .before .opposite-of .ensures) (c .before .before .before .before .before .before .before .before .vertex-at .ensures)) (c .before .before .before .before .before .before .before .before .vertex-at .ensures) (c .before .before .push .ensures .0) (c .before .before .push .ensures .1 .0) (c .before .before .push .ensures .1 .1)
+    pushed-step (length (g .corners .now)) (rowsMesh (g .mesh .now)) (g .corners .now) (g .edges .now) (g .taken .now) (g .p) (s .pre .0) (s .pre .1) (joined (length (g .corners .now)) (g .mesh .now) (g .corners .now) (g .edges .now) (g .taken .now) (g .p) (s .pre .0) (c .before .before .before .before .before .before .before .before .before .before .before .before .before .if1 .left) (c .before .before .before .before .before .before .before .before .before .opposite-of .ensures) (c .before .before .before .before .before .before .before .before .vertex-at .ensures) (c .before .before .before .before .before .before .before .before .before .before .before .if2 .left) (c .before .before .before .before .before .before .joins-over .ensures) (c .before .before .before .before .before .if3 .taken)) (c .before .before .before .before .before .before .before .before .before .before .before .before .before .if1 .left) (far-side (length (g .corners .now)) (g .mesh .now) (g .corners .now) (g .edges .now) (g .taken .now) (g .p) (s .pre .0) (c .before .before .before .before .before .before .before .before .before .before .before .before .before .if1 .left) (c .before .before .before .before .before .before .before .before .before .opposite-of .ensures) (c .before .before .before .before .before .before .before .before .vertex-at .ensures)) (c .before .before .before .before .before .before .before .before .vertex-at .ensures) (c .before .before .push .ensures .0) (c .before .before .push .ensures .1 .0) (c .before .before .push .ensures .1 .1)
 
 move-top-requires-3 : tie.Need-move-top-requires-3
 move-top-requires-3 c κs = search needs
@@ -119,7 +120,7 @@ returns-4 : tie.Need-returns-4
 returns-4 c =
     let s = c .before .before .before .before .before .before .before .before .before .before .before .before .before .before in
     let g = s .args in
-    stepped-by (c .before .move-top3 .ensures .0) refl refl (c .before .move-top3 .ensures .1) (moved-step (rowsMesh (g .mesh .now)) (g .corners .now) (g .edges .now) (g .taken .now) (g .p) (s .pre .0) (s .pre .1) (apart (g .mesh .now) (g .corners .now) (g .edges .now) (g .taken .now) (g .p) (s .pre .0) (c .before .before .before .before .before .before .before .before .before .before .before .if1 .left) (c .before .before .before .before .before .before .before .opposite-of .ensures) (c .before .before .before .before .before .before .vertex-at .ensures) (c .before .before .before .before .before .before .before .before .before .if2 .left) (c .before .before .before .before .joins-over .ensures) (c .before .before .before .if3 .left)))
+    stepped-by (c .before .move-top3 .ensures .0) refl refl (c .before .move-top3 .ensures .1) (moved-step (length (g .corners .now)) (rowsMesh (g .mesh .now)) (g .corners .now) (g .edges .now) (g .taken .now) (g .p) (s .pre .0) (s .pre .1) (apart (length (g .corners .now)) (g .mesh .now) (g .corners .now) (g .edges .now) (g .taken .now) (g .p) (s .pre .0) (c .before .before .before .before .before .before .before .before .before .before .before .if1 .left) (c .before .before .before .before .before .before .before .opposite-of .ensures) (c .before .before .before .before .before .before .vertex-at .ensures) (c .before .before .before .before .before .before .before .before .before .if2 .left) (c .before .before .before .before .joins-over .ensures) (c .before .before .before .if3 .left)))
 
 pub step-spec : {M : Type 1} → statement M
 step-spec =

@@ -1,9 +1,10 @@
--- `convex_join::to_convex_polygons` meets its contract: each refusal and the answer, by convex_gather's laws of Answer. Assumes nothing.
+-- `convex_join::to_convex_polygons` meets its contract: a refusal by convex_gather's `mesh-refused`, an answer by the three sizes. Assumes nothing.
 use borrow.Author.Needs.{needs}
 use mathlib.Core.Path.{sym, _∙_}
 use Rattle.mesh.specs.Rows.{rowsMesh}
 use Rattle.convex.specs.Joining.{parts, partsFault}
-use Rattle.convex_gather.proofs.Answer.{mesh-refused, mesh-answered}
+use Rattle.convex_gather.proofs.Answer.{mesh-refused}
+use Rattle.convex_regions.proofs.Regions.{few-rows}
 use Rattle.convex_join.proofs.to_convex_polygons.Statement.{statement}
 use Rattle.convex_join.proofs.to_convex_polygons.Tie as tie
 
@@ -21,23 +22,8 @@ returns c =
     let a = mesh-refused m (parts m) (s .args .starts .now) (s .args .corners .now) (c .before .before .mesh-fault .ensures) (c .before .if1 .taken) (c .refusal .ensures) in
     (a .counts, (a .starts, a .corners))
 
-slice-aggregate-gather : tie.Need-slice-aggregate-gather
-slice-aggregate-gather c = search needs
-
-slice-aggregate-gather-2 : tie.Need-slice-aggregate-gather-2
-slice-aggregate-gather-2 c = search needs
-
-gather-requires : tie.Need-gather-requires
-gather-requires c κs = search needs
-
-slice-aggregate-hand-out : tie.Need-slice-aggregate-hand-out
-slice-aggregate-hand-out c = search needs
-
-slice-aggregate-hand-out-2 : tie.Need-slice-aggregate-hand-out-2
-slice-aggregate-hand-out-2 c = search needs
-
-hand-out-requires : tie.Need-hand-out-requires
-hand-out-requires c κs = search needs
+join-tiny-requires : tie.Need-join-tiny-requires
+join-tiny-requires c κs = search needs
 
 same-length : tie.Need-same-length
 same-length c = search needs
@@ -46,16 +32,35 @@ same-length-2 : tie.Need-same-length-2
 same-length-2 c = search needs
 
 returns-2 : tie.Need-returns-2
-unfolding partsFault
-returns-2 c =
-    let h = c .before .before .before in
-    let g = h .before .before .before .before .before .before .before in
-    let f = g .before .before .before .before in
+returns-2 c = search needs
+
+join-small-requires : tie.Need-join-small-requires
+join-small-requires c κs = search needs
+
+same-length-3 : tie.Need-same-length-3
+same-length-3 c = search needs
+
+same-length-4 : tie.Need-same-length-4
+same-length-4 c = search needs
+
+returns-3 : tie.Need-returns-3
+returns-3 c = search needs
+
+join-large-requires : tie.Need-join-large-requires
+join-large-requires c κs =
+    let f = c .before .before .before .before .before in
     let s = f .before .before in
-    let m = rowsMesh (s .args .mesh .now) in
-    let e = sym (f .mesh-fault .ensures) ∙ g .before .before .before .if1 .left in
-    let a = mesh-answered m (parts m) (s .args .starts .now) (s .args .corners .now) e (h .hand-out .ensures .answer (parts m) (g .gather .ensures .0)) in
-    (a .counts, (a .starts, a .corners))
+    let e = sym (f .mesh-fault .ensures) ∙ c .before .before .before .before .if1 .left in
+    (few-rows (s .args .mesh .now) e, e)
+
+same-length-5 : tie.Need-same-length-5
+same-length-5 c = search needs
+
+same-length-6 : tie.Need-same-length-6
+same-length-6 c = search needs
+
+returns-4 : tie.Need-returns-4
+returns-4 c = search needs
 
 pub to-convex-polygons-spec : {M : Type 1} → statement M
 to-convex-polygons-spec =
@@ -64,12 +69,15 @@ to-convex-polygons-spec =
     mesh-fault-requires
     refusal-requires
     returns
-    slice-aggregate-gather
-    slice-aggregate-gather-2
-    gather-requires
-    slice-aggregate-hand-out
-    slice-aggregate-hand-out-2
-    hand-out-requires
+    join-tiny-requires
     same-length
     same-length-2
-    returns-2)
+    returns-2
+    join-small-requires
+    same-length-3
+    same-length-4
+    returns-3
+    join-large-requires
+    same-length-5
+    same-length-6
+    returns-4)

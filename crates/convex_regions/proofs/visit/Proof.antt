@@ -1,4 +1,4 @@
--- `convex_join::visit` meets its contract: `visited-skip` and `visited-join` of Regions. Assumes nothing.
+-- `convex_regions::visit` meets its contract: `visited-skip` and `visited-join` of Regions. Assumes nothing.
 use borrow.Author.Needs.{needs}
 use mathlib.Core.List.{List}
 use mathlib.Core.Bool.{Bool}
@@ -9,9 +9,9 @@ use lib.ListN.{length}
 use lib.IntN.{ℤ}
 use Rattle.mesh.specs.Rows.{rowsMesh}
 use Rattle.mesh.proofs.Rows.{length-rows}
-use Rattle.convex_join.proofs.Regions.{visited-skip, visited-join}
-use Rattle.convex_join.proofs.visit.Statement.{statement}
-use Rattle.convex_join.proofs.visit.Tie as tie
+use Rattle.convex_regions.proofs.Regions.{visited-skip, visited-join}
+use Rattle.convex_regions.proofs.visit.Statement.{statement}
+use Rattle.convex_regions.proofs.visit.Tie as tie
 
 in-flags : (rows : List (List ℤ)) (flags : List Bool) {k : ℕ} → length flags ≡ length (rowsMesh rows) → k < length rows → k < length flags
 in-flags rows flags e h = omega (arith, length-rows rows)
@@ -26,7 +26,7 @@ returns : tie.Need-returns
 returns c =
     let s = c .before .before .before .before in
     let g = s .args in
-    visited-skip (rowsMesh (g .mesh .now)) (g .k) (g .taken .now) (g .starts .now) (g .points .now) (g .t) (in-flags (g .mesh .now) (g .taken .now) (s .pre .0 .marks) (s .pre .1)) (s .pre .0) (s .pre .2) (c .if1 .taken)
+    visited-skip (length (g .corners .now)) (rowsMesh (g .mesh .now)) (g .k) (g .taken .now) (g .starts .now) (g .points .now) (g .t) (in-flags (g .mesh .now) (g .taken .now) (s .pre .0 .marks) (s .pre .1)) (s .pre .0) (s .pre .2) (c .if1 .taken)
 
 append-region-requires : tie.Need-append-region-requires
 append-region-requires c κs = search needs
@@ -50,7 +50,7 @@ returns-2 : tie.Need-returns-2
 returns-2 c =
     let s = c .before .before .before .before .before .before .before .before .before .before .before .before .before .before .before .before .before in
     let g = s .args in
-    visited-join (rowsMesh (g .mesh .now)) (g .k) (g .taken .now) (g .starts .now) (g .points .now) (g .t) (in-flags (g .mesh .now) (g .taken .now) (s .pre .0 .marks) (s .pre .1)) (c .before .before .before .before .before .before .before .before .before .before .before .before .before .if1 .left) (c .before .before .before .before .before .before .before .append-region .ensures)
+    visited-join (length (g .corners .now)) (rowsMesh (g .mesh .now)) (g .k) (g .taken .now) (g .starts .now) (g .points .now) (g .t) (in-flags (g .mesh .now) (g .taken .now) (s .pre .0 .marks) (s .pre .1)) (c .before .before .before .before .before .before .before .before .before .before .before .before .before .if1 .left) (c .before .before .before .before .before .before .before .append-region .ensures)
 
 pub visit-spec : {M : Type 1} → statement M
 visit-spec =

@@ -1,10 +1,11 @@
--- `convex_join::append_region` meets its contract: `joined` of Regions. Assumes nothing.
+-- `convex_regions::append_region` meets its contract: `joined` of Regions. Assumes nothing.
 use borrow.Author.Needs.{needs}
 use native.Mathlib.Omega.{arith}
+use lib.ListN.{length}
 use Rattle.mesh.specs.Rows.{rowsMesh}
-use Rattle.convex_join.proofs.Regions.{contour-whole, contour-room, start-room, corners-few, joined}
-use Rattle.convex_join.proofs.append_region.Statement.{statement}
-use Rattle.convex_join.proofs.append_region.Tie as tie
+use Rattle.convex_regions.proofs.Regions.{contour-whole, contour-room, start-room, corners-few, joined}
+use Rattle.convex_regions.proofs.append_region.Statement.{statement}
+use Rattle.convex_regions.proofs.append_region.Tie as tie
 
 grow-requires : tie.Need-grow-requires
 grow-requires c κs = search needs
@@ -14,7 +15,7 @@ append-contour-requires c κs =
     let s = c .before .before .before .before .before .before .before .before .before .before .before .before in
     let g = s .args in
     let e = c .before .before .before .before .before .before .grow .ensures in
-    (contour-whole (rowsMesh (g .mesh .now)) (g .k) (g .taken .now) (g .starts .now) (g .points .now) (g .t) (s .pre .3) e, contour-room (rowsMesh (g .mesh .now)) (g .k) (g .taken .now) (g .starts .now) (g .points .now) (g .t) (s .pre .3) e)
+    (contour-whole (length (g .corners .now)) (rowsMesh (g .mesh .now)) (g .k) (g .taken .now) (g .starts .now) (g .points .now) (g .t) (s .pre .3) e, contour-room (length (g .corners .now)) (rowsMesh (g .mesh .now)) (g .k) (g .taken .now) (g .starts .now) (g .points .now) (g .t) (s .pre .3) e)
 
 add-parts : tie.Need-add-parts
 add-parts c = search needs
@@ -24,7 +25,7 @@ put-start-requires c κs =
     let s = c .before .before .before .before .before .before .before .before .before .before .before .before .before .before .before .before in
     let g = s .args in
     let e = c .before .before .before .before .before .before .before .before .before .before .grow .ensures in
-    (start-room (rowsMesh (g .mesh .now)) (g .k) (g .taken .now) (g .starts .now) (g .points .now) (g .t) (s .pre .3) e, omega (arith, corners-few (rowsMesh (g .mesh .now)) (g .k) (g .taken .now) (g .starts .now) (g .points .now) (g .t) (s .pre .3) e (c .before .before .before .append-contour .ensures)))
+    (start-room (length (g .corners .now)) (rowsMesh (g .mesh .now)) (g .k) (g .taken .now) (g .starts .now) (g .points .now) (g .t) (s .pre .3) e, omega (arith, corners-few (length (g .corners .now)) (rowsMesh (g .mesh .now)) (g .k) (g .taken .now) (g .starts .now) (g .points .now) (g .t) (s .pre .3) e (c .before .before .before .append-contour .ensures)))
 
 same-length : tie.Need-same-length
 same-length c = search needs
@@ -45,7 +46,7 @@ returns : tie.Need-returns
 returns c =
     let s = c .before .before .before .before .before .before .before .before .before .before .before .before .before .before .before .before .before .before .before in
     let g = s .args in
-    joined (rowsMesh (g .mesh .now)) (g .k) (g .taken .now) (g .starts .now) (g .points .now) (g .t) (s .pre .3) (c .before .before .before .before .before .before .before .before .before .before .before .before .before .grow .ensures) (c .before .before .before .before .before .before .append-contour .ensures) (c .before .before .put-start .ensures)
+    joined (length (g .corners .now)) (rowsMesh (g .mesh .now)) (g .k) (g .taken .now) (g .starts .now) (g .points .now) (g .t) (s .pre .3) (c .before .before .before .before .before .before .before .before .before .before .before .before .before .grow .ensures) (c .before .before .before .before .before .before .append-contour .ensures) (c .before .before .put-start .ensures)
 
 pub append-region-spec : {M : Type 1} → statement M
 append-region-spec =

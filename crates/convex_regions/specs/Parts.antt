@@ -2,11 +2,11 @@
 use mathlib.Core.Path.{_≡_}
 use mathlib.Core.Bool.{Bool, cond}
 use mathlib.Core.List.{List, [], _∷_, _++_, flatten}
-use Prim.Native.Nat.{ℕ, _+_, _*_, _-_, _≤_}
+use Prim.Native.Nat.{ℕ, _+_, _*_, _≤_, _<_}
 use lib.ListN.{length, take}
 use lib.IntN.{ℤ}
 use Rattle.plane.specs.Plane.{Pt}
-use Rattle.mesh.specs.Mesh.{Mesh, maxTriangles}
+use Rattle.mesh.specs.Mesh.{Mesh}
 use Rattle.table.specs.Table.{startsOf}
 use Rattle.convex.specs.Joining.{isIn}
 use Rattle.convex.specs.Zipper.{zipped, contourZ}
@@ -15,10 +15,10 @@ use Rattle.convex_gather.specs.Gather.{Gathered}
 use Rattle.convex_ring.specs.Buffers.{free, Marked, Ready}
 use Rattle.convex_contour.specs.Contour.{firstPoints}
 
--- each triangle not taken has a place for a start, and three for corners
+-- there is a place for each triangle's start and one more, and three for its corners; each triangle not taken has its own
 pub record Room (m : Mesh) (flags : List Bool) (starts : List ℕ) (points : List (List ℤ)) (t : Tally) : Type 0 where
-  pub starts-size : length starts ≡ maxTriangles + 1
-  pub points-size : length points ≡ 3 * maxTriangles
+  pub for-starts : length m < length starts
+  pub for-points : 3 * length m ≤ length points
   pub parts : t .parts + free flags ≤ length m
   pub corners : t .corners + 3 * free flags ≤ 3 * length m
 
@@ -30,15 +30,19 @@ abbrev pub partsNext : Mesh → List ℕ → ℕ → List (List Pt) → List (Li
 partsNext m seen k ps = cond (isIn k seen) ps (ps ++ (contourZ (zipped m seen k) ∷ []))
 
 -- a region that starts with triangle k was gathered
-pub record Joined (m : Mesh) (k : ℕ) (flags : List Bool) (starts : List ℕ) (points : List (List ℤ)) (t : Tally) (cs′ : List (List ℤ)) (es′ : List (List ℕ)) (flags′ : List Bool) (starts′ : List ℕ) (points′ : List (List ℤ)) (t′ : Tally) : Type 0 where
-  pub ready : Ready m cs′ es′ flags′
+pub record Joined (size : ℕ) (m : Mesh) (k : ℕ) (flags : List Bool) (starts : List ℕ) (points : List (List ℤ)) (t : Tally) (cs′ : List (List ℤ)) (es′ : List (List ℕ)) (flags′ : List Bool) (starts′ : List ℕ) (points′ : List (List ℤ)) (t′ : Tally) : Type 0 where
+  pub ready : Ready size m cs′ es′ flags′
+  pub starts-size : length starts′ ≡ length starts
+  pub points-size : length points′ ≡ length points
   pub room : Room m flags′ starts′ points′ t′
   pub marked : (seen : List ℕ) → Marked flags seen → Marked flags′ (seen ++ zipped m seen k .taken)
   pub gathered : (seen : List ℕ) (ps : List (List Pt)) → Marked flags seen → Gathered starts points t ps → Gathered starts′ points′ t′ (ps ++ (contourZ (zipped m seen k) ∷ []))
 
 -- triangle k was visited
-pub record Visited (m : Mesh) (k : ℕ) (flags : List Bool) (starts : List ℕ) (points : List (List ℤ)) (t : Tally) (cs′ : List (List ℤ)) (es′ : List (List ℕ)) (flags′ : List Bool) (starts′ : List ℕ) (points′ : List (List ℤ)) (t′ : Tally) : Type 0 where
-  pub ready : Ready m cs′ es′ flags′
+pub record Visited (size : ℕ) (m : Mesh) (k : ℕ) (flags : List Bool) (starts : List ℕ) (points : List (List ℤ)) (t : Tally) (cs′ : List (List ℤ)) (es′ : List (List ℕ)) (flags′ : List Bool) (starts′ : List ℕ) (points′ : List (List ℤ)) (t′ : Tally) : Type 0 where
+  pub ready : Ready size m cs′ es′ flags′
+  pub starts-size : length starts′ ≡ length starts
+  pub points-size : length points′ ≡ length points
   pub room : Room m flags′ starts′ points′ t′
   pub marked : (seen : List ℕ) → Marked flags seen → Marked flags′ (seenNext m seen k)
   pub gathered : (seen : List ℕ) (ps : List (List Pt)) → Marked flags seen → Gathered starts points t ps → Gathered starts′ points′ t′ (partsNext m seen k ps)

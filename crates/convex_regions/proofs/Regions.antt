@@ -29,13 +29,13 @@ use Rattle.convex_gather.proofs.Gathering.{part-appended}
 use Rattle.convex_ring.specs.Buffers.{cornerOf, free, Marked, Ready}
 use Rattle.convex_grow.specs.Growing.{Grown}
 use Rattle.convex_contour.specs.Contour.{contourAt, Whole, Appended}
-use Rattle.convex_join.specs.Parts.{Room, seenNext, partsNext, Joined, Visited}
+use Rattle.convex_regions.specs.Parts.{Room, seenNext, partsNext, Joined, Visited}
 use Rattle.convex_grow.proofs.Growth.{free-le}
 use Rattle.convex_contour.proofs.Contours.{contour-zipper, length-contour}
 
 -- ---- a region gathered
 
-module _ (m : Mesh) (k : ℕ) (flags : List Bool) (starts : List ℕ) (points : List (List ℤ)) (t : Tally) (r : Room m flags starts points t) {cs′ : List (List ℤ)} {es′ : List (List ℕ)} {flags′ : List Bool} {p : Progress} (g : Grown m k flags cs′ es′ flags′ p) where
+module _ (size : ℕ) (m : Mesh) (k : ℕ) (flags : List Bool) (starts : List ℕ) (points : List (List ℤ)) (t : Tally) (r : Room m flags starts points t) {cs′ : List (List ℤ)} {es′ : List (List ℕ)} {flags′ : List Bool} {p : Progress} (g : Grown size m k flags cs′ es′ flags′ p) where
   fewer : suc (free flags′) ≤ free flags
   fewer = omega (arith, g .kept, g .empty, g .sound .three)
 
@@ -44,32 +44,33 @@ module _ (m : Mesh) (k : ℕ) (flags : List Bool) (starts : List ℕ) (points : 
 
   pub contour-whole : Whole cs′ p
   contour-whole = record {
-    size = g .sound .ready .corners;
     placed = g .sound .placed;
-    ended = g .sound .settled (g .sound .rested (g .empty));
-    some = omega (arith, g .empty, g .sound .three);
+    ended = omega (arith, g .sound .ready .corners, g .sound .settled (g .sound .rested (g .empty)));
+    some = omega (arith, g .sound .ready .corners, g .empty, g .sound .three);
     grid = g .sound .ready .grid;
   }
 
-  pub contour-room : t .corners + 1026 ≤ length points + p .done
-  contour-room = omega (arith, r .points-size, r .corners, g .kept, fewer, few)
+  pub contour-room : t .corners + length cs′ ≤ length points + p .done
+  contour-room = omega (arith, g .sound .ready .corners, r .for-points, r .corners, g .kept, fewer)
 
   pub start-room : t .parts + 1 < length starts
-  start-room = omega (arith, r .starts-size, r .parts, fewer, few)
+  start-room = omega (arith, r .for-starts, r .parts, fewer)
 
   module _ {points′ : List (List ℤ)} {n : ℕ} (a : Appended (withoutStraight (contourAt cs′ p)) points (t .corners) points′ n) where
     corners-room : n + 3 * free flags′ ≤ 3 * length m
-    corners-room = omega (arith, a .count, straight-few (contourAt cs′ p), length-contour cs′ p contour-whole, r .corners, g .kept, fewer)
+    corners-room = omega (arith, a .count, straight-few (contourAt cs′ p), length-contour cs′ p contour-whole, g .sound .ready .corners, r .corners, g .kept, fewer)
 
     pub corners-few : n ≤ 3072
     corners-few = omega (arith, corners-room, few)
 
-    pub joined : {starts′ : List ℕ} → starts′ ≡ set starts (t .parts + 1) n → Joined m k flags starts points t cs′ es′ flags′ starts′ points′ (record { parts = t .parts + 1; corners = n })
+    pub joined : {starts′ : List ℕ} → starts′ ≡ set starts (t .parts + 1) n → Joined size m k flags starts points t cs′ es′ flags′ starts′ points′ (record { parts = t .parts + 1; corners = n })
     joined {starts′} e = record {
       ready = g .sound .ready;
+      starts-size = ap length e ∙ length-set starts (t .parts + 1) n;
+      points-size = a .size;
       room = record {
-        starts-size = ap length e ∙ length-set starts (t .parts + 1) n ∙ r .starts-size;
-        points-size = a .size ∙ r .points-size;
+        for-starts = omega (arith, ap length e, length-set starts (t .parts + 1) n, r .for-starts);
+        for-points = omega (arith, a .size, r .for-points);
         parts = omega (arith, r .parts, fewer);
         corners = corners-room;
       };
@@ -84,18 +85,22 @@ module _ (m : Mesh) (k : ℕ) (flags : List Bool) (starts : List ℕ) (points : 
 
 -- ---- a triangle visited
 
-module _ (m : Mesh) (k : ℕ) (flags : List Bool) (starts : List ℕ) (points : List (List ℤ)) (t : Tally) (l : k < length flags) where
-  pub visited-skip : {cs : List (List ℤ)} {es : List (List ℕ)} → Ready m cs es flags → Room m flags starts points t → getD flags k false ≡ true → Visited m k flags starts points t cs es flags starts points t
+module _ (size : ℕ) (m : Mesh) (k : ℕ) (flags : List Bool) (starts : List ℕ) (points : List (List ℤ)) (t : Tally) (l : k < length flags) where
+  pub visited-skip : {cs : List (List ℤ)} {es : List (List ℕ)} → Ready size m cs es flags → Room m flags starts points t → getD flags k false ≡ true → Visited size m k flags starts points t cs es flags starts points t
   visited-skip s r f = record {
     ready = s;
+    starts-size = refl;
+    points-size = refl;
     room = r;
     marked = λ seen h. subst (λ b. Marked flags (cond b seen (seen ++ zipped m seen k .taken))) (sym f ∙ h .at k l) h;
     gathered = λ seen ps h q. subst (λ b. Gathered starts points t (cond b ps (ps ++ (contourZ (zipped m seen k) ∷ [])))) (sym f ∙ h .at k l) q;
   }
 
-  pub visited-join : {cs′ : List (List ℤ)} {es′ : List (List ℕ)} {flags′ : List Bool} {starts′ : List ℕ} {points′ : List (List ℤ)} {t′ : Tally} → getD flags k false ≡ false → Joined m k flags starts points t cs′ es′ flags′ starts′ points′ t′ → Visited m k flags starts points t cs′ es′ flags′ starts′ points′ t′
+  pub visited-join : {cs′ : List (List ℤ)} {es′ : List (List ℕ)} {flags′ : List Bool} {starts′ : List ℕ} {points′ : List (List ℤ)} {t′ : Tally} → getD flags k false ≡ false → Joined size m k flags starts points t cs′ es′ flags′ starts′ points′ t′ → Visited size m k flags starts points t cs′ es′ flags′ starts′ points′ t′
   visited-join {flags′ = flags′} {starts′ = starts′} {points′ = points′} {t′ = t′} f j = record {
     ready = j .ready;
+    starts-size = j .starts-size;
+    points-size = j .points-size;
     room = j .room;
     marked = λ seen h. subst (λ b. Marked flags′ (cond b seen (seen ++ zipped m seen k .taken))) (sym f ∙ h .at k l) (j .marked seen h);
     gathered = λ seen ps h q. subst (λ b. Gathered starts′ points′ t′ (cond b ps (ps ++ (contourZ (zipped m seen k) ∷ [])))) (sym f ∙ h .at k l) (j .gathered seen ps h q);
@@ -103,9 +108,11 @@ module _ (m : Mesh) (k : ℕ) (flags : List Bool) (starts : List ℕ) (points : 
 
 -- ---- all triangles
 
--- the parts of the triangles before k are gathered
-pub record Visiting (m : Mesh) (cs : List (List ℤ)) (es : List (List ℕ)) (flags : List Bool) (starts : List ℕ) (points : List (List ℤ)) (t : Tally) (k : ℕ) : Type 0 where
-  pub ready : Ready m cs es flags
+-- the parts of the triangles before k are gathered; the buffers have the sizes that they were lent with
+pub record Visiting (size starts-size points-size : ℕ) (m : Mesh) (cs : List (List ℤ)) (es : List (List ℕ)) (flags : List Bool) (starts : List ℕ) (points : List (List ℤ)) (t : Tally) (k : ℕ) : Type 0 where
+  pub ready : Ready size m cs es flags
+  pub starts-same : length starts ≡ starts-size
+  pub points-same : length points ≡ points-size
   pub room : Room m flags starts points t
   pub seen : List ℕ
   pub ps : List (List Pt)
@@ -129,12 +136,21 @@ next-same : (b : Bool) (ps : List (List Pt)) (z : Zipper) (F : List ℕ → List
 next-same true ps z F s s′ = refl
 next-same false ps z F s s′ = append-assoc ps (contourZ z ∷ []) (map contourZ (F s′))
 
-module _ (m : Mesh) where
-  pub visiting-start : {cs : List (List ℤ)} {es : List (List ℕ)} {flags : List Bool} {starts : List ℕ} {points : List (List ℤ)} → Ready m cs es flags → Marked flags [] → length starts ≡ 1025 → length points ≡ 3072 → getD starts 0 0 ≡ 0 → Visiting m cs es flags starts points (record { parts = 0; corners = 0 }) 0
+-- a visit is told by the size that its buffer has
+visited-there : {size : ℕ} {m : Mesh} {k : ℕ} {cs : List (List ℤ)} {es : List (List ℕ)} {flags : List Bool} {starts : List ℕ} {points : List (List ℤ)} {t : Tally} {cs′ : List (List ℤ)} {es′ : List (List ℕ)} {flags′ : List Bool} {starts′ : List ℕ} {points′ : List (List ℤ)} {t′ : Tally} → Ready size m cs es flags → Visited (length cs) m k flags starts points t cs′ es′ flags′ starts′ points′ t′ → Visited size m k flags starts points t cs′ es′ flags′ starts′ points′ t′
+visited-there {size} {m} {k} {flags = flags} {starts = starts} {points = points} {t = t} {cs′} {es′} {flags′} {starts′} {points′} {t′} s = subst (λ n. Visited n m k flags starts points t cs′ es′ flags′ starts′ points′ t′) (s .corners)
+
+pub ready-here : {size : ℕ} {m : Mesh} {cs : List (List ℤ)} {es : List (List ℕ)} {flags : List Bool} → Ready size m cs es flags → Ready (length cs) m cs es flags
+ready-here {m = m} {cs} {es} {flags} s = subst (λ n. Ready n m cs es flags) (sym (s .corners)) s
+
+module _ (size starts-size points-size : ℕ) (m : Mesh) where
+  pub visiting-start : {cs : List (List ℤ)} {es : List (List ℕ)} {flags : List Bool} {starts : List ℕ} {points : List (List ℤ)} → Ready size m cs es flags → Marked flags [] → length starts ≡ starts-size → length points ≡ points-size → length m < starts-size → 3 * length m ≤ points-size → getD starts 0 0 ≡ 0 → Visiting size starts-size points-size m cs es flags starts points (record { parts = 0; corners = 0 }) 0
   unfolding partsZ flatten
-  visiting-start {flags = flags} {starts = starts} s h a b e = record {
+  visiting-start {flags = flags} {starts = starts} s h a b f g e = record {
     ready = s;
-    room = record { starts-size = a; points-size = b; parts = omega (arith, free-le flags, s .marks); corners = omega (arith, free-le flags, s .marks) };
+    starts-same = a;
+    points-same = b;
+    room = record { for-starts = omega (arith, a); for-points = omega (arith, b); parts = omega (arith, free-le flags, s .marks); corners = omega (arith, free-le flags, s .marks) };
     seen = [];
     ps = [];
     marked = h;
@@ -142,12 +158,15 @@ module _ (m : Mesh) where
     rest = refl;
   }
 
-  pub visiting-turn : {cs : List (List ℤ)} {es : List (List ℕ)} {flags : List Bool} {starts : List ℕ} {points : List (List ℤ)} {t : Tally} {cs′ : List (List ℤ)} {es′ : List (List ℕ)} {flags′ : List Bool} {starts′ : List ℕ} {points′ : List (List ℤ)} {t′ : Tally} (k : ℕ) → k < length m → Visiting m cs es flags starts points t k → Visited m k flags starts points t cs′ es′ flags′ starts′ points′ t′ → Visiting m cs′ es′ flags′ starts′ points′ t′ (k + 1)
-  visiting-turn k l v w =
+  pub visiting-turn : {cs : List (List ℤ)} {es : List (List ℕ)} {flags : List Bool} {starts : List ℕ} {points : List (List ℤ)} {t : Tally} {cs′ : List (List ℤ)} {es′ : List (List ℕ)} {flags′ : List Bool} {starts′ : List ℕ} {points′ : List (List ℤ)} {t′ : Tally} (k : ℕ) → k < length m → Visiting size starts-size points-size m cs es flags starts points t k → Visited (length cs) m k flags starts points t cs′ es′ flags′ starts′ points′ t′ → Visiting size starts-size points-size m cs′ es′ flags′ starts′ points′ t′ (k + 1)
+  visiting-turn k l v h =
+      let w = visited-there (v .ready) h in
       let z = zipped m (v .seen) k in
       let d = drop (k + 1) (upTo (length m)) in
       record {
         ready = w .ready;
+        starts-same = w .starts-size ∙ v .starts-same;
+        points-same = w .points-size ∙ v .points-same;
         room = w .room;
         seen = seenNext m (v .seen) k;
         ps = partsNext m (v .seen) k (v .ps);
@@ -156,14 +175,13 @@ module _ (m : Mesh) where
         rest = next-same (isIn k (v .seen)) (v .ps) z (λ s. regionsZ m s d) (v .seen) (v .seen ++ z .taken) ∙ ap (λ r. v .ps ++ map contourZ r) (sym (regions-turn m (v .seen) k l)) ∙ v .rest;
       }
 
-  pub visiting-end : {cs : List (List ℤ)} {es : List (List ℕ)} {flags : List Bool} {starts : List ℕ} {points : List (List ℤ)} {t : Tally} (k : ℕ) → length m ≤ k → Visiting m cs es flags starts points t k → Gathered starts points t (parts m) × (t .parts ≤ 1024) × (t .corners ≤ 3072)
+  pub visiting-end : {cs : List (List ℤ)} {es : List (List ℕ)} {flags : List Bool} {starts : List ℕ} {points : List (List ℤ)} {t : Tally} (k : ℕ) → length m ≤ k → Visiting size starts-size points-size m cs es flags starts points t k → Gathered starts points t (parts m) × (t .parts ≤ length m) × (t .corners ≤ 3 * length m)
   unfolding regionsZ
-  visiting-end {starts = starts} {points = points} {t = t} k h v =
-      let few = accepted m (v .ready .accepted) .few in (
-        subst (Gathered starts points t) (sym (append-nil (v .ps)) ∙ ap (λ d. v .ps ++ map contourZ (regionsZ m (v .seen) d)) (sym (drop-of-length-le (upTo (length m)) {i = k} (omega (arith, length-upTo (length m))))) ∙ v .rest ∙ parts-zipped m (accepted m (v .ready .accepted))) (v .gathered),
-        omega (arith, v .room .parts, few),
-        omega (arith, v .room .corners, few),
-      )
+  visiting-end {starts = starts} {points = points} {t = t} k h v = (
+    subst (Gathered starts points t) (sym (append-nil (v .ps)) ∙ ap (λ d. v .ps ++ map contourZ (regionsZ m (v .seen) d)) (sym (drop-of-length-le (upTo (length m)) {i = k} (omega (arith, length-upTo (length m))))) ∙ v .rest ∙ parts-zipped m (accepted m (v .ready .accepted))) (v .gathered),
+    omega (arith, v .room .parts),
+    omega (arith, v .room .corners),
+  )
 
 -- ---- the buffers at first: no corner, no edge, no flag
 
@@ -176,14 +194,15 @@ origin-on-grid : onGrid (cornerOf (pos 0 ∷ pos 0 ∷ [])) ≡ true
 unfolding onGrid inRange
 origin-on-grid = refl
 
-pub first-ready : (m : Mesh) (flags : List Bool) (n : ℕ) → n ≡ 1026 → firstFault (meshKinds m) ≡ 0 → length flags ≡ length m → Ready m (replicate n (pos 0 ∷ pos 0 ∷ [])) (replicate n (none ∷ none ∷ [])) flags
-first-ready m flags n e a l = record {
+pub first-ready : (size : ℕ) (m : Mesh) (flags : List Bool) → length m + 2 ≤ size → firstFault (meshKinds m) ≡ 0 → length flags ≡ length m → Ready size m (replicate size (pos 0 ∷ pos 0 ∷ [])) (replicate size (0 ∷ 0 ∷ [])) flags
+first-ready size m flags e a l = record {
   accepted = a;
-  corners = length-replicate n (pos 0 ∷ pos 0 ∷ []) ∙ e;
-  edges = length-replicate n (none ∷ none ∷ []) ∙ e;
+  enough = e;
+  corners = length-replicate size (pos 0 ∷ pos 0 ∷ []);
+  edges = length-replicate size (0 ∷ 0 ∷ []);
   marks = l;
-  grid = record { at = replicate-all (λ c. onGrid (cornerOf c) ≡ true) n (pos 0 ∷ pos 0 ∷ []) [] origin-on-grid origin-on-grid };
-  across = λ i h d. absurd (d (ap (λ r. getD r 1 0) (getD-replicate n i (none ∷ none ∷ []) [] (omega (arith, e)))));
+  grid = record { at = replicate-all (λ c. onGrid (cornerOf c) ≡ true) size (pos 0 ∷ pos 0 ∷ []) [] origin-on-grid origin-on-grid };
+  across = λ i h some d. omega (arith, ap {B = ℕ} (λ r. getD r 1 0) (getD-replicate size i (0 ∷ 0 ∷ []) [] h));
 }
 
 no-flag : (n j k : ℕ) → getD (take n (replicate j false)) k false ≡ false
@@ -195,6 +214,13 @@ no-flag (suc n) (suc j) (suc k) = no-flag n j k
 pub first-marked : (n j : ℕ) → Marked (take n (replicate j false)) []
 unfolding isIn
 first-marked n j = record { at = λ k h. no-flag n j k }
+
+pub few-rows : (rows : List (List ℤ)) → firstFault (meshKinds (rowsMesh rows)) ≡ 0 → length rows ≤ 1024
+few-rows rows h = omega (arith, accepted (rowsMesh rows) h .few, length-rows rows)
+
+-- lent rows have as many places as the mesh that they are
+pub visited-rows : (rows : List (List ℤ)) {starts : List ℕ} {points : List (List ℤ)} {t : Tally} → Gathered starts points t (parts (rowsMesh rows)) × (t .parts ≤ length (rowsMesh rows)) × (t .corners ≤ 3 * length (rowsMesh rows)) → Gathered starts points t (parts (rowsMesh rows)) × (t .parts ≤ length rows) × (t .corners ≤ 3 * length rows)
+visited-rows rows h = (h .0, omega (arith, h .1, length-rows rows), omega (arith, h .2, length-rows rows))
 
 pub first-flags : (rows : List (List ℤ)) (j : ℕ) → length rows ≤ j → length (take (length rows) (replicate j false)) ≡ length (rowsMesh rows)
 first-flags rows j h = length-take-le (length rows) (replicate j false) (omega (arith, length-replicate j false)) ∙ sym (length-rows rows)

@@ -1,0 +1,2 @@
+-- All regions gathered.
+pub mod Regions
