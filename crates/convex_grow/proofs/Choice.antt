@@ -60,12 +60,16 @@ module _ (size : ℕ) (rows : List (List ℤ)) (cs : List (List ℤ)) (es : List
     unfolding chosen
     skipped f = rw (ne-eqb (x .across) none d, f)
 
-    module _ {v : ℕ} (e : v ≡ opposite (rowTriangle (getD rows (x .across) [])) (x .inside)) {far : IntPoint} (w : point far ≡ vertex u v) where
-      pub far-side : v ≡ opposite u (x .inside)
-      far-side = e ∙ ap (λ t. opposite t (x .inside)) (sym (triangle-row rows (x .across) in-rows))
+    -- the row there is the triangle
+    pub row-across : rowTriangle (getD rows (x .across) []) ≡ u
+    row-across = sym (triangle-row rows (x .across) in-rows)
+
+    module _ {far : IntPoint} (w : point far ≡ vertex (rowTriangle (getD rows (x .across) [])) (opposite (rowTriangle (getD rows (x .across) [])) (x .inside))) where
+      pub far-vertex : point far ≡ vertex u (opposite u (x .inside))
+      far-vertex = w ∙ ap (λ t. vertex t (opposite t (x .inside))) row-across
 
       pub far-grid : OnGrid far
-      far-grid = on-grid-of far w (accepted (rowsMesh rows) (s .ready .accepted) .on-grid (x .across) v in-mesh)
+      far-grid = on-grid-of far far-vertex (accepted (rowsMesh rows) (s .ready .accepted) .on-grid (x .across) (opposite u (x .inside)) in-mesh)
 
       module _ (f : getD flags (x .across) false ≡ false) {b : Bool} (q : b ≡ joins (getD r (length r - 1) O) (x .corner) (point far) (getD r 0 O) (getD r 1 O)) where
         by-join : answer ≡ cond b (x .across) none
@@ -73,7 +77,7 @@ module _ (size : ℕ) (rows : List (List ℤ)) (cs : List (List ℤ)) (es : List
         by-join =
             rw (ne-eqb (x .across) none d, f)
             (ap (λ t. cond t (x .across) none)
-            (sym (q ∙ ap (λ a. joins (getD r (length r - 1) O) (x .corner) a (getD r 0 O) (getD r 1 O)) (w ∙ ap (vertex u) far-side))))
+            (sym (q ∙ ap (λ a. joins (getD r (length r - 1) O) (x .corner) a (getD r 0 O) (getD r 1 O)) far-vertex)))
 
         pub joined : b ≡ true → x .across ≡ answer
         joined h = sym (by-join ∙ ap (λ t. cond t (x .across) none) h)

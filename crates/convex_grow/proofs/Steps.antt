@@ -299,11 +299,11 @@ module _ (size : ℕ) (m : Mesh) (cs : List (List ℤ)) (es : List (List ℕ)) (
     pub push-room : p .pending < size
     push-room = omega (arith, s .room, s .whole, free-less)
 
-  -- ---- the same of the code's numbers: v is the side of the neighbour across that names the triangle inside, far its vertex there
+  -- ---- the same of the code's numbers: far is the far vertex, f and s the neighbours over the new edges, of the triangle t that stands across
 
-  pub pushed-step : x .across ≡ chosen m flags x r → (x .across ≡ none → ⊥) → {j : ℕ} {far : Pt} {cs2 : List (List ℤ)} {es2 : List (List ℕ)} {p2 : Progress} → j ≡ v → far ≡ vertex u j → cs2 ≡ set cs (p .pending) (pairOf far) → es2 ≡ set (set es (p .pending - 1) (x .across ∷ neighbour u (after j) ∷ [])) (p .pending) (x .across ∷ neighbour u (before j) ∷ []) → p2 ≡ pushedBy p → Stepped size m cs es flags p cs2 es2 (set flags (x .across) true) p2
-  pushed-step q n {j} jv fe ce ee pe =
+  pub pushed-step : x .across ≡ chosen m flags x r → (x .across ≡ none → ⊥) → {t : Triangle} {far : Pt} {f g : ℕ} {cs2 : List (List ℤ)} {es2 : List (List ℕ)} {p2 : Progress} → t ≡ u → far ≡ vertex u v → f ≡ neighbour t (after (opposite t (x .inside))) → g ≡ neighbour t (before (opposite t (x .inside))) → cs2 ≡ set cs (p .pending) (pairOf far) → es2 ≡ set (set es (p .pending - 1) (x .across ∷ f ∷ [])) (p .pending) (x .across ∷ g ∷ []) → p2 ≡ pushedBy p → Stepped size m cs es flags p cs2 es2 (set flags (x .across) true) p2
+  pushed-step q n tu fe ff ge ce ee pe =
       let d : chosen m flags x r ≡ none → ⊥ = λ e. n (q ∙ e) in
-      stepped-by (ce ∙ ap (λ w. set cs (p .pending) (pairOf w)) (fe ∙ ap (vertex u) jv))
-      (ee ∙ ap (λ i. set (set es (p .pending - 1) (x .across ∷ neighbour u (after i) ∷ [])) (p .pending) (x .across ∷ neighbour u (before i) ∷ [])) jv)
-      refl pe (push-step d)
+      let f1 = ff ∙ ap (λ t. neighbour t (after (opposite t (x .inside)))) tu in
+      let g1 = ge ∙ ap (λ t. neighbour t (before (opposite t (x .inside)))) tu in
+      stepped-by (ce ∙ ap (λ w. set cs (p .pending) (pairOf w)) fe) (ee ∙ (λ i. set (set es (p .pending - 1) (x .across ∷ f1 i ∷ [])) (p .pending) (x .across ∷ g1 i ∷ []))) refl pe (push-step d)

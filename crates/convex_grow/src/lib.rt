@@ -6,13 +6,13 @@ ghost use mathlib.Core.List.{_∷_, []};
 ghost use Prim.Native.Nat.{_-_, _<_, _≤_};
 ghost use lib.ListN.{length, getD, set};
 ghost use Rattle.plane.specs.Machine.{point};
-ghost use Rattle.mesh.specs.Mesh.{vertex, neighbour, after, before, triangleAt};
+ghost use Rattle.mesh.specs.Mesh.{vertex, neighbour, before};
 ghost use Rattle.mesh.specs.Rows.{rowTriangle, rowsMesh};
 ghost use Rattle.convex_ring.specs.Buffers.{pairOf, Ready, Sound};
 ghost use Rattle.convex_grow.specs.Growing.{movedBy, pushedBy, Stepped, Started, Ran, Grown};
 use convex_ring::Progress;
+use mesh::Far;
 use mesh::NIL_INDEX;
-use plane::IntPoint;
 
 // The top corner is done.
 fn move_top(corners: &mut [[i32; 2]], p: Progress) -> Progress
@@ -48,27 +48,24 @@ fn put_edge(edges: &mut [[usize; 2]], i: usize, inside: usize, across: usize)
     edges[i] = [inside, across];
 }
 
-// The point far, vertex v of triangle k, is put after the top corner, with the two new edges.
+// The far vertex of triangle k is put after the top corner, with the two new edges.
 fn push(
-    mesh: &[[i32; 9]],
     corners: &mut [[i32; 2]],
     edges: &mut [[usize; 2]],
     k: usize,
-    v: usize,
-    far: IntPoint,
+    far: Far,
     p: Progress,
 ) -> Progress
-    requires { ⌜ (length (now edges) ≡ length (now corners)) × (0 < p .pending) × (p .pending < length (now corners)) × (k < length (now mesh)) × (v < 3) ⌝ }
-    ensures buffer { λ r. ⌜ now (corners .exit) ≡ set (now (corners .entry)) (p .pending) (pairOf (point far)) ⌝ }
-    ensures both { λ r. ⌜ now (edges .exit) ≡ set (set (now (edges .entry)) (p .pending - 1) (k ∷ neighbour (triangleAt (rowsMesh (now (mesh .entry))) k) (after v) ∷ [])) (p .pending) (k ∷ neighbour (triangleAt (rowsMesh (now (mesh .entry))) k) (before v) ∷ []) ⌝ }
+    requires { ⌜ (length (now edges) ≡ length (now corners)) × (0 < p .pending) × (p .pending < length (now corners)) ⌝ }
+    ensures buffer { λ r. ⌜ now (corners .exit) ≡ set (now (corners .entry)) (p .pending) (pairOf (point (far .vertex))) ⌝ }
+    ensures both { λ r. ⌜ now (edges .exit) ≡ set (set (now (edges .entry)) (p .pending - 1) (k ∷ far .first ∷ [])) (p .pending) (k ∷ far .second ∷ []) ⌝ }
     ensures counts { λ r. ⌜ r ≡ pushedBy p ⌝ }
 {
     let top = p.pending;
-    let side = mesh::after_of(v);
-    let end = mesh::after_of(side);
-    put_edge(edges, top - 1, k, mesh::neighbor_at(mesh, k, side));
-    put_edge(edges, top, k, mesh::neighbor_at(mesh, k, end));
-    convex_ring::put_corner(corners, top, far);
+    let vertex = far.vertex;
+    put_edge(edges, top - 1, k, far.first);
+    put_edge(edges, top, k, far.second);
+    convex_ring::put_corner(corners, top, vertex);
     Progress {
         pending: top + 1,
         done: p.done,
@@ -98,11 +95,11 @@ fn step(
     if taken[across] {
         return move_top(corners, p);
     }
-    let v = mesh::opposite_of(mesh[across], inside);
-    let far = mesh::vertex_at(mesh, across, v);
-    if convex_ring::joins_over(corners, far, pending, p.done) {
+    let far = mesh::far_of(mesh[across], inside);
+    let vertex = far.vertex;
+    if convex_ring::joins_over(corners, vertex, pending, p.done) {
         taken[across] = true;
-        return push(mesh, corners, edges, across, v, far, p);
+        return push(corners, edges, across, far, p);
     }
     move_top(corners, p)
 }

@@ -1,11 +1,10 @@
-// The triangle mesh: how a row of nine numbers is read, and the side that names a neighbour (geom/triangle.rs, index.rs). The definitions of the
+// The triangle mesh: how a row of nine numbers is read, and how it is seen over the side that names a neighbour (geom/triangle.rs, index.rs). The definitions of the
 // mesh and its faults are in specs/Mesh.antt, those of rows in specs/Rows.antt. Leans on plane.
 ghost use mathlib.Core.Path.{_≡_};
 ghost use Prim.Native.Nat.{_<_};
-ghost use lib.ListN.{length};
 ghost use Rattle.plane.specs.Machine.{point, CrossSize};
-ghost use Rattle.mesh.specs.Mesh.{vertex, neighbour, after, opposite, triangleAt, triangleArea};
-ghost use Rattle.mesh.specs.Rows.{rowTriangle, rowsMesh, RowOnGrid};
+ghost use Rattle.mesh.specs.Mesh.{vertex, neighbour, after, before, opposite, triangleArea};
+ghost use Rattle.mesh.specs.Rows.{rowTriangle, RowOnGrid};
 use plane::IntPoint;
 
 // No neighbour (the Rust's NIL_INDEX; document 01: "None is 4,294,967,295").
@@ -33,35 +32,40 @@ pub fn neighbor_of(row: [i32; 9], i: usize) -> usize
     integers::unsigned(row[6 + i]) as usize
 }
 
-// Vertex i of triangle k, read in place: a row that is copied and then asked for a vertex known only at run time waits for its own store.
-pub fn vertex_at(mesh: &[[i32; 9]], k: usize, i: usize) -> IntPoint
-    requires { ⌜ (k < length (now mesh)) × (i < 3) ⌝ }
-    ensures { λ r. ⌜ point r ≡ vertex (triangleAt (rowsMesh (now (mesh .entry))) k) i ⌝ }
-{
-    let x = mesh[k][2 * i];
-    let y = mesh[k][2 * i + 1];
-    IntPoint { x: x, y: y }
+// A triangle as it is seen over one of its sides: the far vertex, and the neighbours over the two edges there, first the one that ends in it.
+pub struct Far {
+    pub vertex: IntPoint,
+    pub first: usize,
+    pub second: usize,
 }
 
-// The neighbour across from vertex i of triangle k, read in place.
-pub fn neighbor_at(mesh: &[[i32; 9]], k: usize, i: usize) -> usize
-    requires { ⌜ (k < length (now mesh)) × (i < 3) ⌝ }
-    ensures { λ r. ⌜ r ≡ neighbour (triangleAt (rowsMesh (now (mesh .entry))) k) i ⌝ }
+// A row as it is seen over the side that names n, or over side 2 (the Rust's `opposite`). Each place is named, since a place known only at run time costs
+// more than these tests.
+pub fn far_of(row: [i32; 9], n: usize) -> Far
+    ensures { λ r. ⌜ (point (r .vertex) ≡ vertex (rowTriangle row) (opposite (rowTriangle row) n)) × (r .first ≡ neighbour (rowTriangle row) (after (opposite (rowTriangle row) n))) × (r .second ≡ neighbour (rowTriangle row) (before (opposite (rowTriangle row) n))) ⌝ }
 {
-    integers::unsigned(mesh[k][6 + i]) as usize
-}
-
-// The side that names n, or 2.
-pub fn opposite_of(row: [i32; 9], n: usize) -> usize
-    ensures { λ r. ⌜ r ≡ opposite (rowTriangle row) n ⌝ }
-{
-    if neighbor_of(row, 0) == n {
-        return 0;
+    let n0 = neighbor_of(row, 0);
+    let n1 = neighbor_of(row, 1);
+    let n2 = neighbor_of(row, 2);
+    if n0 == n {
+        return Far {
+            vertex: vertex_of(row, 0),
+            first: n1,
+            second: n2,
+        };
     }
-    if neighbor_of(row, 1) == n {
-        return 1;
+    if n1 == n {
+        return Far {
+            vertex: vertex_of(row, 1),
+            first: n2,
+            second: n0,
+        };
     }
-    2
+    Far {
+        vertex: vertex_of(row, 2),
+        first: n0,
+        second: n1,
+    }
 }
 
 // The vertex after vertex i, counter-clockwise.

@@ -3,8 +3,8 @@ use borrow.Author.Needs.{needs}
 use mathlib.Core.Path.{refl, _∙_}
 use lib.ListN.{length}
 use Rattle.mesh.specs.Rows.{rowsMesh}
-use Rattle.convex_ring.proofs.Reading.{side-below, around-of}
-use Rattle.convex_grow.proofs.Choice.{nothing, in-rows, in-flags, skipped, far-side, far-grid, joined, apart}
+use Rattle.convex_ring.proofs.Reading.{around-of}
+use Rattle.convex_grow.proofs.Choice.{nothing, in-rows, in-flags, skipped, row-across, far-vertex, far-grid, joined, apart}
 use Rattle.convex_grow.proofs.Steps.{stepped-by, moved-step, push-room, pushed-step}
 use Rattle.convex_grow.proofs.step.Statement.{statement}
 use Rattle.convex_grow.proofs.step.Tie as tie
@@ -54,46 +54,46 @@ returns-2 c =
     let g = s .args in
     stepped-by (c .before .move-top2 .ensures .0) refl refl (c .before .move-top2 .ensures .1) (moved-step (length (g .corners .now)) (rowsMesh (g .mesh .now)) (g .corners .now) (g .edges .now) (g .taken .now) (g .p) (s .pre .0) (s .pre .1) (skipped (length (g .corners .now)) (g .mesh .now) (g .corners .now) (g .edges .now) (g .taken .now) (g .p) (s .pre .0) (c .before .before .before .before .before .if1 .left) (c .before .before .before .if2 .taken)))
 
-mul-opposite-of : tie.Need-mul-opposite-of
-mul-opposite-of c =
+mul-far-of : tie.Need-mul-far-of
+mul-far-of c =
     let s = c .before .before .before .before .before in
     let g = s .args in
     let h = in-rows (length (g .corners .now)) (g .mesh .now) (g .corners .now) (g .edges .now) (g .taken .now) (g .p) (s .pre .0) (c .before .before .if1 .left) in
     search needs
 
-shared-slice-copy-out-opposite-of : tie.Need-shared-slice-copy-out-opposite-of
-shared-slice-copy-out-opposite-of c =
+shared-slice-copy-out-far-of : tie.Need-shared-slice-copy-out-far-of
+shared-slice-copy-out-far-of c =
     let s = c .before .before .before .before .before in
     let g = s .args in
     in-rows (length (g .corners .now)) (g .mesh .now) (g .corners .now) (g .edges .now) (g .taken .now) (g .p) (s .pre .0) (c .before .before .if1 .left)
 
-opposite-of-requires : tie.Need-opposite-of-requires
-opposite-of-requires c κs = search needs
-
-vertex-at-requires : tie.Need-vertex-at-requires
-vertex-at-requires c κs =
-    let s = c .before .before .before .before .before .before .before in
-    let g = s .args in
-    (in-rows (length (g .corners .now)) (g .mesh .now) (g .corners .now) (g .edges .now) (g .taken .now) (g .p) (s .pre .0) (c .before .before .before .before .if1 .left), side-below _ _ (c .opposite-of .ensures))
+far-of-requires : tie.Need-far-of-requires
+far-of-requires c κs = search needs
 
 joins-over-requires : tie.Need-joins-over-requires
 joins-over-requires c κs =
-    let s = c .before .before .before .before .before .before .before .before .before in
+    let f = c .before .before in
+    let n = f .before .before .before .before in
+    let s = n .before .before .before in
     let g = s .args in
-    (around-of (length (g .corners .now)) (rowsMesh (g .mesh .now)) (g .corners .now) (g .edges .now) (g .taken .now) (g .p) (s .pre .0) (s .pre .1), far-grid (length (g .corners .now)) (g .mesh .now) (g .corners .now) (g .edges .now) (g .taken .now) (g .p) (s .pre .0) (c .before .before .before .before .before .before .if1 .left) (c .before .before .opposite-of .ensures) (c .before .vertex-at .ensures))
+    (around-of (length (g .corners .now)) (rowsMesh (g .mesh .now)) (g .corners .now) (g .edges .now) (g .taken .now) (g .p) (s .pre .0) (s .pre .1), far-grid (length (g .corners .now)) (g .mesh .now) (g .corners .now) (g .edges .now) (g .taken .now) (g .p) (s .pre .0) (n .if1 .left) (f .far-of .ensures .0))
 
 slice-write-taken : tie.Need-slice-write-taken
 slice-write-taken c =
-    let s = c .before .before .before .before .before .before .before .before .before .before .before in
+    let n = c .before .before .before .before .before .before .before .before in
+    let s = n .before .before .before in
     let g = s .args in
-    in-flags (length (g .corners .now)) (g .mesh .now) (g .corners .now) (g .edges .now) (g .taken .now) (g .p) (s .pre .0) (c .before .before .before .before .before .before .before .before .if1 .left)
+    in-flags (length (g .corners .now)) (g .mesh .now) (g .corners .now) (g .edges .now) (g .taken .now) (g .p) (s .pre .0) (n .if1 .left)
 
 push-requires : tie.Need-push-requires
 push-requires c κs =
-    let s = c .before .before .before .before .before .before .before .before .before .before .before .before .before in
+    let f = c .before .before .before .before .before .before in
+    let n = f .before .before .before .before in
+    let s = n .before .before .before in
     let g = s .args in
-    let n = c .before .before .before .before .before .before .before .before .before .before .if1 .left in
-    (s .pre .0 .ready .edges, s .pre .1, push-room (length (g .corners .now)) (rowsMesh (g .mesh .now)) (g .corners .now) (g .edges .now) (g .taken .now) (g .p) (s .pre .0) (s .pre .1) (λ e. n (joined (length (g .corners .now)) (g .mesh .now) (g .corners .now) (g .edges .now) (g .taken .now) (g .p) (s .pre .0) (c .before .before .before .before .before .before .before .before .before .before .if1 .left) (c .before .before .before .before .before .before .opposite-of .ensures) (c .before .before .before .before .before .vertex-at .ensures) (c .before .before .before .before .before .before .before .before .if2 .left) (c .before .before .before .joins-over .ensures) (c .before .before .if3 .taken) ∙ e)), in-rows (length (g .corners .now)) (g .mesh .now) (g .corners .now) (g .edges .now) (g .taken .now) (g .p) (s .pre .0) n, side-below _ _ (c .before .before .before .before .before .before .opposite-of .ensures))
+    let some = n .if1 .left in
+    let j = joined (length (g .corners .now)) (g .mesh .now) (g .corners .now) (g .edges .now) (g .taken .now) (g .p) (s .pre .0) some (f .far-of .ensures .0) (f .before .before .if2 .left) (c .before .before .before .joins-over .ensures) (c .before .before .if3 .taken) in
+    (s .pre .0 .ready .edges, s .pre .1, push-room (length (g .corners .now)) (rowsMesh (g .mesh .now)) (g .corners .now) (g .edges .now) (g .taken .now) (g .p) (s .pre .0) (s .pre .1) (λ e. some (j ∙ e)))
 
 same-length-3 : tie.Need-same-length-3
 same-length-3 c = search needs
@@ -106,9 +106,15 @@ same-length-5 c = search needs
 
 returns-3 : tie.Need-returns-3
 returns-3 c =
-    let s = c .before .before .before .before .before .before .before .before .before .before .before .before .before .before .before .before in
+    let f = c .before .before .before .before .before .before .before .before .before in
+    let n = f .before .before .before .before in
+    let s = n .before .before .before in
     let g = s .args in
-    pushed-step (length (g .corners .now)) (rowsMesh (g .mesh .now)) (g .corners .now) (g .edges .now) (g .taken .now) (g .p) (s .pre .0) (s .pre .1) (joined (length (g .corners .now)) (g .mesh .now) (g .corners .now) (g .edges .now) (g .taken .now) (g .p) (s .pre .0) (c .before .before .before .before .before .before .before .before .before .before .before .before .before .if1 .left) (c .before .before .before .before .before .before .before .before .before .opposite-of .ensures) (c .before .before .before .before .before .before .before .before .vertex-at .ensures) (c .before .before .before .before .before .before .before .before .before .before .before .if2 .left) (c .before .before .before .before .before .before .joins-over .ensures) (c .before .before .before .before .before .if3 .taken)) (c .before .before .before .before .before .before .before .before .before .before .before .before .before .if1 .left) (far-side (length (g .corners .now)) (g .mesh .now) (g .corners .now) (g .edges .now) (g .taken .now) (g .p) (s .pre .0) (c .before .before .before .before .before .before .before .before .before .before .before .before .before .if1 .left) (c .before .before .before .before .before .before .before .before .before .opposite-of .ensures) (c .before .before .before .before .before .before .before .before .vertex-at .ensures)) (c .before .before .before .before .before .before .before .before .vertex-at .ensures) (c .before .before .push .ensures .0) (c .before .before .push .ensures .1 .0) (c .before .before .push .ensures .1 .1)
+    let some = n .if1 .left in
+    let far = f .far-of .ensures in
+    let put = c .before .before .push .ensures in
+    let j = joined (length (g .corners .now)) (g .mesh .now) (g .corners .now) (g .edges .now) (g .taken .now) (g .p) (s .pre .0) some (far .0) (f .before .before .if2 .left) (c .before .before .before .before .before .before .joins-over .ensures) (c .before .before .before .before .before .if3 .taken) in
+    pushed-step (length (g .corners .now)) (rowsMesh (g .mesh .now)) (g .corners .now) (g .edges .now) (g .taken .now) (g .p) (s .pre .0) (s .pre .1) j some (row-across (length (g .corners .now)) (g .mesh .now) (g .corners .now) (g .edges .now) (g .taken .now) (g .p) (s .pre .0) some) (far-vertex (length (g .corners .now)) (g .mesh .now) (g .corners .now) (g .edges .now) (g .taken .now) (g .p) (s .pre .0) some (far .0)) (far .1) (far .2) (put .0) (put .1 .0) (put .1 .1)
 
 move-top-requires-3 : tie.Need-move-top-requires-3
 move-top-requires-3 c κs = search needs
@@ -118,9 +124,11 @@ same-length-6 c = search needs
 
 returns-4 : tie.Need-returns-4
 returns-4 c =
-    let s = c .before .before .before .before .before .before .before .before .before .before .before .before .before .before in
+    let f = c .before .before .before .before .before .before .before in
+    let n = f .before .before .before .before in
+    let s = n .before .before .before in
     let g = s .args in
-    stepped-by (c .before .move-top3 .ensures .0) refl refl (c .before .move-top3 .ensures .1) (moved-step (length (g .corners .now)) (rowsMesh (g .mesh .now)) (g .corners .now) (g .edges .now) (g .taken .now) (g .p) (s .pre .0) (s .pre .1) (apart (length (g .corners .now)) (g .mesh .now) (g .corners .now) (g .edges .now) (g .taken .now) (g .p) (s .pre .0) (c .before .before .before .before .before .before .before .before .before .before .before .if1 .left) (c .before .before .before .before .before .before .before .opposite-of .ensures) (c .before .before .before .before .before .before .vertex-at .ensures) (c .before .before .before .before .before .before .before .before .before .if2 .left) (c .before .before .before .before .joins-over .ensures) (c .before .before .before .if3 .left)))
+    stepped-by (c .before .move-top3 .ensures .0) refl refl (c .before .move-top3 .ensures .1) (moved-step (length (g .corners .now)) (rowsMesh (g .mesh .now)) (g .corners .now) (g .edges .now) (g .taken .now) (g .p) (s .pre .0) (s .pre .1) (apart (length (g .corners .now)) (g .mesh .now) (g .corners .now) (g .edges .now) (g .taken .now) (g .p) (s .pre .0) (n .if1 .left) (f .far-of .ensures .0) (f .before .before .if2 .left) (c .before .before .before .before .joins-over .ensures) (c .before .before .before .if3 .left)))
 
 pub step-spec : {M : Type 1} → statement M
 step-spec =
@@ -138,10 +146,9 @@ step-spec =
     move-top-requires-2
     same-length-2
     returns-2
-    mul-opposite-of
-    shared-slice-copy-out-opposite-of
-    opposite-of-requires
-    vertex-at-requires
+    mul-far-of
+    shared-slice-copy-out-far-of
+    far-of-requires
     joins-over-requires
     slice-write-taken
     push-requires
