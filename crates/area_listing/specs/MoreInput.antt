@@ -2,9 +2,10 @@
 -- answer is a law"). Assumes nothing.
 use mathlib.Core.Path.{_≡_}
 use mathlib.Core.List.{List, _++_}
-use Prim.Native.Nat.{ℕ}
+use Prim.Native.Nat.{ℕ, _+_, _*_}
 use lib.ListN.{length}
+use Rattle.mesh.specs.Mesh.{maxTriangles}
 use Rattle.listing.specs.Listing.{areasOf}
 
 abbrev pub MoreInput : Type 0
-MoreInput = (bytes more : List ℕ) → length bytes ≡ 36885 → areasOf (bytes ++ more) ≡ areasOf bytes
+MoreInput = (bytes more : List ℕ) → length bytes ≡ 20 + 36 * maxTriangles + 1 → areasOf (bytes ++ more) ≡ areasOf bytes

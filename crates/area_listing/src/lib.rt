@@ -13,15 +13,15 @@ ghost use Rattle.area_listing.specs.Printed.{meshListing, MeshRoom, File
 use split::ConvexSplitStrategy;
 
 // The longest good file and one byte more, so that a longer one is seen to be too long.
-pub const INPUT: usize = 36885;
+pub const INPUT: usize = mesh_file::HEADER + mesh_file::RECORD * mesh::MAX_TRIANGLES + 1;
 
 // As many bytes as the longest listing has.
 pub const LISTING: usize = 233522;
 
-// As many starts and corners' numbers as the split parts of any mesh have, so that 22 and 21 cannot be.
-const STARTS: usize = 2049;
+// As many starts and corners' numbers as the split parts of any mesh have (at most six corners for each triangle), so that 22 and 21 cannot be.
+const STARTS: usize = table::MAX_PARTS + 1;
 
-const NUMBERS: usize = 12288;
+const NUMBERS: usize = 12 * mesh::MAX_TRIANGLES;
 
 // What is printed for a mesh, on the front of the text: its parts put into the lent starts and corners, and listed.
 fn list_mesh(

@@ -101,12 +101,13 @@ isIn n (k ∷ l) = cond (eqb k n) true (isIn n l)
 abbrev pub dropped : List Edge → Region → Region
 dropped s r = record { contour = r .contour; stack = s; taken = r .taken }
 
--- "A neighbour already taken is skipped": seen are those taken by earlier regions
+-- "A neighbour already taken is skipped": seen are those taken by earlier regions. u is the neighbour across the edge, v its far vertex
 unfoldable pub step : Mesh → List ℕ → Edge → List Edge → Region → Region
 step m seen e s r =
+    let u = triangleAt m (e .across) in
+    let v = opposite u (e .inside) in
     cond (isIn (e .across) (seen ++ r .taken)) (dropped s r)
-    (cond (joinsAt e (triangleAt m (e .across)) (opposite (triangleAt m (e .across)) (e .inside)) (r .contour))
-    (joined e (triangleAt m (e .across)) (opposite (triangleAt m (e .across)) (e .inside)) s (r .contour) (r .taken))
+    (cond (joinsAt e u v (r .contour)) (joined e u v s (r .contour) (r .taken))
     (dropped s r))
 
 -- taken from the top until the stack is empty; n is how many edges are taken at the most

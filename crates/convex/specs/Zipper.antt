@@ -65,10 +65,11 @@ joinsZ x r u v = joins (getD r (length r - 1) O) (x .corner) (vertex u v) (getD 
 
 unfoldable pub stepZ : Mesh → List ℕ → Slot → List Slot → Zipper → Zipper
 stepZ m seen x rest z =
+    let u = triangleAt m (x .across) in
+    let v = opposite u (x .inside) in
     cond (eqb (x .across) none) (moved x rest z)
     (cond (isIn (x .across) (seen ++ z .taken)) (moved x rest z)
-    (cond (joinsZ x (ring rest (z .done)) (triangleAt m (x .across)) (opposite (triangleAt m (x .across)) (x .inside)))
-    (pushed x rest (triangleAt m (x .across)) (opposite (triangleAt m (x .across)) (x .inside)) z)
+    (cond (joinsZ x (ring rest (z .done)) u v) (pushed x rest u v z)
     (moved x rest z)))
 
 -- until nothing is pending

@@ -1,25 +1,25 @@
--- The answer: starts and points copied to the lent buffers, one a turn (`starts-turn`, `points-turn`); parts handed out or refused for want of room
+-- The answer: points copied to the lent corners, one a turn (`points-turn`; a start's turn is `copy-turn` of integers/proofs/Overlay.antt); parts handed out or refused for want of room
 -- (`starts-refused`, `corners-refused`, `handed`); the same after a mesh's own faults (`mesh-refused`, `mesh-answered`). Assumes nothing.
 use mathlib.Core.Path.{_≡_, refl, sym, _∙_, ap, subst}
-use mathlib.Core.List.{List, [], _∷_, _++_, map, map-append, flatten, append-assoc}
+use mathlib.Core.List.{List, [], _∷_, _++_, map, map-append, flatten}
 use Prim.Native.Nat.{ℕ, _+_, _*_, _-_, _/_, _≤_, _<_}
 use native.Mathlib.Numerals.{add-one}
 use native.Mathlib.Omega.{arith}
 use borrow.Author.Tests.{lt-ltb, le-ltb}
 use lib.Dec.{lit<}
-use lib.ListN.{length, getD, set, take, length-append, length-map}
+use lib.ListN.{length, getD, set, take, length-map}
 use lib.Seq.{take-suc, length-take-le}
 use lib.IntN.{ℤ}
 use Rattle.integers.specs.Lists.{overlay}
 use Rattle.integers.specs.Faults.{firstFault}
-use Rattle.integers.proofs.Overlay.{overlay-turn}
+use Rattle.integers.proofs.Overlay.{overlay-two}
 use Rattle.plane.specs.Plane.{Pt}
 use Rattle.mesh.specs.Mesh.{Mesh, meshKinds}
 use Rattle.table.specs.declared.Counts.{Counts}
 use Rattle.table.specs.Table.{numbersOf, startsOf, cornersOf, roomKinds, countsOf, written}
 use Rattle.integers.proofs.Faults.{append-some, append-none}
 use Rattle.table.proofs.Answers.{refused-counts, refused-buffer, accepted-counts, accepted-buffer}
-use Rattle.table.proofs.Corners.{length-numbers}
+use Rattle.table.proofs.Corners.{length-numbers, numbers-append}
 use Rattle.table.proofs.Parts.{length-startsFrom}
 use Rattle.convex_gather.specs.declared.Tally.{Tally}
 use Rattle.convex_ring.specs.Buffers.{cornerOf, cornerAt}
@@ -27,15 +27,6 @@ use Rattle.convex_contour.specs.Contour.{firstPoints}
 use Rattle.convex_gather.specs.Gather.{Gathered, Answered, HandedOut}
 
 -- ---- copies
-
-pub starts-turn : (from to₀ : List ℕ) {to : List ℕ} (i : ℕ) → i < length from → i < length to₀ → to ≡ overlay (take i from) to₀ → set to i (getD from i 0) ≡ overlay (take (i + 1) from) to₀
-starts-turn from to₀ i h k p =
-    overlay-turn (take i from) to₀ i (getD from i 0) p (length-take-le i from (omega arith)) k ∙ ap (λ l. overlay l to₀) (sym (ap (λ n. take n from) (add-one i) ∙ take-suc from i 0 h))
-
-numbers-append : (a b : List Pt) → numbersOf (a ++ b) ≡ numbersOf a ++ numbersOf b
-unfolding numbersOf
-numbers-append [] b = refl
-numbers-append (p ∷ a) b = ap (λ l. p .x ∷ p .y ∷ l) (numbers-append a b)
 
 length-first : (points : List (List ℤ)) (i : ℕ) → i ≤ length points → length (firstPoints i points) ≡ i
 length-first points i h = length-map (take i points) cornerOf ∙ length-take-le i points h
@@ -52,9 +43,7 @@ points-turn points to₀ i h k p e =
     let x = cornerAt points i .x in
     let y = cornerAt points i .y in
     let size : length n ≡ 2 * i = omega (arith, length-numbers (firstPoints i points), length-first points i (omega arith)) in
-    let first = overlay-turn n to₀ (2 * i) x p size (omega arith) in
-    e ∙ overlay-turn (n ++ (x ∷ [])) to₀ (2 * i + 1) y first (omega (arith, length-append n (x ∷ []), size)) k
-    ∙ ap (λ l. overlay l to₀) (append-assoc n (x ∷ []) (y ∷ []) ∙ sym (numbers-more points i h))
+    e ∙ overlay-two n to₀ (2 * i) x y p size k ∙ ap (λ l. overlay l to₀) (sym (numbers-more points i h))
 
 -- ---- faults of the room
 

@@ -1,5 +1,6 @@
 -- De Berg et al.'s merge by angle is the join, on strictly ascending lists of nonzero edges (`berg-join`): no two edges of one list have one
--- direction, so a run is one edge or two, and both merges take them alike. Assumes nothing.
+-- direction, so a run is one edge or two, and both merges take them alike. First, that the merge has the cases that the specification writes out beside it
+-- (`merge-cases`). Assumes nothing.
 use mathlib.Core.Path.{_≡_, refl, sym, _∙_, ap}
 use mathlib.Core.List.{List, [], _∷_}
 use Rattle.integers.specs.Lists.{All}
@@ -10,10 +11,32 @@ use Rattle.plane.specs.Plane.{Pt, _+ᵖ_, angleCmp}
 use Rattle.plane.specs.Contour.{edges}
 use Rattle.plane.proofs.Directions.{Lt, Same, before, beside, after, angle-cases, Nz, lt-le, clash, same-le, lt-not-same, same-lt, same-sym, lt-trans}
 use Rattle.pair.specs.Walk.{cornerAt}
-use Rattle.pair.specs.Berg.{mergeOne, mergeByAngle, cornersFrom, bergOf}
+use Rattle.pair.specs.Berg.{mergeOne, mergeByAngle, MergeCases, cornersFrom, bergOf}
 use Rattle.pair.proofs.EdgeLists.{stepOne, stepped, runs, grouped}
 use Rattle.pair.proofs.Convex.{Sorted}
 use Rattle.pair.proofs.Join.{join, step-by, all-stepped, runs-by}
+
+-- ---- the merge, case by case
+
+-- one step of their merge, by the comparison
+merge-one : (e f : Pt) (k : List Pt → List Pt) (l : List Pt) {o : Ordering} → angleCmp e f ≡ o → mergeOne e k (f ∷ l) ≡ elim o [ Less ↦ e ∷ k (f ∷ l) | Equal ↦ (e +ᵖ f) ∷ k l | Greater ↦ f ∷ mergeOne e k l ]
+unfolding mergeOne
+merge-one e f k l h = ap (λ o. elim o [ Less ↦ e ∷ k (f ∷ l) | Equal ↦ (e +ᵖ f) ∷ k l | Greater ↦ f ∷ mergeOne e k l ]) h
+
+second-out : (l : List Pt) → mergeByAngle l [] ≡ l
+unfolding mergeByAngle mergeOne
+second-out [] = refl
+second-out (e ∷ l) = ap (λ r. e ∷ r) (second-out l)
+
+pub merge-cases : MergeCases
+unfolding mergeByAngle
+merge-cases = record {
+  first-out = λ m. refl;
+  second-out = second-out;
+  less = λ e f l m h. merge-one e f (mergeByAngle l) m h;
+  greater = λ e f l m h. merge-one e f (mergeByAngle l) m h;
+  equal = λ e f l m h. merge-one e f (mergeByAngle l) m h;
+}
 
 -- ---- one edge more of a strictly ascending list
 
@@ -35,11 +58,6 @@ stepped-first f [] l nf nm h = refl
 stepped-first f (g ∷ m) l nf nm h = step-by g (stepped m) f l (λ r. r ≡ f ∷ stepOne g (stepped m) l) (nm .0) nf (λ k. refl) (λ k. absurd (clash (h .0) k))
 
 -- ---- the merges agree
-
--- one step of their merge, by the comparison
-merge-one : (e f : Pt) (k : List Pt → List Pt) (l : List Pt) {o : Ordering} → angleCmp e f ≡ o → mergeOne e k (f ∷ l) ≡ elim o [ Less ↦ e ∷ k (f ∷ l) | Equal ↦ (e +ᵖ f) ∷ k l | Greater ↦ f ∷ mergeOne e k l ]
-unfolding mergeOne
-merge-one e f k l h = ap (λ o. elim o [ Less ↦ e ∷ k (f ∷ l) | Equal ↦ (e +ᵖ f) ∷ k l | Greater ↦ f ∷ mergeOne e k l ]) h
 
 module _ (e : Pt) (m : List Pt) (ne : Nz e) (nm : All Nz m) (em : All (Lt e) m)
     (rest : (l : List Pt) → All Nz l → Sorted Lt l → mergeByAngle m l ≡ grouped (stepped m l)) where

@@ -1,9 +1,10 @@
 -- When the line of a pair can be put: walks p and q lie in buffers, and there is room for any merge and any line. Assumes nothing.
 use mathlib.Core.List.{List, []}
-use Prim.Native.Nat.{ℕ, _≤_, _<_}
+use Prim.Native.Nat.{ℕ, _*_, _≤_, _<_}
 use lib.ListN.{length, getD}
 use lib.IntN.{ℤ}
 use Rattle.plane.specs.Plane.{Pt}
+use Rattle.table.specs.Table.{maxContour}
 use Rattle.pair_points.specs.Points.{mergedOf}
 use Rattle.minkowski_rows.specs.Rows.{walksIn}
 use Rattle.minkowski_count.specs.Counting.{Countable}
@@ -18,5 +19,5 @@ pub record Puttable (lf : List ℕ) (lp : List (List ℤ)) (left p : ℕ) (rf : 
   pub p-inside : p < left
   pub rights : Countable rf rp right
   pub q-inside : q < right
-  pub for-corners : 4104 ≤ length work
+  pub for-corners : 4 * maxContour ≤ length work
   pub for-line : 53399 ≤ length out

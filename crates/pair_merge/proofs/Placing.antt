@@ -7,7 +7,7 @@ use native.Mathlib.Omega.{arith}
 use lib.ListN.{length, set, drop, length-append, length-drop, length-set}
 use lib.IntN.{ℤ}
 use Rattle.integers.specs.Lists.{overlay}
-use Rattle.integers.proofs.Overlay.{overlay-eq, overlay-turn}
+use Rattle.integers.proofs.Overlay.{overlay-eq, overlay-two}
 use Rattle.plane.specs.Plane.{Pt}
 use Rattle.table.specs.Table.{numbersOf}
 use Rattle.table.proofs.Corners.{length-numbers, numbers-append}
@@ -27,9 +27,7 @@ put-one p out k {out′} h e = record {
         let n = numbersOf done in
         let size : length n ≡ 2 * k = omega (arith, length-numbers done) in
         let room : 2 * k + 1 < length old = omega (arith, ap length (o ∙ overlay-eq n old), length-append n (drop (length n) old), length-drop (length n) old) in
-        let first = overlay-turn n old (2 * k) (p .x) o size (omega arith) in
-        e ∙ overlay-turn (n ++ (p .x ∷ [])) old (2 * k + 1) (p .y) first (omega (arith, length-append n (p .x ∷ []))) room
-        ∙ ap (λ l. overlay l old) (append-assoc n (p .x ∷ []) (p .y ∷ []) ∙ sym (numbers-append done (p ∷ [])))
+        e ∙ overlay-two n old (2 * k) (p .x) (p .y) o size room ∙ ap (λ l. overlay l old) (sym (numbers-append done (p ∷ [])))
 
 -- nothing put yet
 pub reached-start : (whole : List Pt) (out : List ℤ) (n : ℕ) → Reached whole whole out n out n

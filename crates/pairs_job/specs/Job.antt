@@ -11,7 +11,7 @@ use Rattle.integers.specs.Faults.{Kind, firstFault, faultFile, faultRules}
 use Rattle.plane.specs.Plane.{Pt}
 use Rattle.table.specs.declared.IntRect.{IntRect}
 use Rattle.table.specs.Table.{maxParts, maxCorners}
-use Rattle.table.specs.Stored.{wordsOf, wordAt, signed}
+use Rattle.table.specs.Stored.{wordsOf, wordAt, signed, storedStarts, storedCorners}
 use Rattle.text.specs.Text.{refusal}
 use Rattle.minkowski.specs.Pairs.{Operand, operandParts, pairContours, resultBounds, pairKinds}
 use Rattle.pair_lines.specs.Lines.{pairsHead, pairLines}
@@ -36,6 +36,14 @@ cornersAt bytes k = map signed (take (2 * wordAt bytes (k + 1)) (drop (k + 3 + w
 -- how many words it has, as its counts say; a count that the bytes end before is 0
 abbrev pub tableWords : List ℕ → ℕ → ℕ
 tableWords bytes k = 3 + wordAt bytes k + 2 * wordAt bytes (k + 1)
+
+-- they are a stored table's starts and corners, of the bytes that it has (proofs/Stored.antt)
+abbrev pub tableBytes : List ℕ → ℕ → List ℕ
+tableBytes bytes k = take (4 * tableWords bytes k) (drop (4 * k) bytes)
+
+pub record TableStored (bytes : List ℕ) (k : ℕ) : Type 0 where
+  pub starts : startsAt bytes k ≡ storedStarts (tableBytes bytes k)
+  pub corners : cornersAt bytes k ≡ storedCorners (tableBytes bytes k)
 
 -- ---- the job
 

@@ -6,6 +6,7 @@ use Prim.Native.Nat.{ℕ, _*_, _<_, _≤_}
 use lib.Dec.{eqb}
 use lib.ListN.{length}
 use lib.IntN.{ℤ}
+use Rattle.table.specs.Table.{maxContour}
 use Rattle.text.specs.Text.{refusal}
 use Rattle.minkowski.specs.Pairs.{operandParts, resultBounds}
 use Rattle.minkowski_count.specs.Counting.{Countable}
@@ -36,7 +37,7 @@ InPieces = (bytes : List ℕ) → pairsText bytes ≡ firstLine bytes ++ otherLi
 pub record Printable (lf : List ℕ) (lp : List (List ℤ)) (left : ℕ) (rf : List ℕ) (rp : List (List ℤ)) (right : ℕ) (work : List ℤ) (out : List ℕ) : Type 0 where
   pub lefts : Countable lf lp left
   pub rights : Countable rf rp right
-  pub for-corners : 4104 ≤ length work
+  pub for-corners : 4 * maxContour ≤ length work
   pub for-line : 53399 ≤ length out
 
 -- what a job answered before its lines: as many pairs as a head line can tell and, where it is not refused, the walks of both operands

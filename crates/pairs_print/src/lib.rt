@@ -18,7 +18,7 @@ const LINE: usize = 53399;
 const FIRST: usize = 154;
 
 // The numbers of a work buffer that holds the corners of any pair.
-const WORK: usize = 4104;
+const WORK: usize = 4 * table::MAX_CONTOUR;
 
 // Writes the lines of left part p with each right part, and answers whether all of them were taken.
 fn print_row(

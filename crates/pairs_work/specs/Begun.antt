@@ -3,12 +3,12 @@
 use mathlib.Core.Path.{_≡_}
 use mathlib.Core.Bool.{Bool, false, cond}
 use mathlib.Core.List.{List, flatten}
-use Prim.Native.Nat.{ℕ}
+use Prim.Native.Nat.{ℕ, _+_, _*_}
 use lib.Dec.{eqb}
 use lib.ListN.{length}
 use lib.IntN.{ℤ}
 use Rattle.integers.specs.Faults.{firstFault}
-use Rattle.table.specs.Table.{partCount}
+use Rattle.table.specs.Table.{partCount, maxParts, maxCorners}
 use Rattle.minkowski.specs.Pairs.{Operand, noBounds, resultBounds, pairContours, pairKinds}
 use Rattle.minkowski_work.specs.Scratch.{Walked}
 use Rattle.pairs_job.specs.Job.{shapeFault}
@@ -16,18 +16,18 @@ use Rattle.pairs_work.specs.declared.Begun.{Begun}
 
 -- a point for each of 8,192 corners and one more for each of 2,048 parts, and a first for each of 2,049 starts
 pub record Large (lp : List (List ℤ)) (lf : List ℕ) (rp : List (List ℤ)) (rf : List ℕ) : Type 0 where
-  pub left-points : length lp ≡ 10240
-  pub left-firsts : length lf ≡ 2049
-  pub right-points : length rp ≡ 10240
-  pub right-firsts : length rf ≡ 2049
+  pub left-points : length lp ≡ maxCorners + maxParts
+  pub left-firsts : length lf ≡ maxParts + 1
+  pub right-points : length rp ≡ maxCorners + maxParts
+  pub right-firsts : length rf ≡ maxParts + 1
 
 -- a job without a fault of its shape, and places for any tables within the limits
 pub record Shapely (bytes : List ℕ) (ls : List ℕ) (lc : List ℤ) (rs : List ℕ) (rc : List ℤ) : Type 0 where
   pub shape : shapeFault bytes ≡ 0
-  pub left-starts : length ls ≡ 2049
-  pub left-corners : length lc ≡ 16384
-  pub right-starts : length rs ≡ 2049
-  pub right-corners : length rc ≡ 16384
+  pub left-starts : length ls ≡ maxParts + 1
+  pub left-corners : length lc ≡ 2 * maxCorners
+  pub right-starts : length rs ≡ maxParts + 1
+  pub right-corners : length rc ≡ 2 * maxCorners
 
 -- the first fault of two operands; where there is none, the walks of both are there
 pub record PairsTold (reflected : Bool) (l r : Operand) (lp : List (List ℤ)) (lf : List ℕ) (rp : List (List ℤ)) (rf : List ℕ) (f : ℕ) : Type 0 where

@@ -13,9 +13,9 @@ use table::IntRect;
 use table_words::word_at;
 
 // The points and the firsts of any operand's walks: 8,192 corners, and one more point for each of 2,048 parts.
-pub const POINTS: usize = 10240;
+pub const POINTS: usize = table::MAX_CORNERS + table::MAX_PARTS;
 
-pub const FIRSTS: usize = 2049;
+pub const FIRSTS: usize = table::MAX_PARTS + 1;
 
 // What a job answers before its lines: the fault number, 0 for none, how many parts each operand has, how many corners all pairs have, and the result's bounds; all
 // 0 where it is refused.
@@ -195,10 +195,10 @@ pub fn begin_job(
     if fault != 0 {
         return refused(fault);
     }
-    let mut left_starts = [0u32; 2049];
-    let mut left_corners = [0i32; 16384];
-    let mut right_starts = [0u32; 2049];
-    let mut right_corners = [0i32; 16384];
+    let mut left_starts = [0u32; FIRSTS];
+    let mut left_corners = [0i32; 2 * table::MAX_CORNERS];
+    let mut right_starts = [0u32; FIRSTS];
+    let mut right_corners = [0i32; 2 * table::MAX_CORNERS];
     begin_shaped(
         bytes,
         &mut left_starts,

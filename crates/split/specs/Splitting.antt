@@ -100,7 +100,9 @@ taking g a zero l = 0
 taking g a (suc r) [] = 0
 taking g a (suc r) (c ∷ l) = cond (ltZ (pos 0) (areaTwo g a c)) (suc (taking g a r l)) 0
 
--- of a group of s edges that starts at the first of l: at least one, whose end is the second
+-- how many of a group's s edges its next part takes. l are the corners from where the part starts: its first edge, from the first corner of l to the second,
+-- is always taken; each one after it, up to s in all, is taken while g, the first corner and that edge's end make a positive turn, and the part ends at the
+-- first that does not
 abbrev pub edgesTaken : Pt → ℕ → List Pt → ℕ
 edgesTaken g s l = suc (taking g (getD l 0 O) (s - 1) (drop 2 l))
 

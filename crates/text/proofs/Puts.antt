@@ -4,13 +4,12 @@
 use mathlib.Core.Path.{_≡_, refl, sym, _∙_, ap}
 use mathlib.Core.List.{List, [], _∷_, _++_, append-assoc, append-nil}
 use Prim.Native.Nat.{ℕ, _+_, _≤_, _<_}
-use native.Mathlib.Numerals.{add-one}
 use native.Mathlib.Omega.{arith}
 use lib.ListN.{length, getD, set, take, drop, length-append, take-append-drop}
-use lib.Seq.{take-suc, take-all, length-take-le}
+use lib.Seq.{take-all, length-take-le}
 use Rattle.io.specs.Counts.{Counts}
 use Rattle.integers.specs.Lists.{overlay}
-use Rattle.integers.proofs.Overlay.{overlay-turn, overlay-overlay, take-overlay, length-overlay}
+use Rattle.integers.proofs.Overlay.{copy-turn-past, overlay-overlay, take-overlay, length-overlay}
 use Rattle.text.specs.Put.{putAt, PutText}
 
 -- ---- one byte a turn
@@ -25,9 +24,7 @@ module _ (from old : List ℕ) (at : ℕ) where
 
   pub put-turn : {buf : List ℕ} (i : ℕ) → i < length from → at + i < length old → buf ≡ putAt at (take i from) old → set buf (at + i) (getD from i 0) ≡ putAt at (take (i + 1) from) old
   unfolding putAt
-  put-turn i h k p =
-      overlay-turn (take at old ++ take i from) old (at + i) (getD from i 0) p (omega (arith, length-append (take at old) (take i from), length-take-le at old (omega arith), length-take-le i from (omega arith))) k
-      ∙ ap (λ l. overlay l old) (append-assoc (take at old) (take i from) (getD from i 0 ∷ []) ∙ ap (λ l. take at old ++ l) (sym (ap (λ n. take n from) (add-one i) ∙ take-suc from i 0 h)))
+  put-turn i h k p = copy-turn-past (take at old) from old i (at + i) 0 (omega (arith, length-take-le at old (omega arith))) h k p refl
 
   pub put-end : {buf : List ℕ} (i : ℕ) → length from ≤ i → buf ≡ putAt at (take i from) old → PutText from at old buf (at + length from)
   put-end i h p = record { after = refl; bytes = p ∙ ap (λ t. putAt at t old) (take-all i from h) }

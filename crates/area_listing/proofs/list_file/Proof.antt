@@ -44,9 +44,13 @@ same-length-4 c = search needs
 
 returns : tie.Need-returns
 returns c =
-    let r = c .before .before .before .before .before .before .before .before .before .before .before .before .before in
+    let p2 = c .before .before .before .before .before in
+    let p1 = p2 .before .before .before .before .before in
+    let r = p1 .before .before .before in
     let s = r .before .before .before .before .before .before in
-    put-as (file-listed (s .args .bytes .now) (s .args .rows .now) (s .args .starts .now) (s .args .corners .now) (s .args .out .now) (s .pre) (c .before .before .before .before .before .before .before .before .before .before .strategy .ensures) (c .before .before .before .before .before .before .before .before .before .before .before .corner-limit .ensures) _ (r .read-rows .ensures)) (c .before .before .before .before .before .list-mesh .ensures)
+    put-as
+    (file-listed (s .args .bytes .now) (s .args .rows .now) (s .args .starts .now) (s .args .corners .now) (s .args .out .now) (s .pre)
+    (p1 .strategy .ensures) (p1 .before .corner-limit .ensures) _ (r .read-rows .ensures)) (p2 .list-mesh .ensures)
 
 pub list-file-spec : {M : Type 1} → statement M
 list-file-spec =

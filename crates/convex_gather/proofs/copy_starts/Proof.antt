@@ -5,8 +5,7 @@ use native.Mathlib.Omega.{arith}
 use borrow.Author.Needs.{needs}
 use lib.ListN.{length, take, length-set}
 use Rattle.integers.specs.Lists.{overlay}
-use Rattle.integers.proofs.Overlay.{overlay-nil}
-use Rattle.convex_gather.proofs.Answer.{starts-turn}
+use Rattle.integers.proofs.Overlay.{overlay-nil, copy-turn}
 use Rattle.convex_gather.proofs.copy_starts.Statement.{statement}
 use Rattle.convex_gather.proofs.copy_starts.Tie as tie
 
@@ -46,7 +45,11 @@ loop-again c =
     let l = c .before .before in
     let s = l .before in
     let h = c .before .loop-test .taken in
-    (omega (arith, h), length-set (l .loop .to) (l .loop .i) _ ∙ l .loop .inv .1, starts-turn (s .args .from .now) (s .args .to .now) (l .loop .i) (omega (arith, h, s .pre .0)) (omega (arith, h, s .pre .1)) (l .loop .inv .2))
+    let g = s .args in (
+      omega (arith, h),
+      length-set (l .loop .to) (l .loop .i) _ ∙ l .loop .inv .1,
+      copy-turn (g .from .now) (g .to .now) (l .loop .i) 0 (omega (arith, h, s .pre .0)) (omega (arith, h, s .pre .1)) (l .loop .inv .2) refl,
+    )
 
 same-length : tie.Need-same-length Inv-loop μ-loop
 same-length c = c .before .loop .inv .1

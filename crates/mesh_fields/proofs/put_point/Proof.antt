@@ -56,9 +56,15 @@ same-length c = search needs
 
 returns-2 : tie.Need-returns-2
 returns-2 c =
-    let k = c .before .before .before .before .before .before .before .before .before .before .before .before .before .before in
-    let p = c .before .before .before .before .before .before .before .before .before in
-    put-both (k .before .before .before .args .entry .now) (k .comma .ensures .0) (c .before .before .before .before .before .before .before .before .before .before .before .before .before .if1 .left) (c .before .before .before .before .before .before .before .before .before .before .before .coordinate .ensures) (p .put-reading .ensures) (c .before .before .before .before .before .before .if2 .taken) (c .before .before .before .before .coordinate2 .ensures) (c .before .before .put-reading2 .ensures)
+    let p5 = c .before .before in
+    let p4 = p5 .before .before in
+    let p3 = p4 .before .before in
+    let p = p3 .before .before .before in
+    let p2 = p .before .before in
+    let p1 = p2 .before .before in
+    let k = p1 .before in
+    put-both (k .before .before .before .args .entry .now) (k .comma .ensures .0) (p1 .if1 .left) (p2 .coordinate .ensures) (p .put-reading .ensures)
+    (p3 .if2 .taken) (p4 .coordinate2 .ensures) (p5 .put-reading2 .ensures)
 
 same-length-2 : tie.Need-same-length-2
 same-length-2 c = search needs

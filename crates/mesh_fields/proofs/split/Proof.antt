@@ -29,13 +29,24 @@ is-word-requires-3 : tie.Need-is-word-requires-3
 is-word-requires-3 c κs = search needs
 
 returns-3 : tie.Need-returns-3
-returns-3 c = centroid (c .before .before .before .before .before .before .before .before .before .before .args .entry .now) (c .before .before .before .before .before .before .before .is-word .ensures) (c .before .before .before .before .before .before .if1 .left) (c .before .before .before .before .is-word2 .ensures) (c .before .before .before .if2 .left) (c .before .is-word3 .ensures) (c .if3 .taken)
+returns-3 c =
+    let p2 = c .before .before .before in
+    let p1 = p2 .before .before .before in
+    let s = p1 .before .before .before .before in
+    centroid (s .args .entry .now) (p1 .before .is-word .ensures) (p1 .if1 .left) (p2 .before .is-word2 .ensures) (p2 .if2 .left)
+    (c .before .is-word3 .ensures) (c .if3 .taken)
 
 no-number-requires : tie.Need-no-number-requires
 no-number-requires c κs = search needs
 
 returns-4 : tie.Need-returns-4
-returns-4 c = no-split (c .before .before .before .before .before .before .before .before .before .before .before .args .entry .now) (c .before .before .before .before .before .before .before .before .is-word .ensures) (c .before .before .before .before .before .before .before .if1 .left) (c .before .before .before .before .before .is-word2 .ensures) (c .before .before .before .before .if2 .left) (c .before .before .is-word3 .ensures) (c .before .if3 .left) (c .no-number .ensures)
+returns-4 c =
+    let p3 = c .before .before in
+    let p2 = p3 .before .before in
+    let p1 = p2 .before .before .before in
+    let s = p1 .before .before .before .before in
+    no-split (s .args .entry .now) (p1 .before .is-word .ensures) (p1 .if1 .left) (p2 .before .is-word2 .ensures) (p2 .if2 .left)
+    (p3 .is-word3 .ensures) (c .before .if3 .left) (c .no-number .ensures)
 
 pub split-spec : {M : Type 1} → statement M
 split-spec =

@@ -28,8 +28,12 @@ same-length c = search needs
 
 returns : tie.Need-returns
 returns c =
-    limit-named (c .before .before .before .before .before .before .before .before .before .before .before .before .args .line .now) (c .before .before .before .before .before .before .before .before .before .field .ensures) (c .before .before .before .before .before .before .before .is-word .ensures) (c .before .before .before .before .before .before .if1 .taken)
-    (put-number-of (c .before .before .before .before .before .field2 .ensures) (c .before .before .put-reading .ensures) (c .before .before .before .before .number .ensures))
+    let p4 = c .before .before in
+    let p3 = p4 .before .before in
+    let p2 = p3 .before .before in
+    let p1 = p2 .before .before .before in
+    limit-named (p1 .before .before .before .args .line .now) (p1 .field .ensures) (p2 .before .is-word .ensures) (p2 .if1 .taken)
+    (put-number-of (p3 .before .field2 .ensures) (p4 .put-reading .ensures) (p3 .number .ensures))
 
 returns-2 : tie.Need-returns-2
 returns-2 c = put-wrong _ _ _ (not-named (c .before .before .before .before .before .before .args .line .now) (c .before .before .before .field .ensures) (c .before .is-word .ensures) (c .if1 .left))

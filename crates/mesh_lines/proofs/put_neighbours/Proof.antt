@@ -27,7 +27,13 @@ same-length c = search needs
 
 returns : tie.Need-returns
 unfolding areNeighbours
-returns c = put-then (c .before .before .before .before .before .before .before .before .before .before .before .before .put-neighbour-at .ensures) (c .before .before .before .before .before .before .before .before .before .if1 .taken) refl (put-then (c .before .before .before .before .before .before .before .put-neighbour-at2 .ensures) (c .before .before .before .before .if2 .taken) (omega arith) (c .before .before .put-neighbour-at3 .ensures))
+returns c =
+    let p4 = c .before .before in
+    let p3 = p4 .before .before in
+    let p2 = p3 .before .before .before in
+    let p1 = p2 .before .before in
+    put-then (p1 .before .before .before .put-neighbour-at .ensures) (p1 .if1 .taken) refl
+    (put-then (p2 .put-neighbour-at2 .ensures) (p3 .if2 .taken) (omega arith) (p4 .put-neighbour-at3 .ensures))
 
 same-length-2 : tie.Need-same-length-2
 same-length-2 c = search needs

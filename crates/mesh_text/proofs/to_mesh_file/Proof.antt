@@ -40,7 +40,13 @@ write-file-requires c κs =
     (omega (arith, g .few z), gathered-length g z refl, search needs)
 
 returns-3 : tie.Need-returns-3
-returns-3 c = converted-text (c .before .before .before .before .before .before .before .before .before .before .before .args .text .now) (c .before .before .before .before .before .before .before .before .before .before .before .args .out .now) (c .before .before .before .before .before .before .before .before .before .if1 .left) (c .before .before .before .before .before .before .before .gather .ensures) (c .before .before .before .before .if2 .left) (c .write-file .ensures .0) (c .write-file .ensures .1)
+returns-3 c =
+    let p3 = c .before .before .before .before in
+    let p2 = p3 .before .before .before in
+    let p1 = p2 .before .before in
+    let s = p1 .before .before in
+    converted-text (s .args .text .now) (s .args .out .now) (p1 .if1 .left) (p2 .gather .ensures) (p3 .if2 .left) (c .write-file .ensures .0)
+    (c .write-file .ensures .1)
 
 pub to-mesh-file-spec : {M : Type 1} → statement M
 to-mesh-file-spec =

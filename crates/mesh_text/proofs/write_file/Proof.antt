@@ -38,8 +38,16 @@ same-length c = search needs
 
 returns : tie.Need-returns
 returns c =
-    let s = c .before .before .before .before .before .before .before .before .before .before .before .before .before .before .before .before .before .before .args in
-    (refl, put-file _ _ _ (s .gathered .now) (s .out .now) (omega (arith, c .before .before .before .before .before .before .before .before .before .before .before .before .before .before .before .before .before .before .pre)) (c .before .before .before .before .before .before .before .before .before .before .before .before .before .before .put-word .ensures) (c .before .before .before .before .before .before .before .before .before .before .put-word2 .ensures) (c .before .before .before .before .before .before .put-word3 .ensures) (c .before .before .write-words .ensures))
+    let p4 = c .before .before in
+    let p3 = p4 .before .before .before .before in
+    let p2 = p3 .before .before .before .before in
+    let p1 = p2 .before .before .before .before in
+    let start = p1 .before .before .before .before in
+    let s = start .args in (
+      refl,
+      put-file _ _ _ (s .gathered .now) (s .out .now) (omega (arith, start .pre)) (p1 .put-word .ensures) (p2 .put-word2 .ensures)
+          (p3 .put-word3 .ensures) (p4 .write-words .ensures),
+    )
 
 pub write-file-spec : {M : Type 1} → statement M
 write-file-spec =

@@ -61,11 +61,16 @@ same-length-2 c = search needs
 
 returns-3 : tie.Need-returns-3
 returns-3 c =
-    let s = c .before .before .before .before .before .before .before .before .before .before .before .before in
+    let p3 = c .before .before .before in
+    let p2 = p3 .before .before .before in
+    let p1 = p2 .before .before in
+    let s = p1 .before .before .before .before in
     let g = s .args in
     let ps = contoursIn (g .lf .now) (g .lp .now) (g .left) (g .rf .now) (g .rp .now) (g .right) in
-    let a = c .before .before .before .append-all .ensures in
-    handed ps (g .bounds) (g .starts .now) (g .corners .now) (omega (arith, contours-count (s .pre), c .before .before .before .before .before .before .before .before .if1 .left)) (no-more (length (g .corners .now) / 2) (length (flatten ps)) (c .before .before .before .before .before .before .before .no-room .ensures) (c .before .before .before .before .before .before .if2 .left)) (sym (contours-count (s .pre))) (a .count) (a .starts) (a .corners)
+    let a = p3 .append-all .ensures in
+    handed ps (g .bounds) (g .starts .now) (g .corners .now) (omega (arith, contours-count (s .pre), p1 .if1 .left))
+    (no-more (length (g .corners .now) / 2) (length (flatten ps)) (p2 .before .no-room .ensures) (p2 .if2 .left)) (sym (contours-count (s .pre)))
+    (a .count) (a .starts) (a .corners)
 
 pub hand-out-spec : {M : Type 1} → statement M
 hand-out-spec =

@@ -31,23 +31,52 @@ slice-aggregate-put-word-signed-3 c = search needs
 
 put-word-signed-requires-3 : tie.Need-put-word-signed-requires-3
 put-word-signed-requires-3 c κs =
-    let s = c .before .before .before .before .before .before .before .before .before .before .before .before .before .before .before .before .args .bounds in
-    omega (arith, bounds-length s, ap (λ z. length (signedDecimal z)) (kept {w = w32} {z = s .«min_x»} (search needs)), ap (λ z. length (signedDecimal z)) (kept {w = w32} {z = s .«max_x»} (search needs)), ap (λ z. length (signedDecimal z)) (kept {w = w32} {z = s .«min_y»} (search needs)), c .before .before .before .before .before .before .before .before .before .before .before .put-word-signed .ensures .after, c .before .before .before .before .before .put-word-signed2 .ensures .after)
+    let p2 = c .before .before .before .before .before in
+    let p1 = p2 .before .before .before .before .before .before in
+    let s = p1 .before .before .before .before .before .args .bounds in
+    omega (
+      arith,
+      bounds-length s,
+      ap (λ z. length (signedDecimal z)) (kept {w = w32} {z = s .«min_x»} (search needs)),
+      ap (λ z. length (signedDecimal z)) (kept {w = w32} {z = s .«max_x»} (search needs)),
+      ap (λ z. length (signedDecimal z)) (kept {w = w32} {z = s .«min_y»} (search needs)),
+      p1 .put-word-signed .ensures .after,
+      p2 .put-word-signed2 .ensures .after,
+    )
 
 slice-aggregate-put-word-signed-4 : tie.Need-slice-aggregate-put-word-signed-4
 slice-aggregate-put-word-signed-4 c = search needs
 
 put-word-signed-requires-4 : tie.Need-put-word-signed-requires-4
 put-word-signed-requires-4 c κs =
-    let s = c .before .before .before .before .before .before .before .before .before .before .before .before .before .before .before .before .before .before .before .before .before .before .args .bounds in
-    omega (arith, bounds-length s, ap (λ z. length (signedDecimal z)) (kept {w = w32} {z = s .«min_x»} (search needs)), ap (λ z. length (signedDecimal z)) (kept {w = w32} {z = s .«max_x»} (search needs)), ap (λ z. length (signedDecimal z)) (kept {w = w32} {z = s .«min_y»} (search needs)), ap (λ z. length (signedDecimal z)) (kept {w = w32} {z = s .«max_y»} (search needs)), c .before .before .before .before .before .before .before .before .before .before .before .before .before .before .before .before .before .put-word-signed .ensures .after, c .before .before .before .before .before .before .before .before .before .before .before .put-word-signed2 .ensures .after, c .before .before .before .before .before .put-word-signed3 .ensures .after)
+    let p3 = c .before .before .before .before .before in
+    let p2 = p3 .before .before .before .before .before .before in
+    let p1 = p2 .before .before .before .before .before .before in
+    let s = p1 .before .before .before .before .before .args .bounds in
+    omega (
+      arith,
+      bounds-length s,
+      ap (λ z. length (signedDecimal z)) (kept {w = w32} {z = s .«min_x»} (search needs)),
+      ap (λ z. length (signedDecimal z)) (kept {w = w32} {z = s .«max_x»} (search needs)),
+      ap (λ z. length (signedDecimal z)) (kept {w = w32} {z = s .«min_y»} (search needs)),
+      ap (λ z. length (signedDecimal z)) (kept {w = w32} {z = s .«max_y»} (search needs)),
+      p1 .put-word-signed .ensures .after,
+      p2 .put-word-signed2 .ensures .after,
+      p3 .put-word-signed3 .ensures .after,
+    )
 
 same-length : tie.Need-same-length
 same-length c = search needs
 
 returns : tie.Need-returns
 returns c =
-    bounds-pieces (c .before .before .before .before .before .before .before .before .before .before .before .before .before .before .before .before .before .before .before .before .before .before .before .before .before .args .bounds) (kept (search needs)) (kept (search needs)) (kept (search needs)) (kept (search needs)) (omega arith) (c .before .before .before .before .before .before .before .before .before .before .before .before .before .before .before .before .before .before .before .before .put-word-signed .ensures) (c .before .before .before .before .before .before .before .before .before .before .before .before .before .before .put-word-signed2 .ensures) (c .before .before .before .before .before .before .before .before .put-word-signed3 .ensures) (c .before .before .put-word-signed4 .ensures)
+    let p3 = c .before .before .before .before .before .before .before .before in
+    let p2 = p3 .before .before .before .before .before .before in
+    let p1 = p2 .before .before .before .before .before .before in
+    let s = p1 .before .before .before .before .before .args .bounds in
+    let fits = p1 .before .struct-told .given in
+    bounds-pieces s (kept (search (needs, fits))) (kept (search (needs, fits))) (kept (search (needs, fits))) (kept (search (needs, fits))) (omega arith)
+    (p1 .put-word-signed .ensures) (p2 .put-word-signed2 .ensures) (p3 .put-word-signed3 .ensures) (c .before .before .put-word-signed4 .ensures)
 
 pub put-bounds-spec : {M : Type 1} → statement M
 put-bounds-spec =

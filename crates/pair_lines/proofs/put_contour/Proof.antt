@@ -33,24 +33,52 @@ put-word-decimal-requires-2 c κs =
 
 put-corners-requires : tie.Need-put-corners-requires
 put-corners-requires c κs =
-    let s = c .before .before .before .before .before .before .before .before .before .before .before .before .before .before .before .before .args in
-    omega (arith, line-length (s .i) (s .j) (pointsOf (s .corners .now)), ap (λ n. length (decimal n)) (length-points (s .corners .now)), c .before .before .before .before .before .before .before .before .before .before .before .before .before .put-decimal .ensures .after, c .before .before .before .before .before .before .before .before .put-word-decimal .ensures .after, c .before .before .before .put-word-decimal2 .ensures .after)
+    let p3 = c .before .before .before in
+    let p2 = p3 .before .before .before .before .before in
+    let p1 = p2 .before .before .before .before .before in
+    let s = p1 .before .before .before .args in
+    omega (
+      arith,
+      line-length (s .i) (s .j) (pointsOf (s .corners .now)),
+      ap (λ n. length (decimal n)) (length-points (s .corners .now)),
+      p1 .put-decimal .ensures .after,
+      p2 .put-word-decimal .ensures .after,
+      p3 .put-word-decimal2 .ensures .after,
+    )
 
 slice-aggregate-put-bytes : tie.Need-slice-aggregate-put-bytes
 slice-aggregate-put-bytes c = search needs
 
 put-bytes-requires : tie.Need-put-bytes-requires
 put-bytes-requires c κs =
-    let s = c .before .before .before .before .before .before .before .before .before .before .before .before .before .before .before .before .before .before .before .before .before .args in
-    omega (arith, line-length (s .i) (s .j) (pointsOf (s .corners .now)), ap (λ n. length (decimal n)) (length-points (s .corners .now)), c .before .before .before .before .before .before .before .before .before .before .before .before .before .before .before .before .before .before .put-decimal .ensures .after, c .before .before .before .before .before .before .before .before .before .before .before .before .before .put-word-decimal .ensures .after, c .before .before .before .before .before .before .before .before .put-word-decimal2 .ensures .after, c .before .before .before .before .put-corners .ensures .after)
+    let p4 = c .before .before .before .before in
+    let p3 = p4 .before .before .before .before in
+    let p2 = p3 .before .before .before .before .before in
+    let p1 = p2 .before .before .before .before .before in
+    let s = p1 .before .before .before .args in
+    omega (
+      arith,
+      line-length (s .i) (s .j) (pointsOf (s .corners .now)),
+      ap (λ n. length (decimal n)) (length-points (s .corners .now)),
+      p1 .put-decimal .ensures .after,
+      p2 .put-word-decimal .ensures .after,
+      p3 .put-word-decimal2 .ensures .after,
+      p4 .put-corners .ensures .after,
+    )
 
 same-length : tie.Need-same-length
 same-length c = search needs
 
 returns : tie.Need-returns
 returns c =
-    let s = c .before .before .before .before .before .before .before .before .before .before .before .before .before .before .before .before .before .before .before .before .before .before .before .before .args in
-    line-pieces (s .i) (s .j) (s .corners .now) (c .before .before .before .before .before .before .before .before .before .before .before .before .before .before .before .before .before .before .before .before .before .put-decimal .ensures) (c .before .before .before .before .before .before .before .before .before .before .before .before .before .before .before .before .put-word-decimal .ensures) (c .before .before .before .before .before .before .before .before .before .before .before .put-word-decimal2 .ensures) (c .before .before .before .before .before .before .before .put-corners .ensures) (c .before .before .put-bytes .ensures)
+    let p5 = c .before .before in
+    let p4 = p5 .before .before .before .before .before in
+    let p3 = p4 .before .before .before .before in
+    let p2 = p3 .before .before .before .before .before in
+    let p1 = p2 .before .before .before .before .before in
+    let s = p1 .before .before .before .args in
+    line-pieces (s .i) (s .j) (s .corners .now) (p1 .put-decimal .ensures) (p2 .put-word-decimal .ensures) (p3 .put-word-decimal2 .ensures)
+    (p4 .put-corners .ensures) (p5 .put-bytes .ensures)
 
 pub put-contour-spec : {M : Type 1} → statement M
 put-contour-spec =

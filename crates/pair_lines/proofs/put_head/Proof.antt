@@ -31,16 +31,30 @@ slice-aggregate-put-bytes c = search needs
 
 put-bytes-requires : tie.Need-put-bytes-requires
 put-bytes-requires c κs =
-    let s = c .before .before .before .before .before .before .before .before .before .before .before .before .before .before .before .before .before .args in
-    omega (arith, head-length (s .contours) (s .corners) (s .bounds), c .before .before .before .before .before .before .before .before .before .before .before .before .before .put-word-decimal .ensures .after, c .before .before .before .before .before .before .before .before .put-word-decimal2 .ensures .after, c .before .before .before .before .put-bounds .ensures .after)
+    let p3 = c .before .before .before .before in
+    let p2 = p3 .before .before .before .before in
+    let p1 = p2 .before .before .before .before .before in
+    let s = p1 .before .before .before .before .args in
+    omega (
+      arith,
+      head-length (s .contours) (s .corners) (s .bounds),
+      p1 .put-word-decimal .ensures .after,
+      p2 .put-word-decimal2 .ensures .after,
+      p3 .put-bounds .ensures .after,
+    )
 
 same-length : tie.Need-same-length
 same-length c = search needs
 
 returns : tie.Need-returns
 returns c =
-    let s = c .before .before .before .before .before .before .before .before .before .before .before .before .before .before .before .before .before .before .before .before .args in
-    head-pieces (s .contours) (s .corners) (s .bounds) (c .before .before .before .before .before .before .before .before .before .before .before .before .before .before .before .before .put-word-decimal .ensures) (c .before .before .before .before .before .before .before .before .before .before .before .put-word-decimal2 .ensures) (c .before .before .before .before .before .before .before .put-bounds .ensures) (c .before .before .put-bytes .ensures)
+    let p4 = c .before .before in
+    let p3 = p4 .before .before .before .before .before in
+    let p2 = p3 .before .before .before .before in
+    let p1 = p2 .before .before .before .before .before in
+    let s = p1 .before .before .before .before .args in
+    head-pieces (s .contours) (s .corners) (s .bounds) (p1 .put-word-decimal .ensures) (p2 .put-word-decimal2 .ensures) (p3 .put-bounds .ensures)
+    (p4 .put-bytes .ensures)
 
 pub put-head-spec : {M : Type 1} → statement M
 put-head-spec =

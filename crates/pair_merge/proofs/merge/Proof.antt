@@ -130,11 +130,20 @@ loop-less-3 c =
 
 loop-again-3 : tie.Need-loop-again-3 Inv-loop μ-loop
 loop-again-3 c =
-    let s = c .before .before .before .before .before .before .before .before .before .before .before in
-    let l = c .before .before .before .before .before .before .before .before .before .before .loop in
-    let f = c .before .before .before .before .before .before .before .before .before .loop-test .taken in
-    let g = c .before .before .before .before .before .before .before .before .if1 .left in
-    (omega (arith, f), omega (arith, g, l .inv .1), turn-both (s .args .a .now) (s .args .b .now) (s .pre .1) (s .pre .3) (l .i) (l .j) (omega (arith, f)) (omega (arith, g, l .inv .1)) (l .inv .2) (c .before .before .before .before .before .before .put-sum .ensures) (sym (c .before .before .before .before .edge-cmp .ensures) ∙ c .before .before .enum-told3 .given .1) (sym (c .before .second-next .ensures) ∙ c .if2 .taken))
+    let p4 = c .before .before in
+    let p3 = p4 .before .before in
+    let p2 = p3 .before .before in
+    let p1 = p2 .before .before in
+    let at-loop = p1 .before .before in
+    let s = at-loop .before in
+    let l = at-loop .loop in
+    let f = p1 .before .loop-test .taken in
+    let g = p1 .if1 .left in (
+      omega (arith, f),
+      omega (arith, g, l .inv .1),
+      turn-both (s .args .a .now) (s .args .b .now) (s .pre .1) (s .pre .3) (l .i) (l .j) (omega (arith, f)) (omega (arith, g, l .inv .1)) (l .inv .2)
+          (p2 .put-sum .ensures) (sym (p3 .edge-cmp .ensures) ∙ p4 .enum-told3 .given .1) (sym (c .before .second-next .ensures) ∙ c .if2 .taken),
+    )
 
 loop-less-4 : tie.Need-loop-less-4 Inv-loop μ-loop
 loop-less-4 c =
@@ -146,11 +155,21 @@ loop-less-4 c =
 
 loop-again-4 : tie.Need-loop-again-4 Inv-loop μ-loop
 loop-again-4 c =
-    let s = c .before .before .before .before .before .before .before .before .before .before .before in
-    let l = c .before .before .before .before .before .before .before .before .before .before .loop in
-    let f = c .before .before .before .before .before .before .before .before .before .loop-test .taken in
-    let g = c .before .before .before .before .before .before .before .before .if1 .left in
-    (omega (arith, f), l .inv .1, turn-first (s .args .a .now) (s .args .b .now) (s .pre .1) (s .pre .3) (l .i) (l .j) (omega (arith, f)) (omega (arith, g, l .inv .1)) (l .inv .2) (c .before .before .before .before .before .before .put-sum .ensures) (sym (c .before .before .before .before .edge-cmp .ensures) ∙ c .before .before .enum-told3 .given .1) (sym (c .before .second-next .ensures) ∙ c .if2 .left))
+    let p4 = c .before .before in
+    let p3 = p4 .before .before in
+    let p2 = p3 .before .before in
+    let p1 = p2 .before .before in
+    let at-loop = p1 .before .before in
+    let s = at-loop .before in
+    let l = at-loop .loop in
+    let f = p1 .before .loop-test .taken in
+    let g = p1 .if1 .left in (
+      omega (arith, f),
+      l .inv .1,
+      turn-first (s .args .a .now) (s .args .b .now) (s .pre .1) (s .pre .3) (l .i) (l .j) (omega (arith, f)) (omega (arith, g, l .inv .1))
+          (l .inv .2) (p2 .put-sum .ensures) (sym (p3 .edge-cmp .ensures) ∙ p4 .enum-told3 .given .1)
+          (sym (c .before .second-next .ensures) ∙ c .if2 .left),
+    )
 
 same-length-2 : tie.Need-same-length-2 Inv-loop μ-loop
 same-length-2 c = c .before .loop .inv .2 .put .size

@@ -55,17 +55,33 @@ point-of-requires-2 c κs =
 
 add-point-requires : tie.Need-add-point-requires Inv-loop μ-loop
 add-point-requires c κs =
-    let s = c .before .before .before .before .before .before .before .before .before .before .before in
-    (walking-adding (pointsOf (s .args .contour .now)) (s .args .start) (s .args .from) (c .before .before .before .before .before .loop .inv) (omega (arith, s .pre .room, stored (s .args .points .now) (s .args .from) (pairOf (point (c .before .before .before .before .before .before .before .before .point-of .result))) (c .before .before .before .before .before .before .before .put-corner .ensures) .0)) (omega (arith, c .before .before .before .if1 .taken)), c .point-of2 .ensures .1)
+    let p2 = c .before .before .before in
+    let l = p2 .before .before in
+    let p1 = l .before .before in
+    let s = p1 .before .before .before .before in (
+      walking-adding (pointsOf (s .args .contour .now)) (s .args .start) (s .args .from) (l .loop .inv)
+          (omega (
+            arith,
+            s .pre .room,
+            stored (s .args .points .now) (s .args .from) (pairOf (point (p1 .before .point-of .result))) (p1 .put-corner .ensures) .0,
+          )) (omega (arith, p2 .if1 .taken)),
+      c .point-of2 .ensures .1,
+    )
 
 loop-less : tie.Need-loop-less Inv-loop μ-loop
 loop-less c = fewer-steps (c .before .before .before .before .before .before .before .before .before .before .before .before .corner-count .result) (c .before .before .before .before .before .before .before .loop .w) (c .before .before .before .before .advance-of .ensures) (omega (arith, c .before .before .before .before .before .if1 .taken))
 
 loop-again : tie.Need-loop-again Inv-loop μ-loop
 loop-again c =
-    let s = c .before .before .before .before .before .before .before .before .before .before .before .before .before in
+    let p3 = c .before .before in
+    let p2 = p3 .before .before in
+    let at-loop = p2 .before .before .before in
+    let p1 = at-loop .before .before .before .before .before in
+    let s = p1 .before in
     let l = pointsOf (s .args .contour .now) in
-    walking-step l (s .args .start) (s .args .from) (c .before .before .before .before .before .before .before .loop .inv) _ (omega (arith, c .before .before .before .before .before .if1 .taken)) (c .before .before .before .before .advance-of .ensures ∙ ap (λ n. advance n (c .before .before .before .before .before .before .before .loop .w)) (c .before .before .before .before .before .before .before .before .before .before .before .before .corner-count .ensures)) (c .before .before .point-of2 .ensures) (c .before .add-point .ensures)
+    walking-step l (s .args .start) (s .args .from) (at-loop .loop .inv) _ (omega (arith, p2 .before .if1 .taken))
+    (p2 .advance-of .ensures ∙ ap (λ n. advance n (at-loop .loop .w)) (p1 .corner-count .ensures)) (p3 .point-of2 .ensures)
+    (c .before .add-point .ensures)
 
 same-length : tie.Need-same-length Inv-loop μ-loop
 same-length c =

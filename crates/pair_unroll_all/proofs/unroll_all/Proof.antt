@@ -48,7 +48,11 @@ same-length : tie.Need-same-length Inv-loop μ-loop
 same-length c = omega (arith, c .before .before .before .before .before .before .loop .inv .points-size)
 
 same-length-2 : tie.Need-same-length-2 Inv-loop μ-loop
-same-length-2 c = omega (arith, c .before .before .before .before .before .before .loop .inv .firsts-size, ap length (c .before .before .before .before .before .before .before .before .before .put-start .ensures), length-set (c .before .before .before .before .before .before .before .before .before .before .before .before .before .args .firsts .now) 0 0)
+same-length-2 c =
+    let l = c .before .before .before .before .before .before in
+    let p1 = l .before .before .before in
+    let s = p1 .before .before .before .before in
+    omega (arith, l .loop .inv .firsts-size, ap length (p1 .put-start .ensures), length-set (s .args .firsts .now) 0 0)
 
 returns : tie.Need-returns Inv-loop μ-loop
 returns c =
@@ -61,26 +65,58 @@ add-p c = omega (arith, c .before .before .before .before .before .before .loop-
 
 put-start-requires-2 : tie.Need-put-start-requires-2 Inv-loop μ-loop
 put-start-requires-2 c κs =
-    let s = c .before .before .before .before .before .before .before .before .before .before .before .before .before .before .before in
+    let p4 = c .before .before in
+    let p3 = p4 .before .before .before in
+    let p2 = p3 .before .before in
+    let p1 = p2 .before .before .before .before in
+    let s = p1 .before .before .before .before in
     let t = sound _ _ (s .pre .whole) in
     let n = count-parts _ _ (s .pre .whole) in
     let ps = tableParts (s .args .starts .now) (s .args .corners .now) in
-    let k = c .before .before .before .before .before .before .before .before .loop .inv in
-    let u = c .before .before .before .before .before .unroll-part .ensures .to _ (c .before .before .r .given .1) in
-    (omega (arith, c .before .before .before .before .before .before .before .loop-test .taken, k .firsts-size, ap length (c .before .before .before .before .before .before .before .before .before .before .before .put-start .ensures), length-set (s .args .firsts .now) 0 0, s .pre .for-firsts), omega (arith, unrolling-count (s .args .reflected) ps k (omega (arith, n, c .before .before .before .before .before .before .before .loop-test .taken)) u, count-corners _ _ (s .pre .whole), t .few-corners, t .few-parts, c .before .before .before .before .before .before .before .loop-test .taken))
+    let k = p2 .before .loop .inv in
+    let u = p3 .unroll-part .ensures .to _ (p4 .r .given .1) in (
+      omega (
+        arith,
+        p2 .loop-test .taken,
+        k .firsts-size,
+        ap length (p1 .put-start .ensures),
+        length-set (s .args .firsts .now) 0 0,
+        s .pre .for-firsts,
+      ),
+      omega (
+        arith,
+        unrolling-count (s .args .reflected) ps k (omega (arith, n, p2 .loop-test .taken)) u,
+        count-corners _ _ (s .pre .whole),
+        t .few-corners,
+        t .few-parts,
+        p2 .loop-test .taken,
+      ),
+    )
 
 loop-less : tie.Need-loop-less Inv-loop μ-loop
 loop-less c = omega (arith, c .before .before .before .before .before .before .before .before .before .before .loop-test .taken)
 
 loop-again : tie.Need-loop-again Inv-loop μ-loop
 loop-again c =
-    let s = c .before .before .before .before .before .before .before .before .before .before .before .before .before .before .before .before .before .before in
+    let p5 = c .before .before in
+    let p4 = p5 .before .before .before in
+    let p3 = p4 .before .before .before in
+    let p2 = p3 .before .before in
+    let p1 = p2 .before .before .before .before in
+    let s = p1 .before .before .before .before in
     let n = count-parts _ _ (s .pre .whole) in
     let ps = tableParts (s .args .starts .now) (s .args .corners .now) in
-    let k = c .before .before .before .before .before .before .before .before .before .before .before .loop .inv in
-    let u = c .before .before .before .before .before .before .before .before .unroll-part .ensures .to _ (c .before .before .before .before .before .r .given .1) in
-    unrolling-turn (s .args .reflected) ps k (omega (arith, n, c .before .before .before .before .before .before .before .before .before .before .loop-test .taken)) u
-    (omega (arith, c .before .before .before .before .before .before .before .before .before .before .loop-test .taken, k .firsts-size, ap length (c .before .before .before .before .before .before .before .before .before .before .before .before .before .before .put-start .ensures), length-set (s .args .firsts .now) 0 0, s .pre .for-firsts)) (c .before .before .put-start2 .ensures)
+    let k = p2 .before .loop .inv in
+    let u = p3 .unroll-part .ensures .to _ (p4 .r .given .1) in
+    unrolling-turn (s .args .reflected) ps k (omega (arith, n, p2 .loop-test .taken)) u
+    (omega (
+      arith,
+      p2 .loop-test .taken,
+      k .firsts-size,
+      ap length (p1 .put-start .ensures),
+      length-set (s .args .firsts .now) 0 0,
+      s .pre .for-firsts,
+    )) (p5 .put-start2 .ensures)
 
 same-length-3 : tie.Need-same-length-3 Inv-loop μ-loop
 same-length-3 c = omega (arith, c .before .loop .inv .points-size)

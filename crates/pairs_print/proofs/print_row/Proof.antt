@@ -46,7 +46,10 @@ loop-less : tie.Need-loop-less Inv-loop μ-loop
 loop-less c = omega (arith, c .before .before .before .before .before .before .before .before .before .loop-test .taken)
 
 loop-again : tie.Need-loop-again Inv-loop μ-loop
-loop-again c = (omega (arith, c .before .before .before .before .before .before .before .before .before .loop-test .taken), c .before .before .before .before .before .work .given ∙ c .before .before .before .before .before .before .before .before .before .before .loop .inv .1, c .before .before .before .before .out .given ∙ c .before .before .before .before .before .before .before .before .before .before .loop .inv .2)
+loop-again c =
+    let p2 = c .before .before .before .before in
+    let p1 = p2 .before .before .before .before .before in
+    (omega (arith, p1 .loop-test .taken), p2 .before .work .given ∙ p1 .before .loop .inv .1, p2 .out .given ∙ p1 .before .loop .inv .2)
 
 same-length : tie.Need-same-length Inv-loop μ-loop
 same-length c = c .before .before .before .before .before .work .given ∙ c .before .before .before .before .before .before .before .before .before .before .loop .inv .1

@@ -105,11 +105,15 @@ centred-requires-2 c κs =
 
 returns-2 : tie.Need-returns-2
 returns-2 c =
-    let s = c .before .before .before .before .before .before .before .before .before .before .before .before .before in
-    let x = c .before .before .centred in
+    let p4 = c .before .before in
+    let p3 = p4 .before .before .before .before in
+    let p2 = p3 .before .before in
+    let p1 = p2 .before .before .before .before in
+    let s = p1 .before in
+    let x = p4 .centred in
     let y = c .centred2 in
-    found (s .args .contour .now) (s .pre .0) (s .pre .1) (c .before .before .before .before .before .before .before .before .before .before .before .before .sums-of .ensures) (c .before .before .before .before .before .before .before .before .corner-at .ensures) (c .before .before .before .before .before .before .tripled .ensures) (c .before .before .before .before .before .before .before .before .before .if1 .left)
-    (got w32 (x .result) (x .ok) ∙ x .ensures) (got w32 (y .result) (y .ok) ∙ y .ensures)
+    found (s .args .contour .now) (s .pre .0) (s .pre .1) (p1 .sums-of .ensures) (p2 .corner-at .ensures) (p3 .tripled .ensures)
+    (p2 .before .if1 .left) (got w32 (x .result) (x .ok) ∙ x .ensures) (got w32 (y .result) (y .ok) ∙ y .ensures)
 
 pub polygon-centroid-spec : {M : Type 1} → statement M
 polygon-centroid-spec =

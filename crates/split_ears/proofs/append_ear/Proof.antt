@@ -64,10 +64,19 @@ same-length-3 c = search needs
 
 returns : tie.Need-returns
 returns c =
-    let s = c .before .before .before .before .before .before .before .before .before .before .before .before .before .before .before .before .before in
+    let p4 = c .before .before in
+    let p3 = p4 .before .before .before .before in
+    let p2 = p3 .before .before .before in
+    let p1 = p2 .before .before .before .before in
+    let s = p1 .before .before .before .before in
     let g = s .args in
-    let a = appended-more (cornerAt (g .contour .now) (g .start) ∷ []) (cornersAfter (g .contour .now) (g .ring .now) (g .start) (g .size + 1)) (c .before .before .before .before .before .before .before .before .before .before .before .before .before .append-point .ensures) (c .before .before .before .before .before .before .before .before .before .append-after .ensures .2) in
-    (passed-over (g .ring .now) (g .start) (g .size + 1) (c .before .before .before .before .before .before .set-next .ensures) (c .before .before .before .before .before .before .before .before .before .append-after .ensures .0), part-ended (cornerAt (g .contour .now) (g .start) ∷ cornersAfter (g .contour .now) (g .ring .now) (g .start) (g .size + 1)) (g .starts .now) (g .points .now) (g .t) (s .pre .3) a (c .before .before .end-part .ensures))
+    let a =
+    appended-more (cornerAt (g .contour .now) (g .start) ∷ []) (cornersAfter (g .contour .now) (g .ring .now) (g .start) (g .size + 1))
+    (p1 .append-point .ensures) (p2 .append-after .ensures .2) in (
+      passed-over (g .ring .now) (g .start) (g .size + 1) (p3 .set-next .ensures) (p2 .append-after .ensures .0),
+      part-ended (cornerAt (g .contour .now) (g .start) ∷ cornersAfter (g .contour .now) (g .ring .now) (g .start) (g .size + 1)) (g .starts .now)
+          (g .points .now) (g .t) (s .pre .3) a (p4 .end-part .ensures),
+    )
 
 pub append-ear-spec : {M : Type 1} → statement M
 append-ear-spec =

@@ -73,12 +73,20 @@ loop-less c = search needs
 
 loop-again : tie.Need-loop-again Inv-loop μ-loop
 loop-again c =
-    let s = c .before .before .before .before .before .before .before .before .before .before .before .before .before .before .before .before .before in
+    let p2 = c .before .before .before .before .before .before .before in
+    let p1 = p2 .before .before .before .before in
+    let at-loop = p1 .before .before in
+    let s = at-loop .before .before .before .before in
     let g = s .args in
-    let l = c .before .before .before .before .before .before .before .before .before .before .before .before .before .loop in
-    let a = c .before .before .before .before .before .before .before .append-ear .ensures in
-    let e = length-passed (l .ring) (l .start) (c .before .before .before .before .before .before .before .before .before .before .before .share .result + 1) (a .0) in
-    (omega (arith, c .before .before .before .before .before .before .before .before .before .before .before .before .loop-test .taken), e ∙ l .inv .1, clipping-turn (g .contour .now) (g .starts .now) (g .points .now) (g .t) (earParts (g .limit) (cornersIn (g .contour .now))) (length (g .contour .now) - 2) (c .before .before .before .before .before .before .before .before .before .before .before .before .before .before .ceil-div .result) (l .i) (l .start) (l .ring) (l .inv .2) (c .before .before .before .before .before .before .before .before .before .before .before .before .loop-test .taken) (c .before .before .before .before .before .before .before .before .before .before .before .share .ensures) a (c .next-of .ensures))
+    let l = at-loop .loop in
+    let a = p2 .append-ear .ensures in
+    let e = length-passed (l .ring) (l .start) (p1 .share .result + 1) (a .0) in (
+      omega (arith, p1 .before .loop-test .taken),
+      e ∙ l .inv .1,
+      clipping-turn (g .contour .now) (g .starts .now) (g .points .now) (g .t) (earParts (g .limit) (cornersIn (g .contour .now)))
+          (length (g .contour .now) - 2) (at-loop .before .ceil-div .result) (l .i) (l .start) (l .ring) (l .inv .2) (p1 .before .loop-test .taken)
+          (p1 .share .ensures) a (c .next-of .ensures),
+    )
 
 same-length : tie.Need-same-length Inv-loop μ-loop
 same-length c = c .before .loop .inv .1

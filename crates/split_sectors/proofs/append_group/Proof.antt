@@ -53,11 +53,18 @@ loop-less c =
 
 loop-again : tie.Need-loop-again Inv-loop μ-loop
 loop-again c =
-    let g = c .before .before .before .before .before .before .before .before .before .before .args in
-    let l = c .before .before .before .before .before .before .before .before .loop in
-    let h = c .before .before .before .before .before .before .before .loop-test .taken in
-    let e = c .before .before .before .before .before .before .sector-end .ensures in
-    (sector-within (g .contour .now) (point (g .centre)) (g .target) (l .at) h e, partway-turn (groupFrom (g .contour .now) (point (g .centre)) (g .target) (g .start)) (g .starts .now) (g .points .now) (g .t) ((point (g .centre) ∷ arcOf (g .contour .now) (l .at) (c .before .before .before .before .before .before .sector-end .result - l .at + 1)) ∷ []) (l .inv .1) (group-turn (g .contour .now) (point (g .centre)) (g .target) (l .at) h e) (c .before .before .before .append-sector .ensures))
+    let p2 = c .before .before .before in
+    let p1 = p2 .before .before .before in
+    let at-loop = p1 .before .before in
+    let g = at-loop .before .before .args in
+    let l = at-loop .loop in
+    let h = p1 .before .loop-test .taken in
+    let e = p1 .sector-end .ensures in (
+      sector-within (g .contour .now) (point (g .centre)) (g .target) (l .at) h e,
+      partway-turn (groupFrom (g .contour .now) (point (g .centre)) (g .target) (g .start)) (g .starts .now) (g .points .now) (g .t)
+          ((point (g .centre) ∷ arcOf (g .contour .now) (l .at) (p1 .sector-end .result - l .at + 1)) ∷ []) (l .inv .1)
+          (group-turn (g .contour .now) (point (g .centre)) (g .target) (l .at) h e) (p2 .append-sector .ensures),
+    )
 
 same-length : tie.Need-same-length Inv-loop μ-loop
 same-length c = c .before .loop .inv .1 .appended .starts-size

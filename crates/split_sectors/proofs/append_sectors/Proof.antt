@@ -68,11 +68,17 @@ loop-less c = search needs
 
 loop-again : tie.Need-loop-again Inv-loop μ-loop
 loop-again c =
-    let g = c .before .before .before .before .before .before .before .before .before .before .before .args in
-    let l = c .before .before .before .before .before .before .before .before .loop in
-    let h = c .before .before .before .before .before .before .before .loop-test .taken in
-    let qs = centroidParts (g .limit) (point (g .centre)) (cornerAt (g .contour .now) 0) (cornersIn (g .contour .now)) in
-    (omega (arith, h), sectoring-turn (g .contour .now) (point (g .centre)) (g .starts .now) (g .points .now) (g .t) qs (length (g .contour .now)) (c .before .before .before .before .before .before .before .before .before .ceil-div .result) (l .i) (l .start) (l .inv .1) h (c .before .before .before .before .before .before .share .ensures) (c .before .before .before .append-group .ensures))
+    let p2 = c .before .before .before in
+    let p1 = p2 .before .before .before in
+    let at-loop = p1 .before .before in
+    let g = at-loop .before .before .before .args in
+    let l = at-loop .loop in
+    let h = p1 .before .loop-test .taken in
+    let qs = centroidParts (g .limit) (point (g .centre)) (cornerAt (g .contour .now) 0) (cornersIn (g .contour .now)) in (
+      omega (arith, h),
+      sectoring-turn (g .contour .now) (point (g .centre)) (g .starts .now) (g .points .now) (g .t) qs (length (g .contour .now))
+          (at-loop .before .ceil-div .result) (l .i) (l .start) (l .inv .1) h (p1 .share .ensures) (p2 .append-group .ensures),
+    )
 
 same-length : tie.Need-same-length Inv-loop μ-loop
 same-length c = c .before .loop .inv .1 .partway .appended .starts-size

@@ -48,11 +48,18 @@ loop-less c = omega (arith, c .before .before .before .loop-test .taken)
 
 loop-again : tie.Need-loop-again Inv-loop μ-loop
 loop-again c =
-    let s = c .before .before .before .before .before .before in
+    let p1 = c .before .before in
+    let at-loop = p1 .before .before in
+    let s = at-loop .before .before in
     let g = s .args in
-    let l = c .before .before .before .before .loop in
-    let h = c .before .before .before .loop-test .taken in
-    (omega (arith, h), taking-more (point (g .centre)) (closedOf (g .contour .now)) (g .target) (point (c .before .before .before .before .before .corner-at .result)) (l .end) h (omega (arith, h, s .pre .1, length-closed (g .contour .now))) (c .before .before .corner-round .ensures .0) (sym (c .before .turns-left .ensures) ∙ c .if1 .taken) ∙ l .inv .1)
+    let l = at-loop .loop in
+    let h = p1 .before .loop-test .taken in (
+      omega (arith, h),
+      taking-more (point (g .centre)) (closedOf (g .contour .now)) (g .target) (point (at-loop .before .corner-at .result)) (l .end) h
+          (omega (arith, h, s .pre .1, length-closed (g .contour .now))) (p1 .corner-round .ensures .0)
+          (sym (c .before .turns-left .ensures) ∙ c .if1 .taken)
+          ∙ l .inv .1,
+    )
 
 returns : tie.Need-returns Inv-loop μ-loop
 returns c =

@@ -8,10 +8,10 @@ use lib.ListN.{length, take, drop, length-set, length-drop}
 use mir.Syntax.{w32}
 use Rattle.integers.specs.Lists.{overlay}
 use Rattle.integers.proofs.Bits.{got}
-use Rattle.integers.proofs.Overlay.{overlay-nil}
+use Rattle.integers.proofs.Overlay.{overlay-nil, copy-map-turn}
 use Rattle.table.specs.Stored.{wordsOf, signed}
 use Rattle.table.proofs.Words.{length-words}
-use Rattle.table_words.proofs.Copies.{number-more, word-from}
+use Rattle.table_words.proofs.Copies.{word-from}
 use Rattle.table_words.proofs.read_numbers.Statement.{statement}
 use Rattle.table_words.proofs.read_numbers.Tie as tie
 
@@ -52,7 +52,7 @@ loop-again c =
     let n : l .loop .i < length (drop (s .from) (wordsOf (s .bytes .now))) = omega (arith, length-drop (s .from) (wordsOf (s .bytes .now)), length-words (s .bytes .now)) in (
       omega arith,
       simp length-set (l .loop .inv .1),
-      number-more (drop (s .from) (wordsOf (s .bytes .now))) (s .to .now) (l .loop .i) n (omega arith) (l .loop .inv .2)
+      copy-map-turn signed (drop (s .from) (wordsOf (s .bytes .now))) (s .to .now) (l .loop .i) 0 n (omega arith) (l .loop .inv .2)
           (got w32 _ (c .signed-word .ok) ∙ c .signed-word .ensures
           ∙ ap signed (c .before .word-at .ensures ∙ word-from (s .bytes .now) (s .from) (l .loop .i) (s .from + l .loop .i) refl)),
     )

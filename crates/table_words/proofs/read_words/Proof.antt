@@ -5,10 +5,10 @@ use native.Mathlib.Omega.{arith}
 use borrow.Author.Needs.{needs}
 use lib.ListN.{length, take, drop, length-set, length-drop}
 use Rattle.integers.specs.Lists.{overlay}
-use Rattle.integers.proofs.Overlay.{overlay-nil}
+use Rattle.integers.proofs.Overlay.{overlay-nil, copy-turn}
 use Rattle.table.specs.Stored.{wordsOf}
 use Rattle.table.proofs.Words.{length-words}
-use Rattle.table_words.proofs.Copies.{word-more, word-from}
+use Rattle.table_words.proofs.Copies.{word-from}
 use Rattle.table_words.proofs.read_words.Statement.{statement}
 use Rattle.table_words.proofs.read_words.Tie as tie
 
@@ -46,7 +46,7 @@ loop-again c =
     let n : l .loop .i < length (drop (s .from) (wordsOf (s .bytes .now))) = omega (arith, length-drop (s .from) (wordsOf (s .bytes .now)), length-words (s .bytes .now)) in (
       omega arith,
       simp length-set (l .loop .inv .1),
-      word-more (drop (s .from) (wordsOf (s .bytes .now))) (s .to .now) (l .loop .i) n (omega arith) (l .loop .inv .2)
+      copy-turn (drop (s .from) (wordsOf (s .bytes .now))) (s .to .now) (l .loop .i) 0 n (omega arith) (l .loop .inv .2)
           (c .word-at .ensures ∙ word-from (s .bytes .now) (s .from) (l .loop .i) (s .from + l .loop .i) refl),
     )
 

@@ -22,7 +22,11 @@ slice-aggregate-put-bytes : tie.Need-slice-aggregate-put-bytes
 slice-aggregate-put-bytes c = search needs
 
 put-bytes-requires : tie.Need-put-bytes-requires
-put-bytes-requires c κs = omega (arith, corner-length (kept (c .before .before .before .before .before .before .before .before .before .before .before .before .before .fits .x)) (kept (c .before .before .before .before .before .before .before .before .before .before .before .before .before .fits .y)), c .before .before .before .before .before .before .before .before .before .put-word-signed .ensures .after, c .before .before .before .before .put-word-signed2 .ensures .after)
+put-bytes-requires c κs =
+    let p3 = c .before .before .before .before in
+    let p2 = p3 .before .before .before .before .before in
+    let p1 = p2 .before .before .before .before in
+    omega (arith, corner-length (kept (p1 .fits .x)) (kept (p1 .fits .y)), p2 .put-word-signed .ensures .after, p3 .put-word-signed2 .ensures .after)
 
 same-length : tie.Need-same-length
 same-length c = search needs

@@ -28,7 +28,12 @@ same-length c = search needs
 
 returns : tie.Need-returns
 returns c =
-    put-as (signed-below (kept (c .before .before .before .before .before .before .before .before .before .before .before .before .fits .n)) (c .before .before .before .before .size .ensures) (c .before .before .before .before .before .before .before .before .before .before .if1 .taken)) (put-after (omega arith) (c .before .before .before .before .before .before .before .put-bytes .ensures) (c .before .before .put-decimal .ensures))
+    let p4 = c .before .before in
+    let p3 = p4 .before .before in
+    let p2 = p3 .before .before .before in
+    let p1 = p2 .before .before .before in
+    put-as (signed-below (kept (p1 .before .before .fits .n)) (p3 .size .ensures) (p1 .if1 .taken))
+    (put-after (omega arith) (p2 .put-bytes .ensures) (p4 .put-decimal .ensures))
 
 size-requires-2 : tie.Need-size-requires-2
 size-requires-2 c κs = search needs

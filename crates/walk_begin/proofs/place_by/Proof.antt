@@ -83,20 +83,38 @@ along-requires c κs = search needs
 
 returns-3 : tie.Need-returns-3
 returns-3 c =
-    let a = c .before .before .before .before .before .before .before .before .before .args in
+    let p3 = c .before .before in
+    let p2 = p3 .before .before in
+    let p1 = p2 .before .before in
+    let start = p1 .before .before .before in
+    let a = start .args in
     let l = pointsOf (a .contour .now) in
-    let same = sym (c .before .if3 .taken) ∙ c .before .before .same-point .ensures ∙ (λ i. eqPt (c .before .before .before .before .corner-at .ensures i) ((c .before .before .before .corner-at2 .ensures ∙ ap (cornerAt l) (c .before .before .before .before .before .end-at .ensures)) i)) in
-    c .along .ensures ∙ back-and-forth (a .reflected) l (a .s) (a .total) (c .before .before .before .before .before .before .before .before .before .fits .total) refl (c .before .before .before .before .before .end-at .ensures) (c .before .before .before .before .before .before .before .if1 .left) (c .before .before .before .before .before .before .if2 .left) same
+    let same =
+    sym (c .before .if3 .taken)
+    ∙ p3 .same-point .ensures
+    ∙ (λ i. eqPt (p2 .corner-at .ensures i) ((p3 .before .corner-at2 .ensures ∙ ap (cornerAt l) (p2 .before .end-at .ensures)) i)) in
+    c .along .ensures
+    ∙ back-and-forth (a .reflected) l (a .s) (a .total) (start .fits .total) refl (p2 .before .end-at .ensures) (p1 .before .if1 .left)
+    (p1 .if2 .left) same
 
 along-requires-2 : tie.Need-along-requires-2
 along-requires-2 c κs = search needs
 
 returns-4 : tie.Need-returns-4
 returns-4 c =
-    let a = c .before .before .before .before .before .before .before .before .before .args in
+    let p3 = c .before .before in
+    let p2 = p3 .before .before in
+    let p1 = p2 .before .before in
+    let start = p1 .before .before .before in
+    let a = start .args in
     let l = pointsOf (a .contour .now) in
-    let same = sym (c .before .if3 .left) ∙ c .before .before .same-point .ensures ∙ (λ i. eqPt (c .before .before .before .before .corner-at .ensures i) ((c .before .before .before .corner-at2 .ensures ∙ ap (cornerAt l) (c .before .before .before .before .before .end-at .ensures)) i)) in
-    c .along2 .ensures ∙ back-and-forth (a .reflected) l (a .s) (a .total) (c .before .before .before .before .before .before .before .before .before .fits .total) refl (c .before .before .before .before .before .end-at .ensures) (c .before .before .before .before .before .before .before .if1 .left) (c .before .before .before .before .before .before .if2 .left) same
+    let same =
+    sym (c .before .if3 .left)
+    ∙ p3 .same-point .ensures
+    ∙ (λ i. eqPt (p2 .corner-at .ensures i) ((p3 .before .corner-at2 .ensures ∙ ap (cornerAt l) (p2 .before .end-at .ensures)) i)) in
+    c .along2 .ensures
+    ∙ back-and-forth (a .reflected) l (a .s) (a .total) (start .fits .total) refl (p2 .before .end-at .ensures) (p1 .before .if1 .left)
+    (p1 .if2 .left) same
 
 pub place-by-spec : {M : Type 1} → statement M
 place-by-spec =

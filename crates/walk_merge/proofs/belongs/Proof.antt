@@ -30,13 +30,28 @@ enum-told-3 : tie.Need-enum-told-3
 enum-told-3 c = search needs
 
 returns-3 : tie.Need-returns-3
-returns-3 c = by-direction (c .before .before .before .before .before .before .args .headed) (c .before .before .before .before .before .before .args .heading) (vector (c .before .before .before .before .before .before .args .e)) (not-false (c .before .before .before .before .before .before .args .headed) (c .before .before .before .before .before .if1 .left)) (sym (c .before .before .before .before .is-zero .ensures) ∙ c .before .before .before .if2 .left) (ap isEqual (sym (c .before .before .angle-cmp .ensures) ∙ c .enum-told .given .1))
+returns-3 c =
+    let p2 = c .before .before in
+    let p1 = p2 .before .before in
+    let s = p1 .before .before in
+    by-direction (s .args .headed) (s .args .heading) (vector (s .args .e)) (not-false (s .args .headed) (p1 .before .if1 .left))
+    (sym (p1 .is-zero .ensures) ∙ p2 .before .if2 .left) (ap isEqual (sym (p2 .angle-cmp .ensures) ∙ c .enum-told .given .1))
 
 returns-4 : tie.Need-returns-4
-returns-4 c = by-direction (c .before .before .before .before .before .before .args .headed) (c .before .before .before .before .before .before .args .heading) (vector (c .before .before .before .before .before .before .args .e)) (not-false (c .before .before .before .before .before .before .args .headed) (c .before .before .before .before .before .if1 .left)) (sym (c .before .before .before .before .is-zero .ensures) ∙ c .before .before .before .if2 .left) (ap isEqual (sym (c .before .before .angle-cmp .ensures) ∙ c .enum-told2 .given .1))
+returns-4 c =
+    let p2 = c .before .before in
+    let p1 = p2 .before .before in
+    let s = p1 .before .before in
+    by-direction (s .args .headed) (s .args .heading) (vector (s .args .e)) (not-false (s .args .headed) (p1 .before .if1 .left))
+    (sym (p1 .is-zero .ensures) ∙ p2 .before .if2 .left) (ap isEqual (sym (p2 .angle-cmp .ensures) ∙ c .enum-told2 .given .1))
 
 returns-5 : tie.Need-returns-5
-returns-5 c = by-direction (c .before .before .before .before .before .before .args .headed) (c .before .before .before .before .before .before .args .heading) (vector (c .before .before .before .before .before .before .args .e)) (not-false (c .before .before .before .before .before .before .args .headed) (c .before .before .before .before .before .if1 .left)) (sym (c .before .before .before .before .is-zero .ensures) ∙ c .before .before .before .if2 .left) (ap isEqual (sym (c .before .before .angle-cmp .ensures) ∙ c .enum-told3 .given .1))
+returns-5 c =
+    let p2 = c .before .before in
+    let p1 = p2 .before .before in
+    let s = p1 .before .before in
+    by-direction (s .args .headed) (s .args .heading) (vector (s .args .e)) (not-false (s .args .headed) (p1 .before .if1 .left))
+    (sym (p1 .is-zero .ensures) ∙ p2 .before .if2 .left) (ap isEqual (sym (p2 .angle-cmp .ensures) ∙ c .enum-told3 .given .1))
 
 pub belongs-spec : {M : Type 1} → statement M
 belongs-spec =

@@ -35,10 +35,15 @@ take-requires c κs = (c .before .before .before .before .before .before .before
 
 returns : tie.Need-returns
 returns c =
-    let l = c .before .before .before .before .before .before .before .before .before .before .args .left .now in
-    let r = c .before .before .before .before .before .before .before .before .before .before .args .right .now in
-    let g = c .before .before .before .before .before .before .before .before .before .before .args .g in
-    took-first l r g (c .before .before .before .before .before .before .before .before .before .before .pre .0) (c .before .before .before .before .before .before .before .before .before .before .pre .1) _ (ap pickOf (sym (c .before .before .before .before .before .step .given .1)) ∙ c .before .before .before .before .before .before .before .next-step .ensures .0) (sym (c .before .before .before .belongs .ensures) ∙ c .before .before .if1 .taken) (c .before .step-first .ensures) (c .take .ensures)
+    let p3 = c .before .before in
+    let p2 = p3 .before .before .before in
+    let p1 = p2 .before .before in
+    let s = p1 .before .before .before in
+    let l = s .args .left .now in
+    let r = s .args .right .now in
+    let g = s .args .g in
+    took-first l r g (s .pre .0) (s .pre .1) _ (ap pickOf (sym (p2 .step .given .1)) ∙ p1 .next-step .ensures .0)
+    (sym (p3 .before .belongs .ensures) ∙ p3 .if1 .taken) (c .before .step-first .ensures) (c .take .ensures)
 
 stop-requires-2 : tie.Need-stop-requires-2
 stop-requires-2 c κs = search needs
@@ -60,32 +65,50 @@ take-requires-2 c κs = (c .before .before .before .before .before .before .befo
 
 returns-2 : tie.Need-returns-2
 returns-2 c =
-    let l = c .before .before .before .before .before .before .before .before .before .before .args .left .now in
-    let r = c .before .before .before .before .before .before .before .before .before .before .args .right .now in
-    let g = c .before .before .before .before .before .before .before .before .before .before .args .g in
-    took-second l r g (c .before .before .before .before .before .before .before .before .before .before .pre .0) (c .before .before .before .before .before .before .before .before .before .before .pre .1) _ (ap pickOf (sym (c .before .before .before .before .before .step2 .given .1)) ∙ c .before .before .before .before .before .before .before .next-step .ensures .0) (sym (c .before .before .before .belongs2 .ensures) ∙ c .before .before .if2 .taken) (c .before .step-second .ensures) (c .take2 .ensures)
+    let p3 = c .before .before in
+    let p2 = p3 .before .before .before in
+    let p1 = p2 .before .before in
+    let s = p1 .before .before .before in
+    let l = s .args .left .now in
+    let r = s .args .right .now in
+    let g = s .args .g in
+    took-second l r g (s .pre .0) (s .pre .1) _ (ap pickOf (sym (p2 .step2 .given .1)) ∙ p1 .next-step .ensures .0)
+    (sym (p3 .before .belongs2 .ensures) ∙ p3 .if2 .taken) (c .before .step-second .ensures) (c .take2 .ensures)
 
 stop-requires-3 : tie.Need-stop-requires-3
 stop-requires-3 c κs = search needs
 
 returns-3 : tie.Need-returns-3
 returns-3 c =
-    let g = c .before .before .before .before .before .before .args .g in
-    stopped-on (c .before .before .before .before .before .before .args .left .now) (c .before .before .before .before .before .before .args .right .now) g (c .before .before .before .before .before .before .pre .0) (c .before .before .before .before .before .before .pre .1) (c .stop .ensures) (run-none _ _ (headingOf g) (g .at) _ (ap pickOf (sym (c .before .enum-told .given .1)) ∙ c .before .before .before .next-step .ensures .0))
+    let p1 = c .before .before .before in
+    let s = p1 .before .before .before in
+    let g = s .args .g in
+    stopped-on (s .args .left .now) (s .args .right .now) g (s .pre .0) (s .pre .1) (c .stop .ensures)
+    (run-none _ _ (headingOf g) (g .at) _ (ap pickOf (sym (c .before .enum-told .given .1)) ∙ p1 .next-step .ensures .0))
 
 returns-4 : tie.Need-returns-4
 returns-4 c =
-    let l = c .before .before .before .before .before .before .before .before .before .args .left .now in
-    let r = c .before .before .before .before .before .before .before .before .before .args .right .now in
-    let g = c .before .before .before .before .before .before .before .before .before .args .g in
-    left-first l r g (c .before .before .before .before .before .before .before .before .before .pre .0) (c .before .before .before .before .before .before .before .before .before .pre .1) _ (ap pickOf (sym (c .before .before .before .before .step .given .1)) ∙ c .before .before .before .before .before .before .next-step .ensures .0) (sym (c .before .before .belongs .ensures) ∙ c .before .if1 .left) (c .stop2 .ensures)
+    let p3 = c .before .before in
+    let p2 = p3 .before .before in
+    let p1 = p2 .before .before in
+    let s = p1 .before .before .before in
+    let l = s .args .left .now in
+    let r = s .args .right .now in
+    let g = s .args .g in
+    left-first l r g (s .pre .0) (s .pre .1) _ (ap pickOf (sym (p2 .step .given .1)) ∙ p1 .next-step .ensures .0)
+    (sym (p3 .belongs .ensures) ∙ c .before .if1 .left) (c .stop2 .ensures)
 
 returns-5 : tie.Need-returns-5
 returns-5 c =
-    let l = c .before .before .before .before .before .before .before .before .before .args .left .now in
-    let r = c .before .before .before .before .before .before .before .before .before .args .right .now in
-    let g = c .before .before .before .before .before .before .before .before .before .args .g in
-    left-second l r g (c .before .before .before .before .before .before .before .before .before .pre .0) (c .before .before .before .before .before .before .before .before .before .pre .1) _ (ap pickOf (sym (c .before .before .before .before .step2 .given .1)) ∙ c .before .before .before .before .before .before .next-step .ensures .0) (sym (c .before .before .belongs2 .ensures) ∙ c .before .if2 .left) (c .stop3 .ensures)
+    let p3 = c .before .before in
+    let p2 = p3 .before .before in
+    let p1 = p2 .before .before in
+    let s = p1 .before .before .before in
+    let l = s .args .left .now in
+    let r = s .args .right .now in
+    let g = s .args .g in
+    left-second l r g (s .pre .0) (s .pre .1) _ (ap pickOf (sym (p2 .step2 .given .1)) ∙ p1 .next-step .ensures .0)
+    (sym (p3 .belongs2 .ensures) ∙ c .before .if2 .left) (c .stop3 .ensures)
 
 pub step-on-spec : {M : Type 1} → statement M
 step-on-spec =

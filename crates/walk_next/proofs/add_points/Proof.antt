@@ -25,7 +25,10 @@ add-t3 : tie.Need-add-t3
 add-t3 c = sum-fits (c .before .before .before .before .pre .0 .x-small) (c .before .before .before .before .pre .1 .x-small) (kept {w = w32} {z = c .before .before .before .before .args .p .x} (search needs)) (kept {w = w32} {z = c .before .before .before .before .args .q .x} (search needs))
 
 add-t4 : tie.Need-add-t4
-add-t4 c = sum-fits (c .before .before .before .before .before .before .before .before .pre .0 .y-small) (c .before .before .before .before .before .before .before .before .pre .1 .y-small) (kept {w = w32} {z = c .before .before .before .before .before .before .before .before .args .p .y} (search needs)) (kept {w = w32} {z = c .before .before .before .before .before .before .before .before .args .q .y} (search needs))
+add-t4 c =
+    let s = c .before .before .before .before .before .before .before .before in
+    sum-fits (s .pre .0 .y-small) (s .pre .1 .y-small) (kept {w = w32} {z = s .args .p .y} (search needs))
+    (kept {w = w32} {z = s .args .q .y} (search needs))
 
 returns : tie.Need-returns
 returns c =

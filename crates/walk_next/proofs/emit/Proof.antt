@@ -26,10 +26,19 @@ run-requires : tie.Need-run-requires
 run-requires c κs = search needs
 
 returns : tie.Need-returns
-returns c = corner-given (pointsOf (c .before .before .before .before .before .before .before .before .args .left .now)) (pointsOf (c .before .before .before .before .before .before .before .before .args .right .now)) (c .before .before .before .before .before .before .before .before .args .s) (c .before .before .run .result) (c .before .before .run .ensures) (c .if1 .taken) _ (c .before .before .before .add-points .ensures ∙ (λ i. c .before .before .before .before .before .point-of .ensures .0 i +ᵖ c .before .before .before .before .point-of2 .ensures .0 i))
+returns c =
+    let p2 = c .before .before in
+    let p1 = p2 .before .before in
+    let start = p1 .before .before .before .before in
+    corner-given (pointsOf (start .args .left .now)) (pointsOf (start .args .right .now)) (start .args .s) (p2 .run .result) (p2 .run .ensures)
+    (c .if1 .taken) _ (p2 .before .add-points .ensures ∙ (λ i. p1 .before .point-of .ensures .0 i +ᵖ p1 .point-of2 .ensures .0 i))
 
 returns-2 : tie.Need-returns-2
-returns-2 c = end-given (pointsOf (c .before .before .before .before .before .before .before .before .args .left .now)) (pointsOf (c .before .before .before .before .before .before .before .before .args .right .now)) (c .before .before .before .before .before .before .before .before .args .s) (c .before .before .run .result) (c .before .before .run .ensures) (c .if1 .left)
+returns-2 c =
+    let p1 = c .before .before in
+    let start = p1 .before .before .before .before .before .before in
+    end-given (pointsOf (start .args .left .now)) (pointsOf (start .args .right .now)) (start .args .s) (p1 .run .result) (p1 .run .ensures)
+    (c .if1 .left)
 
 pub emit-spec : {M : Type 1} → statement M
 emit-spec =

@@ -25,7 +25,14 @@ misplaced-requires : tie.Need-misplaced-requires
 misplaced-requires c κs = search needs
 
 returns-3 : tie.Need-returns-3
-returns-3 c = fault-left-23 (c .before .before .before .before .before .before .before .before .args .left .now) (c .before .before .before .before .before .before .before .before .args .right .now) (c .before .before .before .before .before .before .before .before .args .s) (sym (c .before .before .before .before .before .before .before .length-broken .ensures) ∙ c .before .before .before .before .before .before .if1 .left) (sym (c .before .before .before .before .before .length-broken2 .ensures) ∙ c .before .before .before .before .if2 .left) (ap (λ n. misplaced n (c .before .before .before .before .before .before .before .before .args .s .a)) (sym (c .before .before .corner-count .ensures)) ∙ sym (c .before .misplaced .ensures) ∙ c .if3 .taken)
+returns-3 c =
+    let p3 = c .before .before in
+    let p2 = p3 .before .before in
+    let p1 = p2 .before .before in
+    let start = p1 .before .before in
+    fault-left-23 (start .args .left .now) (start .args .right .now) (start .args .s) (sym (p1 .before .length-broken .ensures) ∙ p1 .if1 .left)
+    (sym (p2 .before .length-broken2 .ensures) ∙ p2 .if2 .left)
+    (ap (λ n. misplaced n (start .args .s .a)) (sym (p3 .corner-count .ensures)) ∙ sym (c .before .misplaced .ensures) ∙ c .if3 .taken)
 
 corner-count-requires-2 : tie.Need-corner-count-requires-2
 corner-count-requires-2 c κs = search needs
@@ -34,22 +41,70 @@ misplaced-requires-2 : tie.Need-misplaced-requires-2
 misplaced-requires-2 c κs = search needs
 
 returns-4 : tie.Need-returns-4
-returns-4 c = fault-right-23 (c .before .before .before .before .before .before .before .before .before .before .before .before .args .left .now) (c .before .before .before .before .before .before .before .before .before .before .before .before .args .right .now) (c .before .before .before .before .before .before .before .before .before .before .before .before .args .s) (sym (c .before .before .before .before .before .before .before .before .before .before .before .length-broken .ensures) ∙ c .before .before .before .before .before .before .before .before .before .before .if1 .left) (sym (c .before .before .before .before .before .before .before .before .before .length-broken2 .ensures) ∙ c .before .before .before .before .before .before .before .before .if2 .left) (ap (λ n. misplaced n (c .before .before .before .before .before .before .before .before .before .before .before .before .args .s .a)) (sym (c .before .before .before .before .before .before .corner-count .ensures)) ∙ sym (c .before .before .before .before .before .misplaced .ensures) ∙ c .before .before .before .before .if3 .left) (ap (λ n. misplaced n (c .before .before .before .before .before .before .before .before .before .before .before .before .args .s .b)) (sym (c .before .before .corner-count2 .ensures)) ∙ sym (c .before .misplaced2 .ensures) ∙ c .if4 .taken)
+returns-4 c =
+    let p5 = c .before .before in
+    let p4 = p5 .before .before in
+    let p3 = p4 .before .before in
+    let p2 = p3 .before .before in
+    let p1 = p2 .before .before in
+    let start = p1 .before .before in
+    fault-right-23 (start .args .left .now) (start .args .right .now) (start .args .s) (sym (p1 .before .length-broken .ensures) ∙ p1 .if1 .left)
+    (sym (p2 .before .length-broken2 .ensures) ∙ p2 .if2 .left)
+    (ap (λ n. misplaced n (start .args .s .a)) (sym (p3 .corner-count .ensures)) ∙ sym (p4 .before .misplaced .ensures) ∙ p4 .if3 .left)
+    (ap (λ n. misplaced n (start .args .s .b)) (sym (p5 .corner-count2 .ensures)) ∙ sym (c .before .misplaced2 .ensures) ∙ c .if4 .taken)
 
 off-range-requires : tie.Need-off-range-requires
 off-range-requires c κs = search needs
 
 returns-5 : tie.Need-returns-5
-returns-5 c = fault-left-2 (c .before .before .before .before .before .before .before .before .before .before .before .before .before .before .args .left .now) (c .before .before .before .before .before .before .before .before .before .before .before .before .before .before .args .right .now) (c .before .before .before .before .before .before .before .before .before .before .before .before .before .before .args .s) (sym (c .before .before .before .before .before .before .before .before .before .before .before .before .before .length-broken .ensures) ∙ c .before .before .before .before .before .before .before .before .before .before .before .before .if1 .left) (sym (c .before .before .before .before .before .before .before .before .before .before .before .length-broken2 .ensures) ∙ c .before .before .before .before .before .before .before .before .before .before .if2 .left) (ap (λ n. misplaced n (c .before .before .before .before .before .before .before .before .before .before .before .before .before .before .args .s .a)) (sym (c .before .before .before .before .before .before .before .before .corner-count .ensures)) ∙ sym (c .before .before .before .before .before .before .before .misplaced .ensures) ∙ c .before .before .before .before .before .before .if3 .left) (ap (λ n. misplaced n (c .before .before .before .before .before .before .before .before .before .before .before .before .before .before .args .s .b)) (sym (c .before .before .before .before .corner-count2 .ensures)) ∙ sym (c .before .before .before .misplaced2 .ensures) ∙ c .before .before .if4 .left) (sym (c .before .off-range .ensures) ∙ c .if5 .taken)
+returns-5 c =
+    let p6 = c .before .before in
+    let p5 = p6 .before .before in
+    let p4 = p5 .before .before in
+    let p3 = p4 .before .before in
+    let p2 = p3 .before .before in
+    let p1 = p2 .before .before in
+    let start = p1 .before .before in
+    fault-left-2 (start .args .left .now) (start .args .right .now) (start .args .s) (sym (p1 .before .length-broken .ensures) ∙ p1 .if1 .left)
+    (sym (p2 .before .length-broken2 .ensures) ∙ p2 .if2 .left)
+    (ap (λ n. misplaced n (start .args .s .a)) (sym (p3 .corner-count .ensures)) ∙ sym (p4 .before .misplaced .ensures) ∙ p4 .if3 .left)
+    (ap (λ n. misplaced n (start .args .s .b)) (sym (p5 .corner-count2 .ensures)) ∙ sym (p6 .before .misplaced2 .ensures) ∙ p6 .if4 .left)
+    (sym (c .before .off-range .ensures) ∙ c .if5 .taken)
 
 off-range-requires-2 : tie.Need-off-range-requires-2
 off-range-requires-2 c κs = search needs
 
 returns-6 : tie.Need-returns-6
-returns-6 c = fault-right-2 (c .before .before .before .before .before .before .before .before .before .before .before .before .before .before .before .before .args .left .now) (c .before .before .before .before .before .before .before .before .before .before .before .before .before .before .before .before .args .right .now) (c .before .before .before .before .before .before .before .before .before .before .before .before .before .before .before .before .args .s) (sym (c .before .before .before .before .before .before .before .before .before .before .before .before .before .before .before .length-broken .ensures) ∙ c .before .before .before .before .before .before .before .before .before .before .before .before .before .before .if1 .left) (sym (c .before .before .before .before .before .before .before .before .before .before .before .before .before .length-broken2 .ensures) ∙ c .before .before .before .before .before .before .before .before .before .before .before .before .if2 .left) (ap (λ n. misplaced n (c .before .before .before .before .before .before .before .before .before .before .before .before .before .before .before .before .args .s .a)) (sym (c .before .before .before .before .before .before .before .before .before .before .corner-count .ensures)) ∙ sym (c .before .before .before .before .before .before .before .before .before .misplaced .ensures) ∙ c .before .before .before .before .before .before .before .before .if3 .left) (ap (λ n. misplaced n (c .before .before .before .before .before .before .before .before .before .before .before .before .before .before .before .before .args .s .b)) (sym (c .before .before .before .before .before .before .corner-count2 .ensures)) ∙ sym (c .before .before .before .before .before .misplaced2 .ensures) ∙ c .before .before .before .before .if4 .left) (sym (c .before .before .before .off-range .ensures) ∙ c .before .before .if5 .left) (sym (c .before .off-range2 .ensures) ∙ c .if6 .taken)
+returns-6 c =
+    let p7 = c .before .before in
+    let p6 = p7 .before .before in
+    let p5 = p6 .before .before in
+    let p4 = p5 .before .before in
+    let p3 = p4 .before .before in
+    let p2 = p3 .before .before in
+    let p1 = p2 .before .before in
+    let start = p1 .before .before in
+    fault-right-2 (start .args .left .now) (start .args .right .now) (start .args .s) (sym (p1 .before .length-broken .ensures) ∙ p1 .if1 .left)
+    (sym (p2 .before .length-broken2 .ensures) ∙ p2 .if2 .left)
+    (ap (λ n. misplaced n (start .args .s .a)) (sym (p3 .corner-count .ensures)) ∙ sym (p4 .before .misplaced .ensures) ∙ p4 .if3 .left)
+    (ap (λ n. misplaced n (start .args .s .b)) (sym (p5 .corner-count2 .ensures)) ∙ sym (p6 .before .misplaced2 .ensures) ∙ p6 .if4 .left)
+    (sym (p7 .before .off-range .ensures) ∙ p7 .if5 .left) (sym (c .before .off-range2 .ensures) ∙ c .if6 .taken)
 
 returns-7 : tie.Need-returns-7
-returns-7 c = fault-none (c .before .before .before .before .before .before .before .before .before .before .before .before .before .before .before .before .args .left .now) (c .before .before .before .before .before .before .before .before .before .before .before .before .before .before .before .before .args .right .now) (c .before .before .before .before .before .before .before .before .before .before .before .before .before .before .before .before .args .s) (sym (c .before .before .before .before .before .before .before .before .before .before .before .before .before .before .before .length-broken .ensures) ∙ c .before .before .before .before .before .before .before .before .before .before .before .before .before .before .if1 .left) (sym (c .before .before .before .before .before .before .before .before .before .before .before .before .before .length-broken2 .ensures) ∙ c .before .before .before .before .before .before .before .before .before .before .before .before .if2 .left) (ap (λ n. misplaced n (c .before .before .before .before .before .before .before .before .before .before .before .before .before .before .before .before .args .s .a)) (sym (c .before .before .before .before .before .before .before .before .before .before .corner-count .ensures)) ∙ sym (c .before .before .before .before .before .before .before .before .before .misplaced .ensures) ∙ c .before .before .before .before .before .before .before .before .if3 .left) (ap (λ n. misplaced n (c .before .before .before .before .before .before .before .before .before .before .before .before .before .before .before .before .args .s .b)) (sym (c .before .before .before .before .before .before .corner-count2 .ensures)) ∙ sym (c .before .before .before .before .before .misplaced2 .ensures) ∙ c .before .before .before .before .if4 .left) (sym (c .before .before .before .off-range .ensures) ∙ c .before .before .if5 .left) (sym (c .before .off-range2 .ensures) ∙ c .if6 .left)
+returns-7 c =
+    let p7 = c .before .before in
+    let p6 = p7 .before .before in
+    let p5 = p6 .before .before in
+    let p4 = p5 .before .before in
+    let p3 = p4 .before .before in
+    let p2 = p3 .before .before in
+    let p1 = p2 .before .before in
+    let start = p1 .before .before in
+    fault-none (start .args .left .now) (start .args .right .now) (start .args .s) (sym (p1 .before .length-broken .ensures) ∙ p1 .if1 .left)
+    (sym (p2 .before .length-broken2 .ensures) ∙ p2 .if2 .left)
+    (ap (λ n. misplaced n (start .args .s .a)) (sym (p3 .corner-count .ensures)) ∙ sym (p4 .before .misplaced .ensures) ∙ p4 .if3 .left)
+    (ap (λ n. misplaced n (start .args .s .b)) (sym (p5 .corner-count2 .ensures)) ∙ sym (p6 .before .misplaced2 .ensures) ∙ p6 .if4 .left)
+    (sym (p7 .before .off-range .ensures) ∙ p7 .if5 .left) (sym (c .before .off-range2 .ensures) ∙ c .if6 .left)
 
 pub pair-fault-spec : {M : Type 1} → statement M
 pair-fault-spec =

@@ -32,23 +32,46 @@ off-range-requires c κs = search needs
 
 returns-3 : tie.Need-returns-3
 returns-3 c =
-    let reflected = c .before .before .before .before .before .before .args .reflected in
-    let l = c .before .before .before .before .before .before .args .left .now in
-    let r = c .before .before .before .before .before .before .args .right .now in
-    subst (PairedBy reflected l r) (sym (left-2 reflected l r (sym (c .before .before .before .before .before .length-broken .ensures) ∙ c .before .before .before .before .if1 .left) (sym (c .before .before .before .length-broken2 .ensures) ∙ c .before .before .if2 .left) (sym (c .before .off-range .ensures) ∙ c .if3 .taken))) (paired-by reflected l r)
+    let p2 = c .before .before in
+    let p1 = p2 .before .before in
+    let s = p1 .before .before in
+    let reflected = s .args .reflected in
+    let l = s .args .left .now in
+    let r = s .args .right .now in
+    subst (PairedBy reflected l r)
+    (sym
+    (left-2 reflected l r (sym (p1 .before .length-broken .ensures) ∙ p1 .if1 .left)
+    (sym (p2 .before .length-broken2 .ensures) ∙ p2 .if2 .left) (sym (c .before .off-range .ensures) ∙ c .if3 .taken)))
+    (paired-by reflected l r)
 
 off-range-requires-2 : tie.Need-off-range-requires-2
 off-range-requires-2 c κs = search needs
 
 returns-4 : tie.Need-returns-4
 returns-4 c =
-    let reflected = c .before .before .before .before .before .before .before .before .args .reflected in
-    let l = c .before .before .before .before .before .before .before .before .args .left .now in
-    let r = c .before .before .before .before .before .before .before .before .args .right .now in
-    subst (PairedBy reflected l r) (sym (right-2 reflected l r (sym (c .before .before .before .before .before .before .before .length-broken .ensures) ∙ c .before .before .before .before .before .before .if1 .left) (sym (c .before .before .before .before .before .length-broken2 .ensures) ∙ c .before .before .before .before .if2 .left) (sym (c .before .before .before .off-range .ensures) ∙ c .before .before .if3 .left) (sym (c .before .off-range2 .ensures) ∙ c .if4 .taken))) (paired-by reflected l r)
+    let p3 = c .before .before in
+    let p2 = p3 .before .before in
+    let p1 = p2 .before .before in
+    let s = p1 .before .before in
+    let reflected = s .args .reflected in
+    let l = s .args .left .now in
+    let r = s .args .right .now in
+    subst (PairedBy reflected l r)
+    (sym
+    (right-2 reflected l r (sym (p1 .before .length-broken .ensures) ∙ p1 .if1 .left)
+    (sym (p2 .before .length-broken2 .ensures) ∙ p2 .if2 .left) (sym (p3 .before .off-range .ensures) ∙ p3 .if3 .left)
+    (sym (c .before .off-range2 .ensures) ∙ c .if4 .taken))) (paired-by reflected l r)
 
 pair-checked-requires : tie.Need-pair-checked-requires
-pair-checked-requires c κs = ((sym (c .before .before .before .before .before .before .before .length-broken .ensures) ∙ c .before .before .before .before .before .before .if1 .left), (sym (c .before .before .before .before .before .length-broken2 .ensures) ∙ c .before .before .before .before .if2 .left), (sym (c .before .before .before .off-range .ensures) ∙ c .before .before .if3 .left), (sym (c .before .off-range2 .ensures) ∙ c .if4 .left))
+pair-checked-requires c κs =
+    let p3 = c .before .before in
+    let p2 = p3 .before .before in
+    let p1 = p2 .before .before in (
+      (sym (p1 .before .length-broken .ensures) ∙ p1 .if1 .left),
+      (sym (p2 .before .length-broken2 .ensures) ∙ p2 .if2 .left),
+      (sym (p3 .before .off-range .ensures) ∙ p3 .if3 .left),
+      (sym (c .before .off-range2 .ensures) ∙ c .if4 .left),
+    )
 
 returns-5 : tie.Need-returns-5
 returns-5 c =

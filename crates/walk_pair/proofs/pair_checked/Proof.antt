@@ -33,16 +33,38 @@ first-of-requires : tie.Need-first-of-requires
 first-of-requires c κs = search needs
 
 returns : tie.Need-returns
-returns c = pair-at (c .before .before .before .before .before .before .before .before .args .reflected) (c .before .before .before .before .before .before .before .before .args .left .now) (c .before .before .before .before .before .before .before .before .args .right .now) (c .before .before .before .before .before .before .before .before .pre .0) (c .before .before .before .before .before .before .before .before .pre .1) (c .before .before .before .before .before .before .before .before .pre .2) (c .before .before .before .before .before .before .before .before .pre .3) _ _ (sym (c .before .before .before .before .before .before .before .begin-checked .ensures) ∙ c .before .before .before .before .first .given .1) (sym (c .before .before .before .before .before .before .begin-checked2 .ensures) ∙ c .before .second .given .1)
+returns c =
+    let p2 = c .before .before .before .before in
+    let p1 = p2 .before .before in
+    let s = p1 .before .before in
+    pair-at (s .args .reflected) (s .args .left .now) (s .args .right .now) (s .pre .0) (s .pre .1) (s .pre .2) (s .pre .3) _ _
+    (sym (p1 .before .begin-checked .ensures) ∙ p2 .first .given .1) (sym (p1 .begin-checked2 .ensures) ∙ c .before .second .given .1)
 
 returns-2 : tie.Need-returns-2
-returns-2 c = pair-second (c .before .before .before .before .before .before .before .before .args .reflected) (c .before .before .before .before .before .before .before .before .args .left .now) (c .before .before .before .before .before .before .before .before .args .right .now) (c .before .before .before .before .before .before .before .before .pre .0) (c .before .before .before .before .before .before .before .before .pre .1) (c .before .before .before .before .before .before .before .before .pre .2) (c .before .before .before .before .before .before .before .before .pre .3) _ _ (sym (c .before .before .before .before .before .before .before .begin-checked .ensures) ∙ c .before .before .before .before .first .given .1) (sym (c .before .before .before .before .before .before .begin-checked2 .ensures) ∙ c .before .second2 .given .1)
+returns-2 c =
+    let p2 = c .before .before .before .before in
+    let p1 = p2 .before .before in
+    let s = p1 .before .before in
+    pair-second (s .args .reflected) (s .args .left .now) (s .args .right .now) (s .pre .0) (s .pre .1) (s .pre .2) (s .pre .3) _ _
+    (sym (p1 .before .begin-checked .ensures) ∙ p2 .first .given .1) (sym (p1 .begin-checked2 .ensures) ∙ c .before .second2 .given .1)
 
 returns-3 : tie.Need-returns-3
-returns-3 c = pair-first (c .before .before .before .before .before .before .before .before .args .reflected) (c .before .before .before .before .before .before .before .before .args .left .now) (c .before .before .before .before .before .before .before .before .args .right .now) (c .before .before .before .before .before .before .before .before .pre .0) (c .before .before .before .before .before .before .before .before .pre .1) (c .before .before .before .before .before .before .before .before .pre .2) (c .before .before .before .before .before .before .before .before .pre .3) _ _ (sym (c .before .before .before .before .before .before .before .begin-checked .ensures) ∙ c .before .before .before .before .first2 .given .1) (sym (c .before .before .before .before .before .before .begin-checked2 .ensures) ∙ c .before .second3 .given .1)
+returns-3 c =
+    let p2 = c .before .before .before .before in
+    let p1 = p2 .before .before in
+    let s = p1 .before .before in
+    pair-first (s .args .reflected) (s .args .left .now) (s .args .right .now) (s .pre .0) (s .pre .1) (s .pre .2) (s .pre .3) _ _
+    (sym (p1 .before .begin-checked .ensures) ∙ p2 .first2 .given .1) (sym (p1 .begin-checked2 .ensures) ∙ c .before .second3 .given .1)
 
 returns-4 : tie.Need-returns-4
-returns-4 c = pair-both (c .before .before .before .before .before .before .before .before .before .args .reflected) (c .before .before .before .before .before .before .before .before .before .args .left .now) (c .before .before .before .before .before .before .before .before .before .args .right .now) (c .before .before .before .before .before .before .before .before .before .pre .0) (c .before .before .before .before .before .before .before .before .before .pre .1) (c .before .before .before .before .before .before .before .before .before .pre .2) (c .before .before .before .before .before .before .before .before .before .pre .3) _ _ (sym (c .before .before .before .before .before .before .before .before .begin-checked .ensures) ∙ c .before .before .before .before .before .first2 .given .1) (sym (c .before .before .before .before .before .before .before .begin-checked2 .ensures) ∙ c .before .before .second4 .given .1) (c .first-of .ensures)
+returns-4 c =
+    let p3 = c .before .before in
+    let p2 = p3 .before .before .before in
+    let p1 = p2 .before .before in
+    let s = p1 .before .before in
+    pair-both (s .args .reflected) (s .args .left .now) (s .args .right .now) (s .pre .0) (s .pre .1) (s .pre .2) (s .pre .3) _ _
+    (sym (p1 .before .begin-checked .ensures) ∙ p2 .first2 .given .1) (sym (p1 .begin-checked2 .ensures) ∙ p3 .second4 .given .1)
+    (c .first-of .ensures)
 
 pub pair-checked-spec : {M : Type 1} → statement M
 pair-checked-spec =

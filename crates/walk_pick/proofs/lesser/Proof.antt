@@ -31,13 +31,34 @@ enum-told-3 : tie.Need-enum-told-3
 enum-told-3 c = search needs
 
 returns-3 : tie.Need-returns-3
-returns-3 c = (not-after _ _ (sym (c .before .before .before .before .before .before .is-zero .ensures) ∙ c .before .before .before .before .before .if1 .left) (sym (c .before .before .before .before .is-zero2 .ensures) ∙ c .before .before .before .if2 .left) (ap isGreater (sym (c .before .before .angle-cmp .ensures) ∙ c .enum-told .given .1)), c .before .before .before .before .before .before .before .pre .0)
+returns-3 c =
+    let p3 = c .before .before in
+    let p2 = p3 .before .before in
+    let p1 = p2 .before .before in (
+      not-after _ _ (sym (p1 .is-zero .ensures) ∙ p2 .before .if1 .left) (sym (p2 .is-zero2 .ensures) ∙ p3 .before .if2 .left)
+          (ap isGreater (sym (p3 .angle-cmp .ensures) ∙ c .enum-told .given .1)),
+      p1 .before .pre .0,
+    )
 
 returns-4 : tie.Need-returns-4
-returns-4 c = (not-after _ _ (sym (c .before .before .before .before .before .before .is-zero .ensures) ∙ c .before .before .before .before .before .if1 .left) (sym (c .before .before .before .before .is-zero2 .ensures) ∙ c .before .before .before .if2 .left) (ap isGreater (sym (c .before .before .angle-cmp .ensures) ∙ c .enum-told2 .given .1)), c .before .before .before .before .before .before .before .pre .0)
+returns-4 c =
+    let p3 = c .before .before in
+    let p2 = p3 .before .before in
+    let p1 = p2 .before .before in (
+      not-after _ _ (sym (p1 .is-zero .ensures) ∙ p2 .before .if1 .left) (sym (p2 .is-zero2 .ensures) ∙ p3 .before .if2 .left)
+          (ap isGreater (sym (p3 .angle-cmp .ensures) ∙ c .enum-told2 .given .1)),
+      p1 .before .pre .0,
+    )
 
 returns-5 : tie.Need-returns-5
-returns-5 c = (after _ _ (sym (c .before .before .before .before .before .before .is-zero .ensures) ∙ c .before .before .before .before .before .if1 .left) (sym (c .before .before .before .before .is-zero2 .ensures) ∙ c .before .before .before .if2 .left) (ap isGreater (sym (c .before .before .angle-cmp .ensures) ∙ c .enum-told3 .given .1)), c .before .before .before .before .before .before .before .pre .1)
+returns-5 c =
+    let p3 = c .before .before in
+    let p2 = p3 .before .before in
+    let p1 = p2 .before .before in (
+      after _ _ (sym (p1 .is-zero .ensures) ∙ p2 .before .if1 .left) (sym (p2 .is-zero2 .ensures) ∙ p3 .before .if2 .left)
+          (ap isGreater (sym (p3 .angle-cmp .ensures) ∙ c .enum-told3 .given .1)),
+      p1 .before .pre .1,
+    )
 
 pub lesser-spec : {M : Type 1} → statement M
 lesser-spec =

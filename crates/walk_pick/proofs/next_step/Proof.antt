@@ -9,22 +9,30 @@ returns : tie.Need-returns
 returns c = (neither _ _ _ (c .before .before .if1 .taken) (c .if2 .taken), tt)
 
 edge-of-requires : tie.Need-edge-of-requires
-edge-of-requires c κs = edge-ready (c .before .before .before .before .before .before .args .right .now) (c .before .before .before .before .before .before .args .s .b) (c .before .before .before .before .before .before .pre .right-short) (c .before .before .before .before .before .before .pre .right-placed) (c .before .before .before .before .before .before .pre .right-range)
+edge-of-requires c κs =
+    let start = c .before .before .before .before .before .before in
+    edge-ready (start .args .right .now) (start .args .s .b) (start .pre .right-short) (start .pre .right-placed) (start .pre .right-range)
 
 returns-2 : tie.Need-returns-2
 returns-2 c = (only-second _ _ _ (c .before .before .before .if1 .taken) (c .before .if2 .left) (c .edge-of .ensures .0), c .edge-of .ensures .1)
 
 edge-of-requires-2 : tie.Need-edge-of-requires-2
-edge-of-requires-2 c κs = edge-ready (c .before .before .before .before .before .before .args .left .now) (c .before .before .before .before .before .before .args .s .a) (c .before .before .before .before .before .before .pre .left-short) (c .before .before .before .before .before .before .pre .left-placed) (c .before .before .before .before .before .before .pre .left-range)
+edge-of-requires-2 c κs =
+    let start = c .before .before .before .before .before .before in
+    edge-ready (start .args .left .now) (start .args .s .a) (start .pre .left-short) (start .pre .left-placed) (start .pre .left-range)
 
 returns-3 : tie.Need-returns-3
 returns-3 c = (only-first _ _ _ (c .before .before .before .if1 .left) (c .before .if3 .taken) (c .edge-of2 .ensures .0), c .edge-of2 .ensures .1)
 
 edge-of-requires-3 : tie.Need-edge-of-requires-3
-edge-of-requires-3 c κs = edge-ready (c .before .before .before .before .before .before .args .left .now) (c .before .before .before .before .before .before .args .s .a) (c .before .before .before .before .before .before .pre .left-short) (c .before .before .before .before .before .before .pre .left-placed) (c .before .before .before .before .before .before .pre .left-range)
+edge-of-requires-3 c κs =
+    let start = c .before .before .before .before .before .before in
+    edge-ready (start .args .left .now) (start .args .s .a) (start .pre .left-short) (start .pre .left-placed) (start .pre .left-range)
 
 edge-of-requires-4 : tie.Need-edge-of-requires-4
-edge-of-requires-4 c κs = edge-ready (c .before .before .before .before .before .before .before .args .right .now) (c .before .before .before .before .before .before .before .args .s .b) (c .before .before .before .before .before .before .before .pre .right-short) (c .before .before .before .before .before .before .before .pre .right-placed) (c .before .before .before .before .before .before .before .pre .right-range)
+edge-of-requires-4 c κs =
+    let start = c .before .before .before .before .before .before .before in
+    edge-ready (start .args .right .now) (start .args .s .b) (start .pre .right-short) (start .pre .right-placed) (start .pre .right-range)
 
 lesser-requires : tie.Need-lesser-requires
 lesser-requires c κs = (c .before .edge-of3 .ensures .1, c .edge-of4 .ensures .1)

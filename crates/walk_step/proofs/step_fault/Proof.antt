@@ -27,7 +27,11 @@ misplaced-requires : tie.Need-misplaced-requires
 misplaced-requires c κs = search needs
 
 returns-3 : tie.Need-returns-3
-returns-3 c = step-23 _ _ (sym (c .before .before .before .before .before .before .length-broken .ensures) ∙ c .before .before .before .before .before .if1 .left) (c .before .before .before .if2 .left) (ap (λ n. misplaced n (c .before .before .before .before .before .before .before .args .w)) (sym (c .before .before .corner-count .ensures)) ∙ sym (c .before .misplaced .ensures) ∙ c .if3 .taken)
+returns-3 c =
+    let p2 = c .before .before in
+    let p1 = p2 .before .before .before in
+    step-23 _ _ (sym (p1 .before .length-broken .ensures) ∙ p1 .if1 .left) (p2 .before .if2 .left)
+    (ap (λ n. misplaced n (p1 .before .before .args .w)) (sym (p2 .corner-count .ensures)) ∙ sym (c .before .misplaced .ensures) ∙ c .if3 .taken)
 
 cast-off-at : tie.Need-cast-off-at
 cast-off-at c = search needs
@@ -36,25 +40,73 @@ off-at-requires : tie.Need-off-at-requires
 off-at-requires c κs = index-inside _ _ (ap (λ n. misplaced n (c .before .before .before .before .before .before .before .before .args .w)) (sym (c .before .before .before .corner-count .ensures)) ∙ sym (c .before .before .misplaced .ensures) ∙ c .before .if3 .left)
 
 returns-4 : tie.Need-returns-4
-returns-4 c = step-here _ _ (sym (c .before .before .before .before .before .before .before .before .before .length-broken .ensures) ∙ c .before .before .before .before .before .before .before .before .if1 .left) (c .before .before .before .before .before .before .if2 .left) (ap (λ n. misplaced n (c .before .before .before .before .before .before .before .before .before .before .args .w)) (sym (c .before .before .before .before .before .corner-count .ensures)) ∙ sym (c .before .before .before .before .misplaced .ensures) ∙ c .before .before .before .if3 .left) (sym (c .before .off-at .ensures) ∙ c .if4 .taken)
+returns-4 c =
+    let p3 = c .before .before .before in
+    let p2 = p3 .before .before in
+    let p1 = p2 .before .before .before in
+    step-here _ _ (sym (p1 .before .length-broken .ensures) ∙ p1 .if1 .left) (p2 .before .if2 .left)
+    (ap (λ n. misplaced n (p1 .before .before .args .w)) (sym (p2 .corner-count .ensures)) ∙ sym (p3 .before .misplaced .ensures) ∙ p3 .if3 .left)
+    (sym (c .before .off-at .ensures) ∙ c .if4 .taken)
 
 next-index-requires : tie.Need-next-index-requires
-next-index-requires c κs = rw (c .before .before .before .before .before .corner-count .ensures) (few-corners (c .before .before .before .before .before .before .before .before .before .before .args .contour .now) (sym (c .before .before .before .before .before .before .before .before .before .length-broken .ensures) ∙ c .before .before .before .before .before .before .before .before .if1 .left), ap (λ n. misplaced n (c .before .before .before .before .before .before .before .before .before .before .args .w)) (sym (c .before .before .before .before .before .corner-count .ensures)) ∙ sym (c .before .before .before .before .misplaced .ensures) ∙ c .before .before .before .if3 .left)
+next-index-requires c κs =
+    let p3 = c .before .before .before in
+    let p2 = p3 .before .before in
+    let p1 = p2 .before .before .before in
+    let s = p1 .before .before in
+    rw (p2 .corner-count .ensures) (
+      few-corners (s .args .contour .now) (sym (p1 .before .length-broken .ensures) ∙ p1 .if1 .left),
+      ap (λ n. misplaced n (s .args .w)) (sym (p2 .corner-count .ensures)) ∙ sym (p3 .before .misplaced .ensures) ∙ p3 .if3 .left,
+    )
 
 cast-off-at-2 : tie.Need-cast-off-at-2
 cast-off-at-2 c = search needs
 
 off-at-requires-2 : tie.Need-off-at-requires-2
 off-at-requires-2 c κs =
-    let l = pointsOf (c .before .before .before .before .before .before .before .before .before .before .before .args .contour .now) in
-    let w = c .before .before .before .before .before .before .before .before .before .before .before .args .w in
-    omega (arith, c .next-index .ensures ∙ ap (λ n. nextIndex n w) (c .before .before .before .before .before .before .corner-count .ensures), next-inside (length l) w (ap (λ n. misplaced n (c .before .before .before .before .before .before .before .before .before .before .before .args .w)) (sym (c .before .before .before .before .before .before .corner-count .ensures)) ∙ sym (c .before .before .before .before .before .misplaced .ensures) ∙ c .before .before .before .before .if3 .left))
+    let p2 = c .before .before .before .before in
+    let p1 = p2 .before .before in
+    let s = p1 .before .before .before .before .before in
+    let l = pointsOf (s .args .contour .now) in
+    let w = s .args .w in
+    omega (
+      arith,
+      c .next-index .ensures ∙ ap (λ n. nextIndex n w) (p1 .corner-count .ensures),
+      next-inside (length l) w
+          (ap (λ n. misplaced n (s .args .w)) (sym (p1 .corner-count .ensures)) ∙ sym (p2 .before .misplaced .ensures) ∙ p2 .if3 .left),
+    )
 
 returns-5 : tie.Need-returns-5
-returns-5 c = step-there _ _ (sym (c .before .before .before .before .before .before .before .before .before .before .before .before .length-broken .ensures) ∙ c .before .before .before .before .before .before .before .before .before .before .before .if1 .left) (c .before .before .before .before .before .before .before .before .before .if2 .left) (ap (λ n. misplaced n (c .before .before .before .before .before .before .before .before .before .before .before .before .before .args .w)) (sym (c .before .before .before .before .before .before .before .before .corner-count .ensures)) ∙ sym (c .before .before .before .before .before .before .before .misplaced .ensures) ∙ c .before .before .before .before .before .before .if3 .left) (sym (c .before .before .before .before .off-at .ensures) ∙ c .before .before .before .if4 .left) (ap (λ i. offAt (pointsOf (c .before .before .before .before .before .before .before .before .before .before .before .before .before .args .contour .now)) i) (sym (c .before .before .next-index .ensures ∙ ap (λ n. nextIndex n (c .before .before .before .before .before .before .before .before .before .before .before .before .before .args .w)) (c .before .before .before .before .before .before .before .before .corner-count .ensures))) ∙ sym (c .before .off-at2 .ensures) ∙ c .if5 .taken)
+returns-5 c =
+    let p5 = c .before .before in
+    let p4 = p5 .before .before in
+    let p3 = p4 .before .before in
+    let p2 = p3 .before .before in
+    let p1 = p2 .before .before .before in
+    let s = p1 .before .before in
+    step-there _ _ (sym (p1 .before .length-broken .ensures) ∙ p1 .if1 .left) (p2 .before .if2 .left)
+    (ap (λ n. misplaced n (s .args .w)) (sym (p2 .corner-count .ensures)) ∙ sym (p3 .before .misplaced .ensures) ∙ p3 .if3 .left)
+    (sym (p4 .off-at .ensures) ∙ p5 .before .if4 .left)
+    (ap (λ i. offAt (pointsOf (s .args .contour .now)) i)
+    (sym (p5 .next-index .ensures ∙ ap (λ n. nextIndex n (s .args .w)) (p2 .corner-count .ensures)))
+    ∙ sym (c .before .off-at2 .ensures)
+    ∙ c .if5 .taken)
 
 returns-6 : tie.Need-returns-6
-returns-6 c = step-0 _ _ (sym (c .before .before .before .before .before .before .before .before .before .before .before .before .length-broken .ensures) ∙ c .before .before .before .before .before .before .before .before .before .before .before .if1 .left) (c .before .before .before .before .before .before .before .before .before .if2 .left) (ap (λ n. misplaced n (c .before .before .before .before .before .before .before .before .before .before .before .before .before .args .w)) (sym (c .before .before .before .before .before .before .before .before .corner-count .ensures)) ∙ sym (c .before .before .before .before .before .before .before .misplaced .ensures) ∙ c .before .before .before .before .before .before .if3 .left) (sym (c .before .before .before .before .off-at .ensures) ∙ c .before .before .before .if4 .left) (ap (λ i. offAt (pointsOf (c .before .before .before .before .before .before .before .before .before .before .before .before .before .args .contour .now)) i) (sym (c .before .before .next-index .ensures ∙ ap (λ n. nextIndex n (c .before .before .before .before .before .before .before .before .before .before .before .before .before .args .w)) (c .before .before .before .before .before .before .before .before .corner-count .ensures))) ∙ sym (c .before .off-at2 .ensures) ∙ c .if5 .left)
+returns-6 c =
+    let p5 = c .before .before in
+    let p4 = p5 .before .before in
+    let p3 = p4 .before .before in
+    let p2 = p3 .before .before in
+    let p1 = p2 .before .before .before in
+    let s = p1 .before .before in
+    step-0 _ _ (sym (p1 .before .length-broken .ensures) ∙ p1 .if1 .left) (p2 .before .if2 .left)
+    (ap (λ n. misplaced n (s .args .w)) (sym (p2 .corner-count .ensures)) ∙ sym (p3 .before .misplaced .ensures) ∙ p3 .if3 .left)
+    (sym (p4 .off-at .ensures) ∙ p5 .before .if4 .left)
+    (ap (λ i. offAt (pointsOf (s .args .contour .now)) i)
+    (sym (p5 .next-index .ensures ∙ ap (λ n. nextIndex n (s .args .w)) (p2 .corner-count .ensures)))
+    ∙ sym (c .before .off-at2 .ensures)
+    ∙ c .if5 .left)
 
 pub step-fault-spec : {M : Type 1} → statement M
 step-fault-spec =

@@ -45,28 +45,52 @@ corner-at-requires-3 c κs = omega (arith, c .round-to2 .ensures .1, c .before .
 
 subtract-requires : tie.Need-subtract-requires
 subtract-requires c κs =
-    let l = c .before .before .before .before .before .before .args .contour .now in
-    let off = c .before .before .before .before .before .before .pre .0 in
-    (grid-at l (c .before .before .before .round-to .result) _ off (omega (arith, c .before .before .before .before .before .corner-count .ensures, c .before .before .before .round-to .ensures .1)) (c .before .before .corner-at2 .ensures), grid-at l (c .before .before .before .before .before .before .args .s) _ off (c .before .before .before .before .before .before .pre .1) (c .before .before .before .before .corner-at .ensures))
+    let p2 = c .before .before in
+    let p1 = p2 .before .before in
+    let start = p1 .before .before in
+    let l = start .args .contour .now in
+    let off = start .pre .0 in (
+      grid-at l (p2 .before .round-to .result) _ off (omega (arith, p1 .before .corner-count .ensures, p2 .before .round-to .ensures .1))
+          (p2 .corner-at2 .ensures),
+      grid-at l (start .args .s) _ off (start .pre .1) (p1 .corner-at .ensures),
+    )
 
 subtract-requires-2 : tie.Need-subtract-requires-2
 subtract-requires-2 c κs =
-    let l = c .before .before .before .before .before .before .before .args .contour .now in
-    let off = c .before .before .before .before .before .before .before .pre .0 in
-    (grid-at l (c .before .before .round-to2 .result) _ off (omega (arith, c .before .before .before .before .before .before .corner-count .ensures, c .before .before .round-to2 .ensures .1)) (c .before .corner-at3 .ensures), grid-at l (c .before .before .before .before .before .before .before .args .s) _ off (c .before .before .before .before .before .before .before .pre .1) (c .before .before .before .before .before .corner-at .ensures))
+    let p2 = c .before .before in
+    let p1 = p2 .before .before .before in
+    let start = p1 .before .before in
+    let l = start .args .contour .now in
+    let off = start .pre .0 in (
+      grid-at l (p2 .round-to2 .result) _ off (omega (arith, p1 .before .corner-count .ensures, p2 .round-to2 .ensures .1))
+          (c .before .corner-at3 .ensures),
+      grid-at l (start .args .s) _ off (start .pre .1) (p1 .corner-at .ensures),
+    )
 
 cross-product-requires : tie.Need-cross-product-requires
 cross-product-requires c κs = search needs
 
 returns : tie.Need-returns
 returns c =
-    let l = pointsOf (c .before .before .before .before .before .before .before .before .before .args .contour .now) in
-    let n = c .before .before .before .before .before .before .before .before .corner-count .ensures in
-    let a = c .before .before .before .before .before .corner-at2 .ensures ∙ ap (cornerAt l) (c .before .before .before .before .before .before .round-to .ensures .0 ∙ ap (λ k. roundTo k (c .before .before .before .before .before .before .before .before .before .args .s + c .before .before .before .before .before .before .before .before .before .args .k)) n) in
-    let b = c .before .before .before .corner-at3 .ensures ∙ ap (cornerAt l) (c .before .before .before .before .round-to2 .ensures .0 ∙ ap (λ k. roundTo k (c .before .before .before .before .before .before .before .before .before .args .s + c .before .before .before .before .before .before .before .before .before .args .k + 1)) n) in
-    let o = c .before .before .before .before .before .before .before .corner-at .ensures in
-    let e = c .cross-product .ensures .0 ∙ (λ i. cross ((c .before .before .subtract .ensures .0 ∙ (λ j. a j -ᵖ o j)) i) ((c .before .subtract2 .ensures .0 ∙ (λ j. b j -ᵖ o j)) i)) in
-    (got w64 _ (c .cross-product .ok) ∙ e ∙ sym (term-is l (c .before .before .before .before .before .before .before .before .before .args .s) (c .before .before .before .before .before .before .before .before .before .args .k) (c .before .before .before .before .before .before .before .before .before .pre .1) (c .before .before .before .before .before .before .before .before .before .pre .2)), subst CrossSize (sym (got w64 _ (c .cross-product .ok))) (c .cross-product .ensures .1))
+    let p4 = c .before .before in
+    let p3 = p4 .before .before in
+    let p2 = p3 .before .before in
+    let p1 = p2 .before .before in
+    let l = pointsOf (p1 .before .args .contour .now) in
+    let n = p1 .corner-count .ensures in
+    let a =
+    p3 .before .corner-at2 .ensures
+    ∙ ap (cornerAt l) (p2 .round-to .ensures .0 ∙ ap (λ k. roundTo k (p1 .before .args .s + p1 .before .args .k)) n) in
+    let b =
+    p4 .before .corner-at3 .ensures
+    ∙ ap (cornerAt l) (p3 .round-to2 .ensures .0 ∙ ap (λ k. roundTo k (p1 .before .args .s + p1 .before .args .k + 1)) n) in
+    let o = p2 .before .corner-at .ensures in
+    let e =
+    c .cross-product .ensures .0
+    ∙ (λ i. cross ((p4 .subtract .ensures .0 ∙ (λ j. a j -ᵖ o j)) i) ((c .before .subtract2 .ensures .0 ∙ (λ j. b j -ᵖ o j)) i)) in (
+      got w64 _ (c .cross-product .ok) ∙ e ∙ sym (term-is l (p1 .before .args .s) (p1 .before .args .k) (p1 .before .pre .1) (p1 .before .pre .2)),
+      subst CrossSize (sym (got w64 _ (c .cross-product .ok))) (c .cross-product .ensures .1),
+    )
 
 pub term-at-spec : {M : Type 1} → statement M
 term-at-spec =

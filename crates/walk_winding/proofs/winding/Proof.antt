@@ -42,10 +42,16 @@ enum-told c = search needs
 
 returns : tie.Need-returns Inv-loop μ-loop
 returns c =
-    let l = c .before .before .before .before .before in
-    let ts = windingTerms (c .before .before .before .before .before .before .before .args .s) (pointsOf (c .before .before .before .before .before .before .before .args .contour .now)) in
-    let x = got w64 _ (c .before .before .before .term-at .ok) ∙ c .before .before .before .term-at .ensures .0 in
-    sym (l .loop .inv .1 ∙ wound-leaves ts (l .loop .k) (toZ w64 (l .loop .total)) x (omega (arith, length-terms (c .before .before .before .before .before .before .before .args .s) (pointsOf (c .before .before .before .before .before .before .before .args .contour .now)), c .before .before .before .before .before .before .corner-count .ensures)) (sym (c .before .before .add-term .ensures) ∙ c .enum-told .given .1))
+    let p1 = c .before .before in
+    let l = p1 .before .before .before in
+    let start = l .before .before in
+    let ts = windingTerms (start .args .s) (pointsOf (start .args .contour .now)) in
+    let x = got w64 _ (p1 .before .term-at .ok) ∙ p1 .before .term-at .ensures .0 in
+    sym
+    (l .loop .inv .1
+    ∙ wound-leaves ts (l .loop .k) (toZ w64 (l .loop .total)) x
+    (omega (arith, length-terms (start .args .s) (pointsOf (start .args .contour .now)), l .before .corner-count .ensures))
+    (sym (p1 .add-term .ensures) ∙ c .enum-told .given .1))
 
 add-k : tie.Need-add-k Inv-loop μ-loop
 add-k c = omega arith
@@ -55,13 +61,26 @@ loop-less c = omega arith
 
 loop-again : tie.Need-loop-again Inv-loop μ-loop
 loop-again c =
-    let l = c .before .before .before .before .before .before in
-    let ts = windingTerms (c .before .before .before .before .before .before .before .before .args .s) (pointsOf (c .before .before .before .before .before .before .before .before .args .contour .now)) in
-    let x = got w64 _ (c .before .before .before .before .term-at .ok) ∙ c .before .before .before .before .term-at .ensures .0 in
-    (omega arith, l .loop .inv .1 ∙ wound-turn ts (l .loop .k) (toZ w64 (l .loop .total)) x _ (omega (arith, length-terms (c .before .before .before .before .before .before .before .before .args .s) (pointsOf (c .before .before .before .before .before .before .before .before .args .contour .now)), c .before .before .before .before .before .before .before .corner-count .ensures)) (sym (c .before .before .before .add-term .ensures) ∙ c .before .sum .given .1) ∙ ap (λ z. windingOf z (drop (l .loop .k + 1) ts)) (sym (kept (search needs))))
+    let p1 = c .before .before .before in
+    let l = p1 .before .before .before in
+    let start = l .before .before in
+    let ts = windingTerms (start .args .s) (pointsOf (start .args .contour .now)) in
+    let x = got w64 _ (p1 .before .term-at .ok) ∙ p1 .before .term-at .ensures .0 in (
+      omega arith,
+      l .loop .inv .1
+          ∙ wound-turn ts (l .loop .k) (toZ w64 (l .loop .total)) x _
+          (omega (arith, length-terms (start .args .s) (pointsOf (start .args .contour .now)), l .before .corner-count .ensures))
+          (sym (p1 .add-term .ensures) ∙ c .before .sum .given .1)
+          ∙ ap (λ z. windingOf z (drop (l .loop .k + 1) ts)) (sym (kept (search needs))),
+    )
 
 returns-2 : tie.Need-returns-2 Inv-loop μ-loop
-returns-2 c = sym (c .before .loop .inv .1 ∙ wound-ends (windingTerms (c .before .before .before .args .s) (pointsOf (c .before .before .before .args .contour .now))) (c .before .loop .k) _ (omega (arith, length-terms (c .before .before .before .args .s) (pointsOf (c .before .before .before .args .contour .now)), c .before .before .corner-count .ensures)))
+returns-2 c =
+    let p1 = c .before .before in
+    sym
+    (c .before .loop .inv .1
+    ∙ wound-ends (windingTerms (p1 .before .args .s) (pointsOf (p1 .before .args .contour .now))) (c .before .loop .k) _
+    (omega (arith, length-terms (p1 .before .args .s) (pointsOf (p1 .before .args .contour .now)), p1 .corner-count .ensures)))
 
 pub winding-spec : {M : Type 1} → statement M
 winding-spec =
