@@ -1,7 +1,7 @@
 -- A clean mesh of at most 1,024 triangles has no fault (`clean-accepted`): its rows are clean and its areas fit (`clean-rows`), its edges are shared
 -- (`shared-rows`), and each fault's test follows from Sides. Assumes nothing.
-use mathlib.Core.Path.{_≡_, refl, sym, _∙_, ap, subst}
-use mathlib.Core.Bool.{Bool, true, false, not, cond}
+use mathlib.Core.Path.{_≡_, refl, _∙_, subst}
+use mathlib.Core.Bool.{Bool, true, false, cond}
 use mathlib.Core.List.{List, [], _∷_, map}
 use Prim.Native.Nat.{ℕ, zero, suc, _+_, _<_, _≤_}
 use native.Mathlib.Omega.{arith}
@@ -9,12 +9,11 @@ use borrow.Author.Tests.{eqb-true, eqb-false, ne-eqb, leb-false, lt-leb, le-ltb}
 use lib.Dec.{eqb, leb}
 use lib.ListN.{length}
 use lib.IntN.{ℤ, pos, _+ℤ_}
-use lib.Signed.{_≤ℤ_, _<ℤ_, leZ, ltZ}
+use lib.Signed.{_≤ℤ_, leZ, ltZ}
 use Rattle.integers.specs.Faults.{firstFault}
 use Rattle.integers.specs.Lists.{sumℤ}
 use Rattle.integers.proofs.Faults.{first-next, first-empty}
 use Rattle.integers.proofs.Order.{zarith, add-parts, by-test}
-use Rattle.integers.proofs.Sums.{sum-cons}
 use Rattle.integers.proofs.Tests.{differ, ltZ-≤, leZ-<, ≤-ltZ}
 use Rattle.plane.specs.Plane.{Pt, eqPt}
 use Rattle.plane.proofs.Edges.{eqPt-true, eqPt-refl}

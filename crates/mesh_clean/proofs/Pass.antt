@@ -12,7 +12,7 @@ use lib.IntN.{ℤ, pos, _+ℤ_}
 use lib.Signed.{_≤ℤ_, _<ℤ_, ltZ}
 use Rattle.integers.proofs.Order.{zarith, add-parts}
 use Rattle.integers.proofs.Tests.{leZ-<, <-ltZ, ≤-ltZ}
-use Rattle.mesh.specs.Mesh.{Triangle, Mesh, noTriangle, triangleAt, triangleArea, triangleOff}
+use Rattle.mesh.specs.Mesh.{noTriangle, triangleAt, triangleArea, triangleOff}
 use Rattle.mesh.specs.Rows.{rowTriangle, rowsMesh, RowOnGrid}
 use Rattle.mesh.proofs.Rows.{length-rows, triangle-row}
 use Rattle.mesh_clean.specs.Clean.{rowClean, cleanFrom, clean}

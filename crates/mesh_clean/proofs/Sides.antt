@@ -1,13 +1,12 @@
 -- The sides of a mesh in which every doubled area is above 0 and every edge is shared (`Shared`): a triangle's vertices are three points (`vertices`),
 -- so no side names its own triangle (`not-self`), and each names and is named once (`names-once`, `named-back`). Assumes nothing.
-use mathlib.Core.Path.{_≡_, refl, sym, _∙_, ap, subst}
-use mathlib.Core.List.{List, [], _∷_}
-use Prim.Native.Nat.{ℕ, zero, suc, _+_, _<_, _≤_}
+use mathlib.Core.Path.{_≡_, refl, sym, _∙_, ap}
+use mathlib.Core.List.{[], _∷_}
+use Prim.Native.Nat.{ℕ, zero, suc, _<_, _≤_}
 use native.Mathlib.Omega.{arith}
 use borrow.Author.Tests.{eq-eqb, ne-eqb}
-use lib.Dec.{eqb}
 use lib.ListN.{length}
-use lib.IntN.{ℤ, pos}
+use lib.IntN.{pos}
 use lib.Signed.{_<ℤ_}
 use Rattle.integers.proofs.Ring.{con, _:≡_, pt, ring}
 use Rattle.integers.proofs.Order.{zarith}

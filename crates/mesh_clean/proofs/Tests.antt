@@ -1,17 +1,16 @@
 -- The code's tests of a side (`side-none` and those after it: each law is one way through `shares_edge`) and of a row (`row-off` and those after it,
 -- through `row_clean`). Assumes nothing.
-use mathlib.Core.Path.{_≡_, refl, sym, _∙_, ap}
-use mathlib.Core.Bool.{Bool, true, false, not, cond}
+use mathlib.Core.Path.{_≡_, sym, _∙_, ap}
+use mathlib.Core.Bool.{Bool, true, false, not}
 use mathlib.Core.List.{List, [], _∷_}
 use Prim.Native.Nat.{ℕ, _≤_, _<_}
 use native.Mathlib.Omega.{arith}
 use borrow.Author.Tests.{eq-eqb, ne-eqb, le-leb, lt-leb, not-true, not-false}
-use lib.Dec.{eqb}
 use lib.ListN.{length, getD}
 use lib.IntN.{ℤ, pos}
 use lib.Signed.{leZ}
 use Rattle.plane.specs.Plane.{Pt}
-use Rattle.mesh.specs.Mesh.{Mesh, Triangle, none, vertex, neighbour, triangleAt, triangleOff, triangleArea, someFrom, offGrid}
+use Rattle.mesh.specs.Mesh.{Triangle, none, vertex, neighbour, triangleAt, triangleOff, triangleArea, someFrom, offGrid}
 use Rattle.mesh.specs.Rows.{rowTriangle, rowsMesh, RowOnGrid}
 use Rattle.mesh.proofs.Rows.{length-rows, triangle-row}
 use Rattle.mesh.proofs.Passes.{row-on-grid}

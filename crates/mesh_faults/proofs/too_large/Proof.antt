@@ -1,15 +1,13 @@
 -- `mesh_faults::too_large` meets its contract: the invariant is `Sum` of Areas. Assumes nothing.
-use mathlib.Core.Path.{_≡_, refl, sym, _∙_, ap, subst}
-use mathlib.Core.Bool.{Bool, true, false, cond}
-use mathlib.Core.List.{List, [], _∷_, map}
-use Prim.Native.Nat.{ℕ, _≤_, _<_, _-_, _+_}
+use mathlib.Core.Path.{sym, _∙_, ap, subst}
+use Prim.Native.Nat.{_≤_, _-_, _+_}
 use native.Mathlib.Omega.{arith}
 use borrow.Author.Needs.{needs}
-use lib.ListN.{length, take, getD}
-use lib.IntN.{ℤ, pos, _+ℤ_}
-use lib.Signed.{_≤ℤ_, _<ℤ_, ltZ}
+use lib.ListN.{length}
+use lib.IntN.{pos, _+ℤ_}
+use lib.Signed.{_≤ℤ_}
 use mir.Syntax.{w64}
-use mir.Val.{toZ, ofZ}
+use mir.Val.{toZ}
 use Rattle.integers.proofs.Bits.{kept, got}
 use Rattle.mesh_clean.specs.Totals.{addedOf}
 use Rattle.mesh_clean.proofs.Totals.{total-of, past-of}
