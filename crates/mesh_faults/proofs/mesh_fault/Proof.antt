@@ -1,4 +1,4 @@
--- `mesh_faults::mesh_fault` meets its contract: each kind is told where those before it do not hold. Assumes nothing.
+-- `mesh_faults::mesh_fault` meets its contract: a clean mesh has no fault, and else each kind is told where those before it do not hold. Assumes nothing.
 use mathlib.Core.Path.{_≡_, sym, _∙_}
 use mathlib.Core.Bool.{Bool, true, false}
 use mathlib.Core.List.{List, [], _∷_, _++_}
@@ -14,6 +14,7 @@ use Rattle.mesh.specs.Mesh.{Mesh, tooMany, offGrid, strayNeighbour, misnamed, m
 use Rattle.mesh.specs.Rows.{rowsMesh}
 use Rattle.mesh.proofs.Rows.{length-rows}
 use Rattle.mesh_neighbors.specs.Earliest.{neighbourKinds, neighbourFault}
+use Rattle.mesh_clean.proofs.Accepted.{clean-accepted}
 use borrow.Author.Needs.{needs}
 use Rattle.mesh_faults.proofs.mesh_fault.Statement.{statement}
 use Rattle.mesh_faults.proofs.mesh_fault.Tie as tie
@@ -73,55 +74,64 @@ read e h = sym e ∙ h
 returns : tie.Need-returns
 returns c = one (rowsMesh (c .before .args .mesh .now)) (many _ (omega (arith, c .if1 .taken)))
 
-off-grid-requires : tie.Need-off-grid-requires
-off-grid-requires c κs = search needs
+is-clean-requires : tie.Need-is-clean-requires
+is-clean-requires c κs = search needs
 
 returns-2 : tie.Need-returns-2
 returns-2 c =
-    let e1 = c .before .before in
-    let rows = e1 .before .args .mesh .now in
-    two (rowsMesh rows) (few rows (e1 .if1 .left)) (read (c .before .off-grid .ensures) (c .if2 .taken))
+    let rows = c .before .before .before .args .mesh .now in
+    sym (clean-accepted (rowsMesh rows) (read (c .before .is-clean .ensures) (c .if2 .taken)) (omega (arith, length-rows rows, c .before .before .if1 .left)))
 
-neighbor-fault-requires : tie.Need-neighbor-fault-requires
-neighbor-fault-requires c κs = search needs
+off-grid-requires : tie.Need-off-grid-requires
+off-grid-requires c κs = search needs
 
 returns-3 : tie.Need-returns-3
 returns-3 c =
     let rows = c .before .before .before .before .before .args .mesh .now in
-    neighbour (rowsMesh rows) (few rows (c .before .before .before .before .if1 .left)) (read (c .before .before .before .off-grid .ensures) (c .before .before .if2 .left)) (c .before .neighbor-fault .ensures) (c .if3 .taken)
+    two (rowsMesh rows) (few rows (c .before .before .before .before .if1 .left)) (read (c .before .off-grid .ensures) (c .if3 .taken))
 
-flat-requires : tie.Need-flat-requires
-flat-requires c κs = read (c .before .before .before .off-grid .ensures) (c .before .before .if2 .left)
+neighbor-fault-requires : tie.Need-neighbor-fault-requires
+neighbor-fault-requires c κs = search needs
 
 returns-4 : tie.Need-returns-4
 returns-4 c =
     let rows = c .before .before .before .before .before .before .before .args .mesh .now in
-    six (rowsMesh rows) (few rows (c .before .before .before .before .before .before .if1 .left)) (read (c .before .before .before .before .before .off-grid .ensures) (c .before .before .before .before .if2 .left)) (c .before .before .before .neighbor-fault .ensures) (c .before .before .if3 .left) (read (c .before .flat .ensures) (c .if4 .taken))
+    neighbour (rowsMesh rows) (few rows (c .before .before .before .before .before .before .if1 .left)) (read (c .before .before .before .off-grid .ensures) (c .before .before .if3 .left)) (c .before .neighbor-fault .ensures) (c .if4 .taken)
 
-too-large-requires : tie.Need-too-large-requires
-too-large-requires c κs = (read (c .before .before .before .before .before .off-grid .ensures) (c .before .before .before .before .if2 .left), read (c .before .flat .ensures) (c .if4 .left))
+flat-requires : tie.Need-flat-requires
+flat-requires c κs = read (c .before .before .before .off-grid .ensures) (c .before .before .if3 .left)
 
 returns-5 : tie.Need-returns-5
 returns-5 c =
     let rows = c .before .before .before .before .before .before .before .before .before .args .mesh .now in
-    eleven (rowsMesh rows) (few rows (c .before .before .before .before .before .before .before .before .if1 .left)) (read (c .before .before .before .before .before .before .before .off-grid .ensures) (c .before .before .before .before .before .before .if2 .left)) (c .before .before .before .before .before .neighbor-fault .ensures) (c .before .before .before .before .if3 .left) (read (c .before .before .before .flat .ensures) (c .before .before .if4 .left)) (read (c .before .too-large .ensures) (c .if5 .taken))
+    six (rowsMesh rows) (few rows (c .before .before .before .before .before .before .before .before .if1 .left)) (read (c .before .before .before .before .before .off-grid .ensures) (c .before .before .before .before .if3 .left)) (c .before .before .before .neighbor-fault .ensures) (c .before .before .if4 .left) (read (c .before .flat .ensures) (c .if5 .taken))
+
+too-large-requires : tie.Need-too-large-requires
+too-large-requires c κs = (read (c .before .before .before .before .before .off-grid .ensures) (c .before .before .before .before .if3 .left), read (c .before .flat .ensures) (c .if5 .left))
 
 returns-6 : tie.Need-returns-6
 returns-6 c =
-    let rows = c .before .before .before .before .before .before .before .before .before .args .mesh .now in
-    accepted (rowsMesh rows) (few rows (c .before .before .before .before .before .before .before .before .if1 .left)) (read (c .before .before .before .before .before .before .before .off-grid .ensures) (c .before .before .before .before .before .before .if2 .left)) (c .before .before .before .before .before .neighbor-fault .ensures) (c .before .before .before .before .if3 .left) (read (c .before .before .before .flat .ensures) (c .before .before .if4 .left)) (read (c .before .too-large .ensures) (c .if5 .left))
+    let rows = c .before .before .before .before .before .before .before .before .before .before .before .args .mesh .now in
+    eleven (rowsMesh rows) (few rows (c .before .before .before .before .before .before .before .before .before .before .if1 .left)) (read (c .before .before .before .before .before .before .before .off-grid .ensures) (c .before .before .before .before .before .before .if3 .left)) (c .before .before .before .before .before .neighbor-fault .ensures) (c .before .before .before .before .if4 .left) (read (c .before .before .before .flat .ensures) (c .before .before .if5 .left)) (read (c .before .too-large .ensures) (c .if6 .taken))
+
+returns-7 : tie.Need-returns-7
+returns-7 c =
+    let rows = c .before .before .before .before .before .before .before .before .before .before .before .args .mesh .now in
+    accepted (rowsMesh rows) (few rows (c .before .before .before .before .before .before .before .before .before .before .if1 .left)) (read (c .before .before .before .before .before .before .before .off-grid .ensures) (c .before .before .before .before .before .before .if3 .left)) (c .before .before .before .before .before .neighbor-fault .ensures) (c .before .before .before .before .if4 .left) (read (c .before .before .before .flat .ensures) (c .before .before .if5 .left)) (read (c .before .too-large .ensures) (c .if6 .left))
 
 pub mesh-fault-spec : {M : Type 1} → statement M
 mesh-fault-spec =
     tie.close
     (tie.spec
     returns
-    off-grid-requires
+    is-clean-requires
     returns-2
-    neighbor-fault-requires
+    off-grid-requires
     returns-3
-    flat-requires
+    neighbor-fault-requires
     returns-4
-    too-large-requires
+    flat-requires
     returns-5
-    returns-6)
+    too-large-requires
+    returns-6
+    returns-7)

@@ -1,41 +1,20 @@
-use mathlib.Core.Path.{_≡_, refl, sym, _∙_, ap, subst}
-use mathlib.Core.Bool.{Bool, true, false, cond}
-use mathlib.Core.List.{List, [], _∷_, map}
-use Prim.Native.Nat.{ℕ, _≤_, _<_, _-_, _+_}
+-- `mesh_faults::too_large` meets its contract: the invariant is `Sum` of Areas. Assumes nothing.
+use mathlib.Core.Path.{sym, _∙_, ap, subst}
+use Prim.Native.Nat.{_≤_, _-_, _+_}
 use native.Mathlib.Omega.{arith}
 use borrow.Author.Needs.{needs}
-use lib.ListN.{length, take, getD}
-use lib.IntN.{ℤ, pos, _+ℤ_}
-use lib.Signed.{_≤ℤ_, _<ℤ_, ltZ}
+use lib.ListN.{length}
+use lib.IntN.{pos, _+ℤ_}
+use lib.Signed.{_≤ℤ_}
 use mir.Syntax.{w64}
-use mir.Val.{toZ, ofZ}
-use Rattle.integers.proofs.Order.{by-test}
-use Rattle.integers.proofs.Tests.{ltZ-≤, ltZ-<}
+use mir.Val.{toZ}
 use Rattle.integers.proofs.Bits.{kept, got}
-use Rattle.mesh_faults.specs.declared.Added.the-variants.{Total, Past}
-use Rattle.mesh_faults.specs.Totals.{addedOf}
+use Rattle.mesh_clean.specs.Totals.{addedOf}
+use Rattle.mesh_clean.proofs.Totals.{total-of, past-of}
 use Rattle.mesh_faults.proofs.Areas.{Sum, sum-start, sum-next, sum-past, sum-end, row-above}
 use Rattle.mesh.proofs.Passes.{row-on-grid}
 use Rattle.mesh_faults.proofs.too_large.Statement.{statement}
 use Rattle.mesh_faults.proofs.too_large.Tie as tie
-use Rattle.mesh_faults.proofs.too_large.Reads as reads
-use Rattle.mesh_faults.proofs.too_large.Lts as lts
-use Rattle.mesh.proofs.area_of.Reads as area-of-reads
-use Rattle.mesh_faults.proofs.add_area.Reads as add-area-reads
-
--- what an answer tells of the sum
-total-of : (z n : ℤ) → addedOf z ≡ Total n → (n ≡ z) × (z ≤ℤ pos 9223372036854775807)
-unfolding addedOf
-total-of z n h =
-    by-test (ltZ (pos 9223372036854775807) z)
-    (λ e. absurd (let q : Past ≡ Total n = sym (ap (λ t. cond t Past (Total z)) e) ∙ h in let k : _≡_ {A = ℕ} 0 1 = cc in omega (arith, k)))
-    (λ e. ((let q : Total z ≡ Total n = sym (ap (λ t. cond t Past (Total z)) e) ∙ h in cc), ltZ-≤ (pos 9223372036854775807) z e))
-
-past-of : (z : ℤ) → addedOf z ≡ Past → pos 9223372036854775807 <ℤ z
-unfolding addedOf
-past-of z h =
-    by-test (ltZ (pos 9223372036854775807) z) (λ e. ltZ-< (pos 9223372036854775807) z e)
-    (λ e. absurd (let q : Total z ≡ Past = sym (ap (λ t. cond t Past (Total z)) e) ∙ h in let k : _≡_ {A = ℕ} 0 1 = cc in omega (arith, k)))
 
 abbrev Inv-loop : tie.InvT-loop
 Inv-loop mesh total₀ k₀ total k = (k ≤ length mesh) × Sum mesh k (toZ w64 total)
@@ -43,38 +22,30 @@ Inv-loop mesh total₀ k₀ total k = (k ≤ length mesh) × Sum mesh k (toZ w64
 abbrev μ-loop : tie.MeasureT-loop
 μ-loop mesh total₀ k₀ total k = length mesh - k
 
--- src/lib.rt:247:5
 loop-holds : tie.Need-loop-holds Inv-loop μ-loop
 loop-holds c = (omega arith, sum-start (c .args .mesh .now))
 
--- src/lib.rt:248:49
 mul-area-of : tie.Need-mul-area-of Inv-loop μ-loop
 mul-area-of c = search needs
 
--- src/lib.rt:248:49
 shared-slice-copy-out-area-of : tie.Need-shared-slice-copy-out-area-of Inv-loop μ-loop
 shared-slice-copy-out-area-of c = omega arith
 
--- src/lib.rt:248:35
 area-of-requires : tie.Need-area-of-requires Inv-loop μ-loop
 area-of-requires c κs = row-on-grid (c .before .before .before .args .mesh .now) (c .before .before .loop .k) (omega arith) (c .before .before .before .pre .0)
 
--- src/lib.rt:248:13
 add-area-requires : tie.Need-add-area-requires Inv-loop μ-loop
 add-area-requires c κs =
     let l = c .before .before .before in
     let a = got w64 (c .area-of .result) (c .area-of .ok) ∙ c .area-of .ensures .0 in
     (l .loop .inv .1 .low, subst (λ z. pos 0 ≤ℤ z) (sym a) (row-above (l .before .args .mesh .now) (l .before .pre .1) (l .loop .k) (omega arith)))
 
--- src/lib.rt:249:26
 enum-known-sum : tie.Need-enum-known-sum Inv-loop μ-loop
 enum-known-sum c = search needs
 
--- src/lib.rt:250:13
 enum-told : tie.Need-enum-told Inv-loop μ-loop
 enum-told c = search needs
 
--- src/lib.rt:250:13
 returns : tie.Need-returns Inv-loop μ-loop
 returns c =
     let d = c .before .before in
@@ -83,15 +54,12 @@ returns c =
     let a = got w64 (d .before .area-of .result) (d .before .area-of .ok) ∙ d .before .area-of .ensures .0 in
     sum-past rows (l .before .pre .1) (l .loop .k) (omega arith) (l .loop .inv .1) (past-of _ (ap (λ z. addedOf (toZ w64 (l .loop .total) +ℤ z)) (sym a) ∙ sym (d .add-area .ensures) ∙ c .enum-told .given .1))
 
--- src/lib.rt:253:9
 add-k : tie.Need-add-k Inv-loop μ-loop
 add-k c = omega arith
 
--- src/lib.rt:247:5
 loop-less : tie.Need-loop-less Inv-loop μ-loop
 loop-less c = omega arith
 
--- src/lib.rt:247:5
 loop-again : tie.Need-loop-again Inv-loop μ-loop
 loop-again c =
     let d = c .before .before .before in
@@ -101,7 +69,6 @@ loop-again c =
     let q = total-of _ (c .before .sum .given .0 .0) (ap (λ z. addedOf (toZ w64 (l .loop .total) +ℤ z)) (sym a) ∙ sym (d .add-area .ensures) ∙ c .before .sum .given .1) in
     (omega arith, subst (Sum rows (l .loop .k + 1)) (sym (kept (search needs) ∙ q .0)) (sum-next rows (l .before .pre .1) (l .loop .k) (omega arith) (l .loop .inv .1) (q .1)))
 
--- src/lib.rt:241:1
 returns-2 : tie.Need-returns-2 Inv-loop μ-loop
 returns-2 c = sum-end (c .before .before .args .mesh .now) (c .before .loop .k) (omega arith) (c .before .loop .inv .1)
 

@@ -1,0 +1,166 @@
+-- A clean mesh of at most 1,024 triangles has no fault (`clean-accepted`): its rows are clean and its areas fit (`clean-rows`), its edges are shared
+-- (`shared-rows`), and each fault's test follows from Sides. Assumes nothing.
+use mathlib.Core.Path.{_≡_, refl, _∙_, subst}
+use mathlib.Core.Bool.{Bool, true, false, cond}
+use mathlib.Core.List.{List, [], _∷_, map}
+use Prim.Native.Nat.{ℕ, zero, suc, _+_, _<_, _≤_}
+use native.Mathlib.Omega.{arith}
+use borrow.Author.Tests.{eqb-true, eqb-false, ne-eqb, leb-false, lt-leb, le-ltb}
+use lib.Dec.{eqb, leb}
+use lib.ListN.{length}
+use lib.IntN.{ℤ, pos, _+ℤ_}
+use lib.Signed.{_≤ℤ_, leZ, ltZ}
+use Rattle.integers.specs.Faults.{firstFault}
+use Rattle.integers.specs.Lists.{sumℤ}
+use Rattle.integers.proofs.Faults.{first-next, first-empty}
+use Rattle.integers.proofs.Order.{zarith, add-parts, by-test}
+use Rattle.integers.proofs.Tests.{differ, ltZ-≤, leZ-<, ≤-ltZ}
+use Rattle.plane.specs.Plane.{Pt, eqPt}
+use Rattle.plane.proofs.Edges.{eqPt-true, eqPt-refl}
+use Rattle.mesh.specs.Mesh.{Mesh, Triangle, none, vertex, neighbour, after, before, triangleAt, triangleArea, triangleOff, someFrom, some, someSide, shared, maxTriangles, tooMany, offGrid, strays, strayNeighbour, misnames, misnamed, opposite, runsOppositely, mismatches, mismatched, flat, meshArea, tooLarge, meshKinds}
+use Rattle.mesh_clean.specs.Clean.{sameEdge, sharesBack, sharesEdge, sharesAll, rowClean, cleanFrom, clean}
+use Rattle.mesh_clean.proofs.Sides.{Meets, Shared, named-once, named-back, not-self}
+
+-- ---- tests that hold
+
+both-true : (s t : Bool) → cond s t false ≡ true → (s ≡ true) × (t ≡ true)
+both-true true t h = (refl, h)
+both-true false t h = differ h
+
+not-then : (s t : Bool) → cond s false t ≡ true → (s ≡ false) × (t ≡ true)
+not-then true t h = differ h
+not-then false t h = (refl, h)
+
+-- ---- a side
+
+module _ (u : Triangle) (k : ℕ) (a b : Pt) where
+  edge : (p q : Pt) → sameEdge a b p q ≡ true → (a ≡ p) × (b ≡ q)
+  unfolding sameEdge
+  edge p q h = let e = both-true (eqPt a p) (eqPt b q) h in (eqPt-true a p (e .0), eqPt-true b q (e .1))
+
+  abbrev At : ℕ → Type 0
+  At j = (neighbour u j ≡ k) × ((a ≡ vertex u (before j)) × (b ≡ vertex u (after j)))
+
+  shares-back : sharesBack u k a b ≡ true → At (opposite u k)
+  unfolding sharesBack opposite neighbour vertex after
+  shares-back h =
+      by-test (eqb (u .n0) k) (λ x. rw x (eqb-true (u .n0) k x, edge (u .v2) (u .v1) (rw x at h)))
+      (λ x. rw x (by-test (eqb (u .n1) k) (λ y. rw y (eqb-true (u .n1) k y, edge (u .v0) (u .v2) (rw (x, y) at h)))
+      (λ y. rw y (by-test (eqb (u .n2) k) (λ z. (eqb-true (u .n2) k z, edge (u .v1) (u .v0) (rw (x, y, z) at h))) (λ z. differ (rw (x, y, z) at h))))))
+
+shares-side : (m : Mesh) (k : ℕ) (t : Triangle) (i : ℕ) → i < 3 → sharesAll m k t ≡ true → sharesEdge m k (neighbour t i) (vertex t (after i)) (vertex t (before i)) ≡ true
+unfolding sharesAll neighbour vertex after
+shares-side m k t zero l h = both-true (sharesEdge m k (t .n0) (t .v1) (t .v2)) _ h .0
+shares-side m k t (suc zero) l h = both-true (sharesEdge m k (t .n1) (t .v2) (t .v0)) _ (both-true (sharesEdge m k (t .n0) (t .v1) (t .v2)) _ h .1) .0
+shares-side m k t (suc (suc i)) l h = both-true (sharesEdge m k (t .n1) (t .v2) (t .v0)) _ (both-true (sharesEdge m k (t .n0) (t .v1) (t .v2)) _ h .1) .1
+
+shares-met : (m : Mesh) (k n : ℕ) (a b : Pt) → (n ≡ none → ⊥) → sharesEdge m k n a b ≡ true → (n < length m) × (sharesBack (triangleAt m n) k a b ≡ true)
+unfolding sharesEdge
+shares-met m k n a b d h = let e = not-then (leb (length m) n) (sharesBack (triangleAt m n) k a b) (rw (ne-eqb n none d) at h) in (leb-false (length m) n (e .0), e .1)
+
+-- ---- a row, and all rows
+
+pub record Row (m : Mesh) (k : ℕ) (t : Triangle) : Type 0 where
+  pub on-grid : triangleOff t ≡ false
+  pub above : leZ (triangleArea t) (pos 0) ≡ false
+  pub shares : sharesAll m k t ≡ true
+
+pub row : (m : Mesh) (k : ℕ) (t : Triangle) → rowClean m k t ≡ true → Row m k t
+unfolding rowClean
+row m k t h =
+    let e = not-then (triangleOff t) _ h in
+    let f = not-then (leZ (triangleArea t) (pos 0)) (sharesAll m k t) (e .1) in
+    record { on-grid = e .0; above = f .0; shares = f .1 }
+
+clean-rows : (m : Mesh) (k : ℕ) (z : ℤ) (l : List Triangle) → z ≤ℤ pos 9223372036854775807 → cleanFrom m k z l ≡ true
+    → ((i : ℕ) → i < length l → Row m (k + i) (triangleAt l i)) × ((z +ℤ sumℤ (map triangleArea l)) ≤ℤ pos 9223372036854775807)
+unfolding cleanFrom sumℤ
+clean-rows m k z [] g h = ((λ i l. absurd (omega arith)), omega (zarith, add-parts z (pos 0)))
+clean-rows m k z (t ∷ l) g h =
+    let s = sumℤ (map triangleArea l) in
+    let e = both-true (rowClean m k t) _ h in
+    let f = not-then (ltZ (pos 9223372036854775807) (z +ℤ triangleArea t)) (cleanFrom m (suc k) (z +ℤ triangleArea t) l) (e .1) in
+    let r = clean-rows m (suc k) (z +ℤ triangleArea t) l (ltZ-≤ _ _ (f .0)) (f .1) in
+    (at (e .0) (r .0), omega (zarith, r .1, add-parts (z +ℤ triangleArea t) s, add-parts z (triangleArea t), add-parts z (triangleArea t +ℤ s), add-parts (triangleArea t) s))
+  where
+    at : rowClean m k t ≡ true → ((i : ℕ) → i < length l → Row m (suc k + i) (triangleAt l i)) → (i : ℕ) → i < suc (length l) → Row m (k + i) (triangleAt (t ∷ l) i)
+    at e f zero h = subst (λ j. Row m j t) (omega arith) (row m k t e)
+    at e f (suc i) h = subst (λ j. Row m j (triangleAt l i)) (omega arith) (f i (omega arith))
+
+-- ---- no triangle and no side passes a test
+
+none-from : (test : ℕ → Triangle → Bool) (j : ℕ) (m : Mesh) → ((k : ℕ) → k < length m → test (j + k) (triangleAt m k) ≡ false) → someFrom test j m ≡ false
+unfolding someFrom
+none-from test j [] f = refl
+none-from test j (t ∷ m) f =
+    let e : test j t ≡ false = subst (λ i. test i t ≡ false) (omega arith) (f 0 (omega arith)) in
+    rw e (none-from test (suc j) m (λ k h. subst (λ i. test i (triangleAt m k) ≡ false) (omega arith) (f (suc k) (omega arith))))
+
+none-of : (test : ℕ → Triangle → Bool) (m : Mesh) → ((k : ℕ) → k < length m → test k (triangleAt m k) ≡ false) → some test m ≡ false
+none-of test m f = none-from test 0 m (λ k h. subst (λ i. test i (triangleAt m k) ≡ false) (omega arith) (f k h))
+
+no-side : (test : ℕ → Bool) → test 0 ≡ false → test 1 ≡ false → test 2 ≡ false → someSide test ≡ false
+no-side test a b c = rw (a, b, c)
+
+none-shared : (test : ℕ → Triangle → ℕ → ℕ → Bool) (m : Mesh) → ((k i : ℕ) → k < length m → i < 3 → (neighbour (triangleAt m k) i ≡ none → ⊥) → test k (triangleAt m k) i (neighbour (triangleAt m k) i) ≡ false)
+    → some (λ k t. someSide (shared t (test k t))) m ≡ false
+none-shared test m f = none-of (λ k t. someSide (shared t (test k t))) m (λ k l. no-side (shared (triangleAt m k) (test k (triangleAt m k))) (side k 0 l (omega arith)) (side k 1 l (omega arith)) (side k 2 l (omega arith)))
+  where
+    side : (k i : ℕ) → k < length m → i < 3 → shared (triangleAt m k) (test k (triangleAt m k)) i ≡ false
+    side k i l h = by-test (eqb (neighbour (triangleAt m k) i) none) (λ e. rw e) (λ e. rw e (f k i l h (eqb-false (neighbour (triangleAt m k) i) none e)))
+
+-- ---- a clean mesh
+
+module _ (m : Mesh) (c : clean m ≡ true) (few : length m ≤ maxTriangles) where
+  rows : (k : ℕ) → k < length m → Row m k (triangleAt m k)
+  rows k h = subst (λ j. Row m j (triangleAt m k)) (omega arith) (clean-rows m 0 (pos 0) m (omega zarith) c .0 k h)
+
+  module _ (k i : ℕ) (l : k < length m) (h : i < 3) (d : neighbour (triangleAt m k) i ≡ none → ⊥) where
+    met : (neighbour (triangleAt m k) i < length m) × Meets k (triangleAt m k) i (triangleAt m (neighbour (triangleAt m k) i))
+    met =
+        let t = triangleAt m k in
+        let e = shares-met m k (neighbour t i) (vertex t (after i)) (vertex t (before i)) d (shares-side m k t i h (rows k l .shares)) in
+        let b = shares-back (triangleAt m (neighbour t i)) k (vertex t (after i)) (vertex t (before i)) (e .1) in
+        (e .0, record { names = b .0; begins = b .1 .0; ends = b .1 .1 })
+
+  sides : Shared m
+  sides = record {
+    few = few;
+    area = λ k l. leZ-< (triangleArea (triangleAt m k)) (pos 0) (rows k l .above);
+    in-mesh = λ k i l h d. met k i l h d .0;
+    meets = λ k i l h d. met k i l h d .1;
+  }
+
+  no-many : tooMany m ≡ false
+  unfolding tooMany
+  no-many = le-ltb maxTriangles (length m) few
+
+  no-off : offGrid m ≡ false
+  unfolding offGrid
+  no-off = none-of (λ k t. triangleOff t) m (λ k l. rows k l .on-grid)
+
+  no-stray : strayNeighbour m ≡ false
+  unfolding strayNeighbour
+  no-stray =
+      none-shared (λ k t i n. strays (length m) k n) m
+      (λ k i l h d. rw (ne-eqb (neighbour (triangleAt m k) i) k (not-self m sides k i l h d), lt-leb (length m) (neighbour (triangleAt m k) i) (met k i l h d .0)))
+
+  no-misnamed : misnamed m ≡ false
+  unfolding misnamed
+  no-misnamed = none-shared (λ k t i n. misnames m k t n) m (λ k i l h d. rw (named-once m sides k i l h d, named-back m sides k i l h d))
+
+  no-mismatched : mismatched m ≡ false
+  unfolding mismatched runsOppositely
+  no-mismatched = none-shared (λ k t. mismatches m k t) m (λ k i l h d. let e = met k i l h d .1 in rw (e .begins, e .ends, eqPt-refl (vertex _ (before (opposite _ k))), eqPt-refl (vertex _ (after (opposite _ k)))))
+
+  no-flat : flat m ≡ false
+  unfolding flat
+  no-flat = none-of (λ k t. leZ (triangleArea t) (pos 0)) m (λ k l. rows k l .above)
+
+  fits : tooLarge m ≡ false
+  unfolding tooLarge meshArea
+  fits = ≤-ltZ {x = pos 9223372036854775807} {y = sumℤ (map triangleArea m)} (omega (zarith, clean-rows m 0 (pos 0) m (omega zarith) c .1, add-parts (pos 0) (sumℤ (map triangleArea m))))
+
+  pub clean-accepted : firstFault (meshKinds m) ≡ 0
+  clean-accepted =
+      first-next 1 (tooMany m) _ no-many ∙ first-next 2 (offGrid m) _ no-off ∙ first-next 3 (strayNeighbour m) _ no-stray ∙ first-next 4 (misnamed m) _ no-misnamed ∙ first-next 5 (mismatched m) _ no-mismatched ∙ first-next 6 (flat m) _ no-flat ∙ first-next 11 (tooLarge m) _ fits ∙ first-empty

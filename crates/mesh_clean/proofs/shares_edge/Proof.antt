@@ -1,0 +1,104 @@
+-- `mesh_clean::shares_edge` meets its contract: the cases of Tests. Assumes nothing.
+use native.Mathlib.Omega.{arith}
+use Rattle.plane.specs.Machine.{point}
+use Rattle.mesh_clean.proofs.Tests.{side-none, side-past, side-first, side-second, side-third, side-nowhere}
+use borrow.Author.Needs.{needs}
+use Rattle.mesh_clean.proofs.shares_edge.Statement.{statement}
+use Rattle.mesh_clean.proofs.shares_edge.Tie as tie
+
+returns : tie.Need-returns
+returns c =
+    let s = c .before in
+    side-none (s .args .mesh .now) (s .args .k) (s .args .n) (point (s .args .a)) (point (s .args .b)) (c .if1 .taken)
+
+returns-2 : tie.Need-returns-2
+returns-2 c =
+    let s = c .before .before in
+    side-past (s .args .mesh .now) (s .args .k) (s .args .n) (point (s .args .a)) (point (s .args .b)) (c .before .if1 .left) (omega (arith, c .if2 .taken))
+
+mul-far : tie.Need-mul-far
+mul-far c = search needs
+
+shared-slice-copy-out-far : tie.Need-shared-slice-copy-out-far
+shared-slice-copy-out-far c = search needs
+
+neighbor-of-requires : tie.Need-neighbor-of-requires
+neighbor-of-requires c κs = search needs
+
+vertex-of-requires : tie.Need-vertex-of-requires
+vertex-of-requires c κs = search needs
+
+vertex-of-requires-2 : tie.Need-vertex-of-requires-2
+vertex-of-requires-2 c κs = search needs
+
+same-edge-requires : tie.Need-same-edge-requires
+same-edge-requires c κs = search needs
+
+returns-3 : tie.Need-returns-3
+returns-3 c =
+    let s = c .before .before .before .before .before .before .before .before in
+    side-first (s .args .mesh .now) (s .args .k) (s .args .n) (point (s .args .a)) (point (s .args .b)) (c .before .before .before .before .before .before .before .if1 .left) (c .before .before .before .before .before .before .if2 .left) (c .before .before .before .before .neighbor-of .ensures) (c .before .before .before .if3 .taken) (c .before .before .vertex-of .ensures) (c .before .vertex-of2 .ensures) (c .same-edge .ensures)
+
+neighbor-of-requires-2 : tie.Need-neighbor-of-requires-2
+neighbor-of-requires-2 c κs = search needs
+
+vertex-of-requires-3 : tie.Need-vertex-of-requires-3
+vertex-of-requires-3 c κs = search needs
+
+vertex-of-requires-4 : tie.Need-vertex-of-requires-4
+vertex-of-requires-4 c κs = search needs
+
+same-edge-requires-2 : tie.Need-same-edge-requires-2
+same-edge-requires-2 c κs = search needs
+
+returns-4 : tie.Need-returns-4
+returns-4 c =
+    let s = c .before .before .before .before .before .before .before .before .before .before in
+    side-second (s .args .mesh .now) (s .args .k) (s .args .n) (point (s .args .a)) (point (s .args .b)) (c .before .before .before .before .before .before .before .before .before .if1 .left) (c .before .before .before .before .before .before .before .before .if2 .left) (c .before .before .before .before .before .before .neighbor-of .ensures) (c .before .before .before .before .before .if3 .left) (c .before .before .before .before .neighbor-of2 .ensures) (c .before .before .before .if4 .taken) (c .before .before .vertex-of3 .ensures) (c .before .vertex-of4 .ensures) (c .same-edge2 .ensures)
+
+neighbor-of-requires-3 : tie.Need-neighbor-of-requires-3
+neighbor-of-requires-3 c κs = search needs
+
+vertex-of-requires-5 : tie.Need-vertex-of-requires-5
+vertex-of-requires-5 c κs = search needs
+
+vertex-of-requires-6 : tie.Need-vertex-of-requires-6
+vertex-of-requires-6 c κs = search needs
+
+same-edge-requires-3 : tie.Need-same-edge-requires-3
+same-edge-requires-3 c κs = search needs
+
+returns-5 : tie.Need-returns-5
+returns-5 c =
+    let s = c .before .before .before .before .before .before .before .before .before .before .before .before in
+    side-third (s .args .mesh .now) (s .args .k) (s .args .n) (point (s .args .a)) (point (s .args .b)) (c .before .before .before .before .before .before .before .before .before .before .before .if1 .left) (c .before .before .before .before .before .before .before .before .before .before .if2 .left) (c .before .before .before .before .before .before .before .before .neighbor-of .ensures) (c .before .before .before .before .before .before .before .if3 .left) (c .before .before .before .before .before .before .neighbor-of2 .ensures) (c .before .before .before .before .before .if4 .left) (c .before .before .before .before .neighbor-of3 .ensures) (c .before .before .before .if5 .taken) (c .before .before .vertex-of5 .ensures) (c .before .vertex-of6 .ensures) (c .same-edge3 .ensures)
+
+returns-6 : tie.Need-returns-6
+returns-6 c =
+    let s = c .before .before .before .before .before .before .before .before .before in
+    side-nowhere (s .args .mesh .now) (s .args .k) (s .args .n) (point (s .args .a)) (point (s .args .b)) (c .before .before .before .before .before .before .before .before .if1 .left) (c .before .before .before .before .before .before .before .if2 .left) (c .before .before .before .before .before .neighbor-of .ensures) (c .before .before .before .before .if3 .left) (c .before .before .before .neighbor-of2 .ensures) (c .before .before .if4 .left) (c .before .neighbor-of3 .ensures) (c .if5 .left)
+
+pub shares-edge-spec : {M : Type 1} → statement M
+shares-edge-spec =
+    tie.close
+    (tie.spec
+    returns
+    returns-2
+    mul-far
+    shared-slice-copy-out-far
+    neighbor-of-requires
+    vertex-of-requires
+    vertex-of-requires-2
+    same-edge-requires
+    returns-3
+    neighbor-of-requires-2
+    vertex-of-requires-3
+    vertex-of-requires-4
+    same-edge-requires-2
+    returns-4
+    neighbor-of-requires-3
+    vertex-of-requires-5
+    vertex-of-requires-6
+    same-edge-requires-3
+    returns-5
+    returns-6)

@@ -1,2 +1,0 @@
--- Sums that stop past 64 bits.
-pub mod Totals
