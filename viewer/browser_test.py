@@ -182,6 +182,15 @@ class Viewer(unittest.TestCase):
     def labels(self):
         return [t.text for t in self.svg().iter(SVG + "text")]
 
+    def drawn(self):
+        """How many of the mesh's triangles and how many parts are drawn; the triangles come first."""
+        polygons = list(self.svg().iter(SVG + "polygon"))
+        triangle = self.js("return coloursNow().triangle")
+        beneath = [k for k, p in enumerate(polygons) if p.get("fill") == triangle]
+        above = [k for k, p in enumerate(polygons) if p.find(SVG + "title") is not None]
+        self.assertTrue(not beneath or beneath[-1] < above[0])
+        return len(beneath), len(above)
+
     def near(self, a, b, within=0.01):
         self.assertEqual(len(a), len(b))
         for p, q in zip(a, b):
@@ -320,6 +329,15 @@ class Viewer(unittest.TestCase):
         self.click("#message button")
         self.assertEqual(self.message(), "")
 
+    def test_a_file_past_the_limit_is_refused(self):
+        self.drop(dart__out=DART)
+        self.d.execute_async_script("""const data = new DataTransfer();
+            data.items.add(new File([new ArrayBuffer(2 ** 27 + 1)], 'large'));
+            document.body.dispatchEvent(new DragEvent('drop', { dataTransfer: data, bubbles: true, cancelable: true }));
+            setTimeout(arguments[0], 30);""")
+        self.assertIn("large: it has 134,217,729 bytes, and the viewer reads at most 134,217,728.", self.message())
+        self.assertEqual(len(self.rows()), 2)
+
     # ---- mesh and listing
 
     def test_a_mesh_alone_says_where_parts_come_from(self):
@@ -336,11 +354,11 @@ class Viewer(unittest.TestCase):
             if second:
                 self.drop(**second)
             self.assertEqual(len(self.rows()), 43)
-            self.assertEqual(len(list(self.svg().iter(SVG + "polygon"))), 1 + 124 + 43)
-        drawn = self.pixels()
+            self.assertEqual(self.drawn(), (124, 43))
+        before = self.pixels()
         self.click("label:has(#triangles)")
-        self.assertEqual(len(list(self.svg().iter(SVG + "polygon"))), 1 + 43)
-        self.assertNotEqual(self.pixels(), drawn)
+        self.assertEqual(self.drawn(), (0, 43))
+        self.assertNotEqual(self.pixels(), before)
 
     def test_the_older_of_two_that_do_not_belong_together_is_put_away(self):
         self.drop(dart__mesh=DART_MESH)
@@ -630,6 +648,11 @@ class Viewer(unittest.TestCase):
         self.click("#rows tr:nth-child(2)")
         self.assertGreater(self.view()["h"], 200)
         self.assertEqual(self.js("return document.documentElement.scrollWidth"), 400)
+        before = self.view()
+        self.d.execute_cdp_cmd("Emulation.setDeviceMetricsOverride", {"width": 700, "height": 900, "deviceScaleFactor": 2, "mobile": False})
+        self.frame()
+        self.assertGreater(self.view()["scale"], before["scale"], "a fitted picture follows the window")
+        self.assertEqual(self.js("return canvas.width"), 1400)
         self.d.execute_cdp_cmd("Emulation.clearDeviceMetricsOverride", {})
 
     # ---- saving
