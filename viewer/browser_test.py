@@ -74,12 +74,16 @@ def mesh(rows, limit=0, split=0):
 
 
 def start():
+    # Chromium leaves a few files in its home and among temporary ones
+    for folder in ["home", "saved"]:
+        (TEMP / folder).mkdir(exist_ok=True)
+    os.environ.update({name: str(TEMP / "home") for name in ["HOME", "TMPDIR", "XDG_CONFIG_HOME", "XDG_CACHE_HOME"]})
     options = Options()
     options.binary_location = shutil.which("chromium")
     flags = ["--headless=new", "--disable-gpu", "--window-size=1280,860", "--force-device-scale-factor=1", "--hide-scrollbars", "--disable-dev-shm-usage", f"--user-data-dir={TEMP}/profile"]
     for flag in flags + (["--no-sandbox"] if os.getuid() == 0 else []):
         options.add_argument(flag)
-    options.add_experimental_option("prefs", {"download.default_directory": str(TEMP), "download.prompt_for_download": False})
+    options.add_experimental_option("prefs", {"download.default_directory": str(TEMP / "saved"), "download.prompt_for_download": False})
     options.set_capability("goog:loggingPrefs", {"browser": "ALL"})
     return webdriver.Chrome(service=Service(shutil.which("chromedriver"), log_path=os.devnull), options=options)
 
@@ -305,7 +309,7 @@ class Viewer(unittest.TestCase):
         cases = [
             (DART_MESH[:-1], "byte 0: the header says 92 bytes, and the file has 91"),
             (DART_MESH[:19], "byte 0: there are 19 bytes, and a mesh file’s header has 20"),
-            (changed(DART_MESH, 4, 1025), "byte 4: the mesh has 1,025 triangles"),
+            (changed(DART_MESH, 4, 1025), "byte 4: read as a mesh file it has 1,025 triangles"),
             (changed(DART_MESH, 8, 24), "byte 8: the records’ offset is 24"),
             (changed(DART_MESH, 16, 3), "byte 16: the split is 3"),
             (changed(DART_MESH, 4, 1), "byte 0: the header says 92 bytes for 1 triangle, which take 56"),
@@ -404,6 +408,18 @@ class Viewer(unittest.TestCase):
         self.key(Keys.ESCAPE)
         self.assertEqual(self.pixels(), plain)
         self.assertFalse(self.d.find_element(By.ID, "line").is_displayed())
+
+    def test_a_selected_row_is_scrolled_into_sight(self):
+        self.drop(bag__out=BAG)
+        for k in [42, 0, 20]:
+            self.point(*self.place(*self.js("const m = middle([...state.listing.parts[arguments[0]].corners]); return m", k)))
+            ActionChains(self.d, duration=0).click().perform()
+            self.frame()
+            self.assertEqual(self.text("#rows tr[aria-selected=true]").split()[0], str(k))
+            head, row, box = self.js("""return ['#head', '#rows tr[aria-selected=true]', '.rows'].map((s) => document.querySelector(s).getBoundingClientRect())
+                .map((r) => ({ top: r.top, bottom: r.bottom }))""")
+            self.assertGreaterEqual(row["top"], head["bottom"] - 1)
+            self.assertLessEqual(row["bottom"], box["bottom"] + 1)
 
     def test_the_table_by_keys(self):
         self.drop(bag__out=BAG)
@@ -663,7 +679,7 @@ class Viewer(unittest.TestCase):
     # ---- saving
 
     def downloaded(self, name):
-        path = TEMP / name
+        path = TEMP / "saved" / name
         for _ in range(100):
             if path.exists() and path.stat().st_size > 0:
                 return path.read_bytes()
