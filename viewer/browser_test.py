@@ -290,6 +290,7 @@ class Viewer(unittest.TestCase):
             (ROOT / "examples/typo.txt").read_text(): "line 4: 7 fields stand where three points and three neighbours should",
             "limit 0 ear\n(0,0) (4,0) (0,4) none none -1\n": "line 2: “-1” stands where a triangle’s number or none should",
             "limit 0 oar\n": "line 1: a mesh as text begins with",
+            " # first\n\n limit 4294967296 ear\n": "line 3: a mesh as text begins with",
         }
         for text, sentence in cases.items():
             with self.subTest(text=text[:80]):
