@@ -6,6 +6,7 @@ import base64
 import itertools
 import os
 import pathlib
+import random
 import re
 import shutil
 import struct
@@ -326,6 +327,43 @@ class Viewer(unittest.TestCase):
                 self.drop(bad=data)
                 self.assertIn(sentence, self.message())
         self.assertEqual(self.pixels(), before)
+
+    def test_changed_bytes_are_refused_by_place_or_read_as_they_stand(self):
+        chance = random.Random(1)
+        seeds = [DART.encode(), CONTOURS.encode(), (ROOT / "crates/pairs/stdout").read_bytes(), b"refused 3\n", DART_MESH, JOB]
+        given = []
+        for _ in range(1200):
+            data = bytearray(chance.choice(seeds))
+            for _ in range(chance.randint(1, 3)):
+                at = chance.randint(0, len(data))
+                piece = bytes(chance.choices(b"\0\1\n\r (),-019a\xff", k=chance.randint(0, 2)))
+                data[at:at + chance.randint(0, 3)] = piece
+            given.append(bytes(data) or b"0")
+        answers = self.js("""
+            const corners = (list) => (list.length > 0 ? ' ' : '') + cornersText(list);
+            const again = {
+                listing: (v) => [`parts ${v.parts.length} corners ${v.cornerCount} area2 ${v.area2}`, ...v.parts.map((p, k) => `${k} ${p.corners.length / 2} ${p.area} ${p.share}${corners(p.corners)}`)],
+                contours: (v) => [`contours ${v.count} corners ${v.cornerCount} bounds ${v.bounds.join(' ')}`, ...Array.from({ length: v.count }, (_, k) =>
+                    `${Math.floor(k / v.rights)} ${k % v.rights} ${v.starts[k + 1] - v.starts[k]}${corners(v.corners.subarray(2 * v.starts[k], 2 * v.starts[k + 1]))}`)],
+                refused: (v) => [`refused ${v.refused}`],
+            };
+            return arguments[0].map((text) => {
+                try {
+                    const { kind, value } = read(Uint8Array.from(atob(text), (c) => c.charCodeAt(0)));
+                    return [kind, again[kind] ? again[kind](value).join('\\n') : ''];
+                } catch (error) {
+                    return [error instanceof Refusal ? 'no' : 'broken', error.message];
+                }
+            });""", [base64.b64encode(data).decode() for data in given])
+        for data, (kind, text) in zip(given, answers):
+            with self.subTest(data=data):
+                if kind == "no":
+                    self.assertRegex(text, r"^(line [\d,]+|byte \d+): .+\.$")
+                elif kind in ("listing", "contours", "refused"):
+                    self.assertEqual(text, data.decode().replace("\r\n", "\n").rstrip("\n"))
+                else:
+                    self.assertIn(kind, ("mesh", "job"))
+        self.assertGreater(len({kind for kind, _ in answers}), 4)
 
     def test_several_files_are_taken_whole_or_not_at_all(self):
         self.drop(dart__out=DART)
