@@ -1,6 +1,7 @@
 """Drives viewer/index.html in a headless Chromium: what a person does to it, and what must then be seen.
 
 Run by viewer/test. `viewer/test NAME..` runs the named tests only. It writes to a temporary folder alone, which it removes.
+`viewer/test --screenshots FOLDER` saves the window as it is seen with the dart, the bag, 2,048 parts, a sum and others, to look at.
 """
 import base64
 import itertools
@@ -536,6 +537,8 @@ class Viewer(unittest.TestCase):
         squares = [[(x, y), (x + 1, y), (x + 1, y + 1), (x, y + 1)] for x, y in [(FAR - 1, FAR - 1), (FAR - 3, FAR - 1), (-FAR, -FAR)]]
         self.drop(far__out=listing(squares))
         white = (255, 255, 255)
+        for x, y in [(FAR - 1, FAR - 1), (-FAR, -FAR)]:
+            self.assertLess(min(self.pixel(*self.place(x, y))), 200, "each is seen as a speck, however far the other")
         for k in [2, 0]:
             self.click(f"#rows tr:nth-child({k + 1})")
             self.click("#zoom-to")
@@ -759,7 +762,41 @@ class Viewer(unittest.TestCase):
         self.assertNotRegex(page, r"<link|<script[^>]+src|@import|fetch\(|XMLHttpRequest|import\(")
 
 
+def screenshots(folder):
+    folder.mkdir(parents=True, exist_ok=True)
+    bag = {"bag__txt": (ROOT / "examples/bag.txt").read_bytes(), "bag__out": BAG}
+    pocket = {"pocket__job": JOB, "pocket__contours": CONTOURS}
+    scenes = [
+        ("empty", {}, ""),
+        ("dart", {"dart__out": DART}, ""),
+        ("bag", bag, "selectPart(14, true)"),
+        ("bag-dark", bag, "setTheme(true)"),
+        ("parts-2048", {"quilt__out": listing(quilt(32, 16, 100))}, ""),
+        ("parts-2048-near", {"quilt__out": listing(quilt(32, 16, 100))}, "zoomAt(400, 300, 6)"),
+        ("sum", pocket, "selectPair(1, 0)"),
+        ("sum-dark", pocket, "selectPair(1, 0); setTheme(true)"),
+        ("refused", {**bag, "bag__out": "refused 4\n"}, ""),
+        ("bad", {"dart__out": DART}, "showText('parts 2', 'bad.out')"),
+    ]
+    Viewer.setUpClass()
+    seen = Viewer()
+    for name, files, action in scenes:
+        seen.setUp()
+        if files:
+            seen.drop(**files)
+        seen.js(action)
+        seen.frame()
+        seen.d.save_screenshot(str(folder / f"{name}.png"))
+    Viewer.tearDownClass()
+
+
 def main():
+    if sys.argv[1:2] == ["--screenshots"]:
+        try:
+            screenshots(pathlib.Path(sys.argv[2]))
+        finally:
+            shutil.rmtree(TEMP, ignore_errors=True)
+        return
     began = time.monotonic()
     loader = unittest.TestLoader()
     names = [n for n in loader.getTestCaseNames(Viewer) if len(sys.argv) == 1 or n in sys.argv[1:]]
