@@ -256,6 +256,20 @@ class Viewer(unittest.TestCase):
         self.drop(b__out="refused 9\n")
         self.assertIn("refused this pair job: fault 9, a least bound above a greatest, or a corner outside its bounds.", self.text("#summary"))
 
+    def test_a_refusal_stays_with_its_mesh_only(self):
+        text = (ROOT / "examples/refused_3.txt").read_bytes()
+        self.drop(a="refused 3\n")
+        self.drop(b=text)
+        self.assertIn("refused this mesh: fault 3", self.text("#summary"))
+        self.assertEqual((self.message(), self.text("#sources").count("×")), ("", 2))
+        self.drop(dart__mesh=DART_MESH)
+        self.assertEqual(self.message(), "The listing a does not belong to it, and was put away.")
+        self.drop(dart__out=DART)
+        self.drop(a="refused 3\n")
+        self.assertEqual(self.message(), "The mesh dart.mesh does not belong to it, and was put away.")
+        self.drop(b=text, a="refused 13\n")
+        self.assertEqual((self.message(), self.text("#sources").count("×")), ("", 2))
+
     # ---- what is refused
 
     def test_what_cannot_be_read_is_refused_by_its_line(self):
