@@ -450,7 +450,7 @@ class Viewer(unittest.TestCase):
         plain, before = self.pixels(), self.pixel(*self.place(1, 1))
         self.click("#rows tr:nth-child(2)")
         self.assertEqual(self.text(".line p"), DART_LINES[2])
-        self.assertNotEqual(self.pixel(*self.place(1, 1)), before, "the other part fades")
+        self.assertEqual(self.pixel(*self.place(1, 1)), before, "the other part keeps its colour")
         x, y = self.place(7, -1)
         self.assertLess(max(self.pixel(x, y + 1)), 70, "its outline is thick")
         self.assertLess(max(self.pixel(x, y - 1)), 70, "on either side")
@@ -680,12 +680,16 @@ class Viewer(unittest.TestCase):
             fx, fy, fz = ((v ** (1 / 3) if v > 0.008856 else 7.787 * v + 16 / 116) for v in (x / 0.9505, y, z / 1.089))
             return 116 * fy - 16, 500 * (fx - fy), 200 * (fy - fz)
 
-        for paper in [(255, 255, 255), (20, 22, 26)]:
+        def channels(colour):
+            return [int(colour[k:k + 2], 16) for k in (1, 3, 5)]
+
+        # each way in which parts are drawn: on paper and over triangles, light and dark
+        palette, ways = self.js("return [PALETTE, [LIGHT, DARK].flatMap((c) => [[c.paper, OPACITY.plain], [c.triangle, OPACITY.overTriangles]])]")
+        for paper, opacity in ways:
             for name, matrix in blind.items():
                 seen = []
-                for colour in self.js("return PALETTE"):
-                    rgb = [int(colour[k:k + 2], 16) for k in (1, 3, 5)]
-                    mixed = [(0.85 * c + 0.15 * p) / 255 for c, p in zip(rgb, paper)]
+                for colour in palette:
+                    mixed = [(opacity * c + (1 - opacity) * p) / 255 for c, p in zip(channels(colour), channels(paper))]
                     linear = [c / 12.92 if c <= 0.04045 else ((c + 0.055) / 1.055) ** 2.4 for c in mixed]
                     seen.append(lab([min(1, max(0, sum(m * c for m, c in zip(row, linear)))) for row in matrix]))
                 least = min(sum((a - b) ** 2 for a, b in zip(p, q)) ** 0.5 for p, q in itertools.combinations(seen, 2))
