@@ -1,0 +1,831 @@
+"""Drives viewer/index.html in a headless Chromium: what a person does to it, and what must then be seen.
+
+Run by viewer/test. `viewer/test NAME..` runs the named tests only. It writes to a temporary folder alone, which it removes.
+`viewer/test --screenshots FOLDER` saves the window as it is seen with the dart, the bag, 2,048 parts, a sum and others, to look at.
+"""
+import base64
+import itertools
+import os
+import pathlib
+import random
+import re
+import shutil
+import struct
+import subprocess
+import sys
+import tempfile
+import time
+import unittest
+import xml.etree.ElementTree as ElementTree
+
+from selenium import webdriver
+from selenium.webdriver.chrome.options import Options
+from selenium.webdriver.chrome.service import Service
+from selenium.webdriver.common.action_chains import ActionChains
+from selenium.webdriver.common.by import By
+from selenium.webdriver.common.keys import Keys
+
+HERE = pathlib.Path(__file__).resolve().parent
+ROOT = HERE.parent
+PAGE = (HERE / "index.html").as_uri()
+SVG = "{http://www.w3.org/2000/svg}"
+NONE = 2**32 - 1
+FAR = 2**30 - 1
+TEMP = pathlib.Path(tempfile.mkdtemp(prefix="viewer-test-"))
+
+DART = (ROOT / "examples/dart.out").read_text()
+DART_LINES = DART.splitlines()
+BAG = (ROOT / "examples/bag.out").read_text()
+DART_MESH = (ROOT / "crates/areas/stdin").read_bytes()
+JOB = (ROOT / "examples/pocket.job").read_bytes()
+CONTOURS = (ROOT / "examples/pocket.contours").read_text()
+
+
+def listing(parts):
+    """A listing of parts, each a list of corners, as the area program prints it."""
+    def area(p):
+        return abs(sum(a[0] * b[1] - a[1] * b[0] for a, b in zip(p, p[1:] + p[:1])))
+    total = sum(map(area, parts))
+    lines = [f"parts {len(parts)} corners {sum(map(len, parts))} area2 {total}"]
+    for k, p in enumerate(parts):
+        lines.append(f"{k} {len(p)} {area(p)} {area(p) * 10000 // total} " + " ".join(f"({x},{y})" for x, y in p))
+    return "\n".join(lines) + "\n"
+
+
+def quilt(columns, rows, size):
+    """Squares of four triangles about their middle: 4 · columns · rows parts."""
+    parts = []
+    for j, i in itertools.product(range(rows), range(columns)):
+        x, y = i * size, j * size
+        ring = [(x, y), (x + size, y), (x + size, y + size), (x, y + size)]
+        parts += [[(x + size // 2, y + size // 2), ring[k], ring[(k + 1) % 4]] for k in range(4)]
+    return parts
+
+
+def table(parts):
+    """A stored part table of document 01."""
+    starts = [0, *itertools.accumulate(len(p) for p in parts)]
+    corners = [n for p in parts for c in p for n in c]
+    return struct.pack(f"<2I{len(starts)}I{len(corners)}i", len(parts), len(corners) // 2, *starts, *corners)
+
+
+def mesh(rows, limit=0, split=0):
+    """A mesh file of document 01; a row has six coordinates and three neighbours."""
+    body = b"".join(struct.pack("<6i3I", *row) for row in rows)
+    return struct.pack("<5I", 20 + len(body), len(rows), 20, limit, split) + body
+
+
+def start():
+    # Chromium leaves a few files in its home and among temporary ones
+    for folder in ["home", "saved"]:
+        (TEMP / folder).mkdir(exist_ok=True)
+    os.environ.update({name: str(TEMP / "home") for name in ["HOME", "TMPDIR", "XDG_CONFIG_HOME", "XDG_CACHE_HOME"]})
+    options = Options()
+    options.binary_location = shutil.which("chromium")
+    flags = ["--headless=new", "--disable-gpu", "--window-size=1280,860", "--force-device-scale-factor=1", "--hide-scrollbars", "--disable-dev-shm-usage", f"--user-data-dir={TEMP}/profile"]
+    for flag in flags + (["--no-sandbox"] if os.getuid() == 0 else []):
+        options.add_argument(flag)
+    options.add_experimental_option("prefs", {"download.default_directory": str(TEMP / "saved"), "download.prompt_for_download": False})
+    options.set_capability("goog:loggingPrefs", {"browser": "ALL"})
+    return webdriver.Chrome(service=Service(shutil.which("chromedriver"), log_path=os.devnull), options=options)
+
+
+class Viewer(unittest.TestCase):
+    @classmethod
+    def setUpClass(cls):
+        cls.d = start()
+
+    @classmethod
+    def tearDownClass(cls):
+        cls.d.quit()
+
+    def setUp(self):
+        self.d.get(PAGE)
+
+    def tearDown(self):
+        # reading many pixels back, which only these tests do, makes Chromium give a hint
+        logged = [entry["message"] for entry in self.d.get_log("browser") if "willReadFrequently" not in entry["message"]]
+        self.assertEqual(logged, [], "the page logs nothing")
+
+    # ---- what a person does
+
+    def js(self, code, *arguments):
+        return self.d.execute_script(code, *arguments)
+
+    def frame(self):
+        """Waits until what was asked for is drawn."""
+        self.d.execute_async_script("requestAnimationFrame(() => requestAnimationFrame(arguments[0]))")
+
+    def settle(self):
+        """Waits until files are read, and then drawn."""
+        self.d.execute_async_script("const [done] = arguments; const wait = () => (document.querySelector('[aria-busy]') ? setTimeout(wait, 5) : done()); wait();")
+        self.frame()
+
+    def drop(self, **files):
+        """Drops files on the page: names with their bytes or text. A name's __ is its dot."""
+        given = [[name.replace("__", "."), base64.b64encode(data.encode() if isinstance(data, str) else data).decode()] for name, data in files.items()]
+        self.js("""
+            const [given] = arguments;
+            const data = new DataTransfer();
+            for (const [name, text] of given) data.items.add(new File([Uint8Array.from(atob(text), (c) => c.charCodeAt(0))], name));
+            for (const type of ['dragenter', 'dragover', 'drop']) document.getElementById('stage').dispatchEvent(new DragEvent(type, { dataTransfer: data, bubbles: true, cancelable: true }));""", given)
+        self.settle()
+
+    def paste(self, text):
+        self.js("""const data = new DataTransfer(); data.setData('text/plain', arguments[0]);
+            document.body.dispatchEvent(new ClipboardEvent('paste', { clipboardData: data, bubbles: true, cancelable: true }));""", text)
+        self.frame()
+
+    def point(self, x, y):
+        """Moves the real pointer to a place of the picture."""
+        canvas = self.d.find_element(By.ID, "canvas")
+        ActionChains(self.d, duration=0).move_to_element_with_offset(canvas, round(x - canvas.size["width"] / 2), round(y - canvas.size["height"] / 2)).perform()
+        self.frame()
+
+    def click(self, selector):
+        self.d.find_element(By.CSS_SELECTOR, selector).click()
+        self.frame()
+
+    def key(self, *keys):
+        ActionChains(self.d, duration=0).send_keys(*keys).perform()
+        self.frame()
+
+    def wheel(self, x, y, delta):
+        """Turns the wheel near a place of the picture, at a whole pixel of the window; answers where that is."""
+        spot = self.js("""const box = canvas.getBoundingClientRect();
+            const [clientX, clientY] = [Math.round(box.left + arguments[0]), Math.round(box.top + arguments[1])];
+            canvas.dispatchEvent(new WheelEvent('wheel', { deltaY: arguments[2], clientX, clientY, bubbles: true, cancelable: true }));
+            return [clientX - box.left, clientY - box.top];""", x, y, delta)
+        self.frame()
+        return spot
+
+    # ---- what is seen
+
+    def text(self, selector):
+        return self.d.find_element(By.CSS_SELECTOR, selector).text
+
+    def rows(self):
+        return self.js("return [...document.querySelectorAll('#rows tr')].map((r) => [...r.children].map((c) => c.textContent))")
+
+    def message(self):
+        return self.js("const m = document.getElementById('message'); return m.hidden ? '' : m.querySelector('span').textContent")
+
+    def tip(self):
+        return self.js("const t = document.getElementById('tip'); return t.hidden ? ['', ''] : [...t.children].map((c) => c.textContent)")
+
+    def pixel(self, x, y):
+        return tuple(self.js("draw(); return [...context.getImageData(Math.round(arguments[0]), Math.round(arguments[1]), 1, 1).data.slice(0, 3)]", x, y))
+
+    def pixels(self):
+        """The whole picture, to tell whether it changed."""
+        return self.js("draw(); return canvas.toDataURL()")
+
+    def place(self, x, y):
+        return self.js("return [screenX(state.view, arguments[0]), screenY(state.view, arguments[1])]", x, y)
+
+    def view(self):
+        return self.js("return state.view")
+
+    def svg(self):
+        return ElementTree.fromstring(self.js("return drawSvg()"))
+
+    def labels(self):
+        return [t.text for t in self.svg().iter(SVG + "text")]
+
+    def drawn(self):
+        """How many of the mesh's triangles and how many parts are drawn; the triangles come first."""
+        polygons = list(self.svg().iter(SVG + "polygon"))
+        triangle = self.js("return coloursNow().triangle")
+        beneath = [k for k, p in enumerate(polygons) if p.get("fill") == triangle]
+        above = [k for k, p in enumerate(polygons) if p.find(SVG + "title") is not None]
+        self.assertTrue(not beneath or beneath[-1] < above[0])
+        return len(beneath), len(above)
+
+    def near(self, a, b, within=0.01):
+        self.assertEqual(len(a), len(b))
+        for p, q in zip(a, b):
+            self.assertAlmostEqual(p, q, delta=within)
+
+    # ---- listings
+
+    def test_a_dropped_listing_is_drawn_with_its_own_numbers(self):
+        self.drop(dart__out=DART)
+        self.assertEqual(self.rows(), [["0", "3", "16", "5000"], ["1", "3", "16", "5000"]])
+        self.assertIn("total doubled area 32", self.text("#summary"))
+        zero, one, outside = self.pixel(*self.place(0.5, 0.5)), self.pixel(*self.place(7, -0.6)), self.pixel(*self.place(8.5, 3.5))
+        self.assertEqual(outside, (255, 255, 255))
+        self.assertEqual(len({zero, one, outside}), 3)
+        self.assertTrue({"0", "1", "5000‱", "1 unit"} <= set(self.labels()), self.labels())
+        self.assertEqual([p.find(SVG + "title").text for p in self.svg().iter(SVG + "polygon") if p.find(SVG + "title") is not None], DART_LINES[1:])
+        # y points up: (0,4) stands above (0,0)
+        self.assertLess(self.place(0, 4)[1], self.place(0, 0)[1])
+
+    def test_areas_and_shares_are_the_texts_never_its_own(self):
+        self.drop(odd="parts 1 corners 3 area2 9223372036854775807\n0 3 9223372036854775806 1234 (0,4) (0,0) (4,0)\n")
+        self.assertEqual(self.rows(), [["0", "3", "9223372036854775806", "1234"]])
+        self.assertIn("9223372036854775807", self.text("#summary"))
+        self.assertIn("1234‱", self.labels())
+
+    def test_a_file_from_the_dialog(self):
+        self.d.find_element(By.ID, "files").send_keys(str(ROOT / "examples/bag.out"))
+        self.settle()
+        self.assertEqual(len(self.rows()), 43)
+        self.assertEqual(self.rows()[42], ["42", "8", "10460519", "2586"])
+        self.assertEqual(self.text("#sources span"), "listing: bag.out")
+
+    def test_pasted_text_and_the_paste_dialog(self):
+        self.paste(DART)
+        self.assertEqual(len(self.rows()), 2)
+        self.click("#paste")
+        self.js("document.querySelector('textarea').value = arguments[0]", BAG.replace("\n", "\r\n") + "\n\n")
+        self.click("dialog .main")
+        self.assertEqual(len(self.rows()), 43)
+        self.assertEqual(self.message(), "")
+
+    def test_the_example_and_the_empty_listing(self):
+        self.click("#dart")
+        self.assertEqual(len(self.rows()), 2)
+        self.drop(empty__out=(ROOT / "examples/empty.out").read_text())
+        self.assertEqual(self.rows(), [])
+        self.assertIn("0 parts, 0 corners, total doubled area 0", self.text("#summary"))
+
+    def test_a_refused_listing_is_shown_as_what_it_is(self):
+        self.drop(a__out="refused 3\n")
+        self.assertIn("refused this mesh: fault 3, a neighbour neither none nor in the mesh, or the triangle itself.", self.text("#summary"))
+        self.assertEqual(self.rows(), [])
+        self.drop(b__out="refused 9\n")
+        self.assertIn("refused this pair job: fault 9, a least bound above a greatest, or a corner outside its bounds.", self.text("#summary"))
+
+    def test_a_refusal_stays_with_its_mesh_only(self):
+        text = (ROOT / "examples/refused_3.txt").read_bytes()
+        self.drop(a="refused 3\n")
+        self.drop(b=text)
+        self.assertIn("refused this mesh: fault 3", self.text("#summary"))
+        self.assertEqual((self.message(), self.text("#sources").count("×")), ("", 2))
+        self.drop(dart__mesh=DART_MESH)
+        self.assertEqual(self.message(), "The listing a does not belong to it, and was put away.")
+        self.drop(dart__out=DART)
+        self.drop(a="refused 3\n")
+        self.assertEqual(self.message(), "The mesh dart.mesh does not belong to it, and was put away.")
+        self.drop(b=text, a="refused 13\n")
+        self.assertEqual((self.message(), self.text("#sources").count("×")), ("", 2))
+
+    # ---- what is refused
+
+    def test_what_cannot_be_read_is_refused_by_its_line(self):
+        self.drop(dart__out=DART)
+        before, rows = self.pixels(), self.rows()
+        head, zero, one = DART_LINES
+        long = "parts 1 corners 3 area2 1\n0 3 9223372036854775808 1 (0,0) (1,0) (0,1)\n"
+        cases = {
+            "": "line 1: there is nothing to read",
+            "hello\n": "line 1: it begins with none of",
+            f"{head}\n{zero}\n": "line 3: the text ends before part 1, and line 1 says 2 parts",
+            f"{head}\n{zero}\n{one}\n{one}\n": "line 4: “1” stands where the text should end",
+            f"{head}\n{zero}\n2{one[1:]}\n": "line 3: part 2 stands where part 1 should",
+            f"{head}\n{zero}\n01{one[1:]}\n": "line 3: a part’s number begins with a zero too many",
+            f"{head}\n{zero}\n{one} (1,1)\n": "line 3: part 1 has 4 corners, and its line says 3",
+            f"{head}\n{zero}\n{one[:-8]}\n": "line 3: part 1 has 2 corners, and its line says 3",
+            f"{head}\n{zero}\n{one} \n": "line 3: “ ” stands where a corner or the line’s end should",
+            f"{head}\n{zero} x\n{one}\n": "line 2: “ ” stands where",
+            f"{head}\n{zero.replace('5000', '10001')}\n{one}\n": "line 2: the share is 10001, and at most 10,000 can be",
+            f"{head}\n{zero.replace('(4,0)', '(4,)')}\n{one}\n": "line 2: “)” stands where a coordinate should",
+            f"{head}\n{zero.replace('(4,0)', '(4;0)')}\n{one}\n": "line 2: “;0)” stands where “,” should",
+            f"{head}\n{zero.replace('(4,0)', '(1073741824,0)')}\n{one}\n": "line 2: a coordinate is 1073741824, and at most 1,073,741,823 can be",
+            f"{head}\n{zero.replace('(4,0)', '(-0,0)')}\n{one}\n": "line 2: a coordinate is −0",
+            f"{head}\n{zero.replace('(4,0)', '(04,0)')}\n{one}\n": "line 2: a coordinate begins with a zero too many",
+            f"{head.replace('6', '7')}\n{zero}\n{one}\n": "line 1: it says 7 corners, and the parts have 6",
+            "parts 2049 corners 0 area2 0\n": "line 1: the number of parts is 2049, and at most 2,048 can be",
+            "parts 1 area2 0\n": "line 1: “ ” stands where “corners” should",
+            long: "line 2: the doubled area is 9223372036854775808, past 2^63−1",
+            "refused 12\n": "line 1: neither areas nor pairs refuses by 12",
+            "contours 1 corners 3 bounds 0 1 0 1\n0 1 3 (0,0) (1,0) (0,1)\n": "line 2: pair 0 1 stands where pair 0 0 should",
+            "contours 2 corners 0 bounds 0 1 0 1\n0 0 0\n": "line 3: the text ends after 1 contour, and line 1 says 2",
+            "contours 3 corners 0 bounds 0 1 0 1\n0 0 0\n0 1 0\n1 0 0\n": "line 1: it says 3 contours, which 2 right parts cannot make",
+            "contours 1 corners 2 bounds 0 1 0 1\n0 0 1 (0,0)\n": "line 1: it says 2 corners, and the contours have 1",
+            (ROOT / "examples/typo.txt").read_text(): "line 4: 7 fields stand where three points and three neighbours should",
+            "limit 0 ear\n(0,0) (4,0) (0,4) none none -1\n": "line 2: “-1” stands where a triangle’s number or none should",
+            "limit 0 oar\n": "line 1: a mesh as text begins with",
+            " # first\n\n limit 4294967296 ear\n": "line 3: a mesh as text begins with",
+        }
+        for text, sentence in cases.items():
+            with self.subTest(text=text[:80]):
+                self.drop(bad=text)
+                self.assertIn("bad, " + sentence, self.message())
+                self.assertIn("The picture is as it was.", self.message())
+                self.assertEqual(self.rows(), rows)
+        self.assertEqual(self.pixels(), before)
+
+    def test_bytes_are_refused_by_their_place(self):
+        self.drop(dart__out=DART)
+        before = self.pixels()
+
+        def changed(data, at, word):
+            return data[:at] + struct.pack("<I", word) + data[at + 4:]
+
+        cases = [
+            (DART_MESH[:-1], "byte 0: the header says 92 bytes, and the file has 91"),
+            (DART_MESH[:19], "byte 0: there are 19 bytes, and a mesh file’s header has 20"),
+            (changed(DART_MESH, 4, 1025), "byte 4: read as a mesh file it has 1,025 triangles"),
+            (changed(DART_MESH, 8, 24), "byte 8: the records’ offset is 24"),
+            (changed(DART_MESH, 16, 3), "byte 16: the split is 3"),
+            (changed(DART_MESH, 4, 1), "byte 0: the header says 92 bytes for 1 triangle, which take 56"),
+            (JOB[:-4], "the file ends inside the right operand"),
+            (JOB + b"\0\0\0\0", "the pair job should end here"),
+            (JOB[:3], "byte 0: there are 3 bytes"),
+            (changed(JOB, 20, 2049), "byte 20: the left operand has 2,049 parts"),
+            (changed(JOB, 28, 1), "byte 28: the left operand’s first start is 1"),
+            (changed(JOB, 36, 5), "byte 36: the left operand’s starts fall from 6 to 5"),
+        ]
+        for data, sentence in cases:
+            with self.subTest(sentence=sentence):
+                self.drop(bad=data)
+                self.assertIn(sentence, self.message())
+        self.assertEqual(self.pixels(), before)
+
+    def test_changed_bytes_are_refused_by_place_or_read_as_they_stand(self):
+        chance = random.Random(1)
+        seeds = [DART.encode(), CONTOURS.encode(), (ROOT / "crates/pairs/stdout").read_bytes(), b"refused 3\n", DART_MESH, JOB]
+        given = []
+        for _ in range(1200):
+            data = bytearray(chance.choice(seeds))
+            for _ in range(chance.randint(1, 3)):
+                at = chance.randint(0, len(data))
+                piece = bytes(chance.choices(b"\0\1\n\r (),-019a\xff", k=chance.randint(0, 2)))
+                data[at:at + chance.randint(0, 3)] = piece
+            given.append(bytes(data) or b"0")
+        answers = self.js("""
+            const corners = (list) => (list.length > 0 ? ' ' : '') + cornersText(list);
+            const again = {
+                listing: (v) => [`parts ${v.parts.length} corners ${v.cornerCount} area2 ${v.area2}`, ...v.parts.map((p, k) => `${k} ${p.corners.length / 2} ${p.area} ${p.share}${corners(p.corners)}`)],
+                contours: (v) => [`contours ${v.count} corners ${v.cornerCount} bounds ${v.bounds.join(' ')}`, ...Array.from({ length: v.count }, (_, k) =>
+                    `${Math.floor(k / v.rights)} ${k % v.rights} ${v.starts[k + 1] - v.starts[k]}${corners(v.corners.subarray(2 * v.starts[k], 2 * v.starts[k + 1]))}`)],
+                refused: (v) => [`refused ${v.refused}`],
+            };
+            return arguments[0].map((text) => {
+                try {
+                    const { kind, value } = read(Uint8Array.from(atob(text), (c) => c.charCodeAt(0)));
+                    return [kind, again[kind] ? again[kind](value).join('\\n') : ''];
+                } catch (error) {
+                    return [error instanceof Refusal ? 'no' : 'broken', error.message];
+                }
+            });""", [base64.b64encode(data).decode() for data in given])
+        for data, (kind, text) in zip(given, answers):
+            with self.subTest(data=data):
+                if kind == "no":
+                    self.assertRegex(text, r"^(line [\d,]+|byte \d+): .+\.$")
+                elif kind in ("listing", "contours", "refused"):
+                    self.assertEqual(text, data.decode().replace("\r\n", "\n").rstrip("\n"))
+                else:
+                    self.assertIn(kind, ("mesh", "job"))
+        self.assertGreater(len({kind for kind, _ in answers}), 4)
+
+    def test_several_files_are_taken_whole_or_not_at_all(self):
+        self.drop(dart__out=DART)
+        self.drop(bag__out=BAG, bad="parts x")
+        self.assertIn("bad, line 1", self.message())
+        self.assertEqual(len(self.rows()), 2)
+        self.drop(one__out=DART, two__out=BAG)
+        self.assertIn("a second listing beside one.out", self.message())
+        self.assertEqual(len(self.rows()), 2)
+        self.click("#message button")
+        self.assertEqual(self.message(), "")
+
+    def test_a_file_past_the_limit_is_refused(self):
+        self.drop(dart__out=DART)
+        self.js("""const data = new DataTransfer();
+            data.items.add(new File([new ArrayBuffer(2 ** 27 + 1)], 'large'));
+            document.body.dispatchEvent(new DragEvent('drop', { dataTransfer: data, bubbles: true, cancelable: true }));""")
+        self.settle()
+        self.assertIn("large: it has 134,217,729 bytes, and the viewer reads at most 134,217,728.", self.message())
+        self.assertEqual(len(self.rows()), 2)
+
+    # ---- mesh and listing
+
+    def test_a_mesh_alone_says_where_parts_come_from(self):
+        self.drop(dart__mesh=DART_MESH)
+        self.assertEqual(self.rows(), [["0", "1 none none"], ["1", "none 0 none"]])
+        self.assertIn("come from the listing that areas prints", self.text("#summary"))
+        self.assertNotEqual(self.pixel(*self.place(0.5, 0.5)), (255, 255, 255))
+
+    def test_mesh_and_listing_in_any_order_and_triangles_beneath(self):
+        text = (ROOT / "examples/bag.txt").read_text()
+        for first, second in [({"a": text}, {"b": BAG}), ({"b": BAG}, {"a": text}), ({"a": text, "b": BAG}, {})]:
+            self.setUp()
+            self.drop(**first)
+            if second:
+                self.drop(**second)
+            self.assertEqual(len(self.rows()), 43)
+            self.assertEqual(self.drawn(), (124, 43))
+        before = self.pixels()
+        self.click("label:has(#triangles)")
+        self.assertEqual(self.drawn(), (0, 43))
+        self.assertNotEqual(self.pixels(), before)
+
+    def test_the_older_of_two_that_do_not_belong_together_is_put_away(self):
+        self.drop(dart__mesh=DART_MESH)
+        self.drop(bag__out=BAG)
+        self.assertIn("The mesh dart.mesh is not of the same shapes, and was put away.", self.message())
+        self.assertEqual(self.text("#sources"), "listing: bag.out\n×")
+        self.drop(dart__mesh=DART_MESH, bag__out=BAG)
+        self.assertIn("the mesh and the listing are not of the same shapes", self.message())
+        self.click(".chip button")
+        self.assertEqual(self.text("#summary"), "Nothing is shown yet.")
+
+    # ---- hovering and selecting
+
+    def test_hovering_shows_the_line_and_corners_their_coordinates(self):
+        self.drop(dart__out=DART)
+        self.point(*self.place(1, 1))
+        self.assertEqual(self.tip(), ["part 0", DART_LINES[1]])
+        x, y = self.place(10, -2)
+        self.point(x - 3, y - 2)
+        self.assertEqual(self.tip(), ["(10,-2)  corner 2 of part 1", DART_LINES[2]])
+        self.point(*self.place(8, 4))
+        self.assertEqual(self.tip(), ["", ""])
+        self.assertEqual(self.text("#readout"), "x 8 y 4")
+
+    def test_rows_and_parts_select_one_another(self):
+        self.drop(dart__out=DART)
+        plain, before = self.pixels(), self.pixel(*self.place(1, 1))
+        self.click("#rows tr:nth-child(2)")
+        self.assertEqual(self.text(".line p"), DART_LINES[2])
+        self.assertEqual(self.pixel(*self.place(1, 1)), before, "the other part keeps its colour")
+        x, y = self.place(7, -1)
+        self.assertLess(max(self.pixel(x, y + 1)), 70, "its outline is thick")
+        self.assertLess(max(self.pixel(x, y - 1)), 70, "on either side")
+        self.point(*self.place(1, 1))
+        ActionChains(self.d, duration=0).click().perform()
+        self.frame()
+        self.assertEqual(self.text("#rows tr[aria-selected=true]").split()[0], "0")
+        self.assertEqual(self.text(".line p"), DART_LINES[1])
+        self.key(Keys.ESCAPE)
+        self.assertEqual(self.pixels(), plain)
+        self.assertFalse(self.d.find_element(By.ID, "line").is_displayed())
+
+    def test_a_selected_row_is_scrolled_into_sight(self):
+        self.drop(bag__out=BAG)
+        for k in [42, 0, 20]:
+            self.point(*self.place(*self.js("const m = middle([...state.listing.parts[arguments[0]].corners]); return m", k)))
+            ActionChains(self.d, duration=0).click().perform()
+            self.frame()
+            self.assertEqual(self.text("#rows tr[aria-selected=true]").split()[0], str(k))
+            head, row, box = self.js("""return ['#head', '#rows tr[aria-selected=true]', '.rows'].map((s) => document.querySelector(s).getBoundingClientRect())
+                .map((r) => ({ top: r.top, bottom: r.bottom }))""")
+            self.assertGreaterEqual(row["top"], head["bottom"] - 1)
+            self.assertLessEqual(row["bottom"], box["bottom"] + 1)
+
+    def test_the_table_by_keys(self):
+        self.drop(bag__out=BAG)
+        self.js("document.querySelector('#rows tr').focus()")
+        self.key(Keys.ARROW_DOWN, Keys.ARROW_DOWN, Keys.ENTER)
+        self.assertEqual(self.text(".line p"), BAG.splitlines()[3])
+        self.key(Keys.END, " ")
+        self.assertEqual(self.text(".line p"), BAG.splitlines()[43])
+        self.assertEqual(self.js("return document.querySelectorAll('#rows [tabindex=\"0\"]').length"), 1)
+
+    # ---- moving the view
+
+    def test_the_wheel_zooms_about_the_pointer(self):
+        self.drop(dart__out=DART)
+        before = self.view()
+        x, y = self.wheel(*self.place(4, 0), -400)
+        self.assertGreater(self.view()["scale"], 1.5 * before["scale"])
+        under = (before["x"] + (x - before["w"] / 2) / before["scale"], before["y"] - (y - before["h"] / 2) / before["scale"])
+        self.near(self.place(*under), (x, y))
+        self.near(self.place(4, 0), (x, y), 2)
+        self.wheel(x, y, 400)
+        self.assertAlmostEqual(self.view()["scale"], before["scale"], places=6)
+
+    def test_keys_pan_zoom_and_fit(self):
+        self.drop(dart__out=DART)
+        fitted, drawn, at = self.view(), self.pixels(), self.place(0, 0)
+        self.key(Keys.ARROW_RIGHT)
+        self.near(self.place(0, 0), (at[0] - 60, at[1]))
+        self.key(Keys.ARROW_UP)
+        self.near(self.place(0, 0), (at[0] - 60, at[1] + 60))
+        self.key("+")
+        self.assertGreater(self.view()["scale"], fitted["scale"])
+        self.key("-", "-")
+        self.assertLess(self.view()["scale"], fitted["scale"])
+        self.assertNotEqual(self.pixels(), drawn)
+        self.key("f")
+        self.assertEqual(self.view(), fitted)
+        self.assertEqual(self.pixels(), drawn)
+        self.key("+", "0")
+        self.assertEqual(self.view(), fitted)
+
+    def test_dragging_pans(self):
+        self.drop(dart__out=DART)
+        x, y = self.place(1, 1)
+        self.point(x, y)
+        ActionChains(self.d, duration=0).click_and_hold().move_by_offset(70, -40).release().perform()
+        self.near(self.place(1, 1), (x + 70, y - 40), 1)
+        self.assertFalse(self.d.find_element(By.ID, "line").is_displayed(), "a drag selects nothing")
+
+    def test_pinching_zooms(self):
+        self.drop(dart__out=DART)
+        scale = self.view()["scale"]
+        middle = self.js("return [worldX(state.view, 300), worldY(state.view, 300)]")
+        self.js("""const box = canvas.getBoundingClientRect();
+            const touch = (type, id, x) => canvas.dispatchEvent(new PointerEvent(type, { pointerId: id, pointerType: 'touch', clientX: box.left + x, clientY: box.top + 300, bubbles: true }));
+            touch('pointerdown', 7, 250); touch('pointerdown', 8, 350);
+            touch('pointermove', 7, 200); touch('pointermove', 8, 400);
+            touch('pointerup', 7, 200); touch('pointerup', 8, 400);""")
+        self.assertAlmostEqual(self.view()["scale"] / scale, 2, places=6)
+        self.near(self.place(*middle), (300, 300))
+
+    def test_the_scale_is_in_whole_units(self):
+        self.drop(dart__out=DART)
+        for _ in range(12):
+            self.wheel(300, 300, 700)
+            words = self.labels()[-1]
+            self.assertRegex(words, r"^[125]0{0,2}(,000)* units?$")
+            bar = [p for p in self.svg().iter(SVG + "path")][-1].get("d")
+            x0, x1 = map(float, re.match(r"M([\d.]+) [\d.]+L([\d.]+) ", bar).groups())
+            self.assertAlmostEqual((x1 - x0) / self.view()["scale"] / int(re.sub(r"\D", "", words)), 1, delta=0.02)
+
+    # ---- far coordinates
+
+    def test_unit_squares_at_both_ends_of_the_plane(self):
+        squares = [[(x, y), (x + 1, y), (x + 1, y + 1), (x, y + 1)] for x, y in [(FAR - 1, FAR - 1), (FAR - 3, FAR - 1), (-FAR, -FAR)]]
+        self.drop(far__out=listing(squares))
+        white = (255, 255, 255)
+        for x, y in [(FAR - 1, FAR - 1), (-FAR, -FAR)]:
+            self.assertLess(min(self.pixel(*self.place(x, y))), 200, "each is seen as a speck, however far the other")
+        for k in [2, 0]:
+            self.click(f"#rows tr:nth-child({k + 1})")
+            self.click("#zoom-to")
+            self.js("state.part = -1; state.on.grid = state.on.numbers = state.on.shares = false")
+            x, y = squares[k][0]
+            for turn in range(60):
+                self.js("zoomAt(431, 217, arguments[0])", 0.2 if turn % 2 == 0 else 5)
+            self.assertAlmostEqual(self.view()["scale"], 512, delta=150)
+            left, bottom = self.place(x, y)
+            right, top = self.place(x + 1, y + 1)
+            self.assertAlmostEqual(right - left, bottom - top, delta=0.01)
+            for dx, dy in [(4, 4), (-4, 4), (4, -4)]:
+                corner = (left if dx > 0 else right, bottom if dy > 0 else top)
+                self.assertNotEqual(self.pixel(corner[0] + dx, corner[1] - dy), white)
+                self.assertEqual(self.pixel(corner[0] - dx, corner[1] + dy), white)
+        # two units to the left, on the same height, is the other square, and between them there is nothing
+        self.js("state.view.x -= 2; state.view.scale = 100")
+        self.assertNotEqual(self.pixel(*self.place(FAR - 2.5, FAR - 0.5)), white)
+        self.assertEqual(self.pixel(*self.place(FAR - 1.5, FAR - 0.5)), white)
+
+    def test_a_long_slanted_edge_is_in_its_place_at_high_zoom(self):
+        # the edge from (-FAR, -FAR) to (FAR, FAR-1) passes x = 1000003 at this height
+        self.drop(long__out=listing([[(-FAR, -FAR), (FAR, FAR - 1), (-FAR, FAR)]]))
+        y = -FAR + (1000003 + FAR) * (2 * FAR - 1) / (2 * FAR)
+        self.js("Object.assign(state.view, { x: 1000003, y: Math.floor(arguments[0]), scale: 400 }); state.on.grid = state.on.numbers = state.on.shares = false", y)
+        x0, y0 = self.place(1000003, y)
+        self.assertEqual(self.pixel(x0, y0 + 4), (255, 255, 255), "below the edge there is nothing")
+        self.assertNotEqual(self.pixel(x0, y0 - 4), (255, 255, 255), "above it there is the part")
+        shape = [p for p in self.svg().iter(SVG + "polygon")][1]
+        for number in re.split("[ ,]", shape.get("points")):
+            self.assertLess(abs(float(number)), 4000, "no far corner is handed to the browser")
+
+    # ---- pairs
+
+    def test_a_pair_by_i_and_j_with_both_parts(self):
+        self.drop(job=JOB)
+        self.assertIn("3 left parts, 2 right parts", self.text("#summary"))
+        self.assertIn("Contours come from the text that pairs prints", self.text("#summary"))
+        self.drop(contours=CONTOURS)
+        self.assertEqual([r[0] for r in self.rows()], ["0 0", "0 1"])
+        self.assertTrue({"left 0", "right 0", "left part 0", "right part 0"} <= set(self.labels()), self.labels())
+        field = self.d.find_element(By.ID, "i")
+        field.send_keys(Keys.ARROW_UP, Keys.TAB)
+        self.click("#rows tr:nth-child(2)")
+        line = next(text for text in CONTOURS.splitlines() if text.startswith("1 1 "))
+        self.assertEqual(self.text(".line p"), line)
+        corners = [tuple(map(int, c)) for c in re.findall(r"\((-?\d+),(-?\d+)\)", line)]
+        outline = [p for p in self.svg().iter(SVG + "polygon") if p.get("stroke-width") == "3" and p.get("fill") == "none"]
+        self.assertEqual(len(outline), 1)
+        drawn = [tuple(map(float, pair.split(","))) for pair in outline[0].get("points").split()]
+        self.assertEqual(len(drawn), len(corners))
+        for spot, corner in zip(drawn, corners):
+            self.near(spot, self.place(*corner))
+        self.assertTrue({"left part 1", "right part 1"} <= set(self.labels()))
+        self.point(*self.place(*corners[3]))
+        self.assertTrue(self.tip()[0].startswith("(%d,%d)" % corners[3]), self.tip())
+
+    def test_pairs_both_at_once_and_a_click_on_a_part(self):
+        self.drop(contours=CONTOURS, job=JOB)
+        self.assertEqual(self.text("#sources").count("×"), 2)
+        corners = self.js("return [...state.job.left.parts[1].corners]")
+        middle = (sum(corners[::2]) / (len(corners) // 2), sum(corners[1::2]) / (len(corners) // 2))
+        self.point(*self.place(*middle))
+        self.assertTrue(self.tip()[0].startswith("left part 1"), self.tip())
+        ActionChains(self.d, duration=0).click().perform()
+        self.frame()
+        self.assertEqual(self.js("return [state.i, state.j]"), [1, 0])
+        self.drop(k=(ROOT / "crates/pairs/stdout").read_text())
+        self.assertIn("The pair job job is not of the same shapes, and was put away.", self.message())
+        self.assertIn("Left and right parts come from the pair job", self.text("#summary"))
+
+    def test_parts_and_pairs_beside_one_another(self):
+        self.drop(contours=CONTOURS, job=JOB)
+        self.drop(dart__out=DART)
+        self.assertEqual(len(self.rows()), 2)
+        self.click("#tabs [data-mode=pairs]")
+        self.assertEqual(self.rows()[0][0], "0 0")
+        self.click("#tabs [data-mode=parts]")
+        self.assertEqual(self.rows()[0][2], "16")
+
+    # ---- large ones
+
+    def test_2048_parts_are_drawn_quickly(self):
+        parts = quilt(32, 16, 100)
+        began = time.monotonic()
+        self.drop(big__out=listing(parts))
+        self.assertLess(time.monotonic() - began, 5)
+        self.assertEqual(len(self.rows()), 2048)
+        self.assertIn("2048 parts, 6144 corners", self.text("#summary"))
+        times = self.js("""const times = [];
+            for (let k = 0; k < 15; k++) { const t = performance.now(); pan(1, 0); draw(); context.getImageData(0, 0, 1, 1); times.push(performance.now() - t); }
+            return times.sort((a, b) => a - b)""")
+        self.assertLess(times[7], 250, f"a redraw takes {times[7]} ms")
+        hover = self.js("const t = performance.now(); for (let k = 0; k < 50; k++) hit(100 + 9 * k, 300); return (performance.now() - t) / 50")
+        self.assertLess(hover, 20, f"a hit takes {hover} ms")
+        self.click("#fit")
+        self.point(*self.place(*[sum(c) / 3 for c in zip(*parts[1234])]))
+        self.assertRegex(self.tip()[0], "part 1234$")
+
+    def test_32768_contours_are_usable(self):
+        lines = ["contours 32768 corners 131072 bounds 0 4000 0 4000"]
+        for i, j in itertools.product(range(2048), range(16)):
+            x, y = i, 10 * j
+            lines.append(f"{i} {j} 4 ({x},{y}) ({x + 9},{y}) ({x + 9},{y + 9}) ({x},{y + 9})")
+        began = time.monotonic()
+        self.drop(many="\n".join(lines) + "\n")
+        self.js("document.getElementById('i').value = 2047; document.getElementById('i').dispatchEvent(new Event('change'))")
+        self.click("#rows tr:nth-child(16)")
+        self.assertLess(time.monotonic() - began, 10)
+        self.assertEqual(self.text(".line p"), lines[-1])
+
+    # ---- colours and themes
+
+    def test_colours_differ_for_colour_blind_readers(self):
+        # Machado, Oliveira and Fernandes (2009), full severity, on linear light
+        blind = {
+            "none": ((1, 0, 0), (0, 1, 0), (0, 0, 1)),
+            "protan": ((0.152286, 1.052583, -0.204868), (0.114503, 0.786281, 0.099216), (-0.003882, -0.048116, 1.051998)),
+            "deutan": ((0.367322, 0.860646, -0.227968), (0.280085, 0.672501, 0.047413), (-0.011820, 0.042940, 0.968881)),
+            "tritan": ((1.255528, -0.076749, -0.178779), (-0.078411, 0.930809, 0.147602), (0.004733, 0.691367, 0.303900)),
+        }
+
+        def lab(rgb):
+            x, y, z = (sum(a * c for a, c in zip(row, rgb)) for row in ((0.4124, 0.3576, 0.1805), (0.2126, 0.7152, 0.0722), (0.0193, 0.1192, 0.9505)))
+            fx, fy, fz = ((v ** (1 / 3) if v > 0.008856 else 7.787 * v + 16 / 116) for v in (x / 0.9505, y, z / 1.089))
+            return 116 * fy - 16, 500 * (fx - fy), 200 * (fy - fz)
+
+        def channels(colour):
+            return [int(colour[k:k + 2], 16) for k in (1, 3, 5)]
+
+        # each way in which parts are drawn: on paper and over triangles, light and dark
+        palette, ways = self.js("return [PALETTE, [LIGHT, DARK].flatMap((c) => [[c.paper, OPACITY.plain], [c.triangle, OPACITY.overTriangles]])]")
+        for paper, opacity in ways:
+            for name, matrix in blind.items():
+                seen = []
+                for colour in palette:
+                    mixed = [(opacity * c + (1 - opacity) * p) / 255 for c, p in zip(channels(colour), channels(paper))]
+                    linear = [c / 12.92 if c <= 0.04045 else ((c + 0.055) / 1.055) ** 2.4 for c in mixed]
+                    seen.append(lab([min(1, max(0, sum(m * c for m, c in zip(row, linear)))) for row in matrix]))
+                least = min(sum((a - b) ** 2 for a, b in zip(p, q)) ** 0.5 for p, q in itertools.combinations(seen, 2))
+                self.assertGreater(least, 10, f"{name} on {paper}")
+
+    def test_neighbours_have_different_colours(self):
+        # four columns: parts that are neighbours and whose numbers differ by a multiple of seven, the number of colours
+        self.drop(quilt__out=listing(quilt(4, 8, 10)))
+        colours = self.js("return state.listing.parts.map((p) => p.colour)")
+        parts = quilt(4, 8, 10)
+        edges = {}
+        for k, p in enumerate(parts):
+            for a, b in zip(p, p[1:] + p[:1]):
+                edges.setdefault(frozenset((a, b)), []).append(k)
+        shared = [pair for pair in edges.values() if len(pair) == 2]
+        self.assertEqual(len(shared), 128 + 24 + 28)
+        for a, b in shared:
+            self.assertNotEqual(colours[a], colours[b])
+        # edges that have a piece in common count too: a wide part above two narrow ones
+        self.drop(wide__out=listing([[(0, 1), (4, 1), (4, 2), (0, 2)], [(0, 0), (1, 0), (1, 1), (0, 1)], [(1, 0), (4, 0), (4, 1), (1, 1)]]))
+        self.assertEqual(len(set(self.js("return state.listing.parts.map((p) => p.colour)"))), 3)
+
+    def test_light_and_dark(self):
+        self.drop(dart__out=DART)
+        self.assertEqual(self.pixel(*self.place(8.5, 3.5)), (255, 255, 255))
+        self.click("#theme")
+        self.assertEqual(self.pixel(*self.place(8.5, 3.5)), (20, 22, 26))
+        self.d.execute_cdp_cmd("Emulation.setEmulatedMedia", {"features": [{"name": "prefers-color-scheme", "value": "dark"}]})
+        self.d.get(PAGE)
+        self.assertEqual(self.js("return document.documentElement.dataset.theme"), "dark")
+        self.d.execute_cdp_cmd("Emulation.setEmulatedMedia", {"features": []})
+
+    def test_a_narrow_window_keeps_picture_and_table(self):
+        self.d.execute_cdp_cmd("Emulation.setDeviceMetricsOverride", {"width": 400, "height": 760, "deviceScaleFactor": 1, "mobile": False})
+        self.d.get(PAGE)
+        self.drop(bag__out=BAG)
+        self.click("#rows tr:nth-child(2)")
+        self.assertGreater(self.view()["h"], 200)
+        self.assertEqual(self.js("return document.documentElement.scrollWidth"), 400)
+        before = self.view()
+        self.d.execute_cdp_cmd("Emulation.setDeviceMetricsOverride", {"width": 700, "height": 900, "deviceScaleFactor": 2, "mobile": False})
+        self.frame()
+        self.assertGreater(self.view()["scale"], before["scale"], "a fitted picture follows the window")
+        self.assertEqual(self.js("return canvas.width"), 1400)
+        self.d.execute_cdp_cmd("Emulation.clearDeviceMetricsOverride", {})
+
+    # ---- saving
+
+    def downloaded(self, name):
+        path = TEMP / "saved" / name
+        for _ in range(100):
+            if path.exists() and path.stat().st_size > 0:
+                return path.read_bytes()
+            time.sleep(0.1)
+        return self.fail(f"{name} was not saved")
+
+    def test_svg_and_png_are_saved(self):
+        self.drop(bag__out=BAG)
+        self.click("#svg")
+        saved = self.downloaded("bag.svg")
+        self.assertEqual(saved.decode(), self.js("return drawSvg()"))
+        titles = [t.text for t in ElementTree.fromstring(saved).iter(SVG + "title")]
+        self.assertEqual(titles, BAG.splitlines()[1:])
+        self.click("#png")
+        png = self.downloaded("bag.png")
+        self.assertEqual(png[:8], b"\x89PNG\r\n\x1a\n")
+        view = self.view()
+        self.assertEqual(struct.unpack(">2I", png[16:24]), (2 * view["w"], 2 * view["h"]))
+
+    def test_the_picture_without_a_window_is_the_same(self):
+        made = subprocess.run([str(ROOT / "run"), "picture", str(ROOT / "examples/dart.out")], capture_output=True, text=True, check=True).stdout
+        self.drop(dart__out=DART)
+        self.assertEqual(made, self.js("return drawSvg(viewForPrint(), LIGHT)"))
+        bad = subprocess.run([str(HERE / "picture"), str(ROOT / "examples/refused_3.out")], capture_output=True, text=True)
+        self.assertEqual((bad.returncode, bad.stdout), (3, ""))
+
+    def test_the_readmes_pictures_are_what_is_drawn_now(self):
+        self.drop(bag__txt=(ROOT / "examples/bag.txt").read_bytes(), bag__out=BAG)
+        self.assertEqual((ROOT / "docs/pictures/bag.svg").read_text(), self.js("return drawSvg(viewForPrint(), LIGHT)"))
+        self.drop(pocket__job=JOB, pocket__contours=CONTOURS)
+        self.js("selectPair(1, 0)")
+        self.assertEqual((ROOT / "docs/pictures/pair.svg").read_text(), self.js("return drawSvg(viewForPrint(), LIGHT)"))
+
+    def test_the_page_is_one_file_and_asks_the_network_nothing(self):
+        page = (HERE / "index.html").read_text()
+        self.assertIn("default-src 'none'", page)
+        self.assertEqual(set(re.findall(r"https?://[^\"'`\s]*", page)), {"http://www.w3.org/2000/svg"})
+        self.assertNotRegex(page, r"<link|<script[^>]+src|@import|fetch\(|XMLHttpRequest|import\(")
+
+
+def screenshots(folder):
+    folder.mkdir(parents=True, exist_ok=True)
+    bag = {"bag__txt": (ROOT / "examples/bag.txt").read_bytes(), "bag__out": BAG}
+    pocket = {"pocket__job": JOB, "pocket__contours": CONTOURS}
+    scenes = [
+        ("empty", {}, ""),
+        ("dart", {"dart__out": DART}, ""),
+        ("bag", bag, "selectPart(14, true)"),
+        ("bag-dark", bag, "setTheme(true)"),
+        ("parts-2048", {"quilt__out": listing(quilt(32, 16, 100))}, ""),
+        ("parts-2048-near", {"quilt__out": listing(quilt(32, 16, 100))}, "zoomAt(400, 300, 6)"),
+        ("sum", pocket, "selectPair(1, 0)"),
+        ("sum-dark", pocket, "selectPair(1, 0); setTheme(true)"),
+        ("refused", {**bag, "bag__out": "refused 4\n"}, ""),
+        ("bad", {"dart__out": DART}, "showText('parts 2', 'bad.out')"),
+    ]
+    Viewer.setUpClass()
+    seen = Viewer()
+    for name, files, action in scenes:
+        seen.setUp()
+        if files:
+            seen.drop(**files)
+        seen.js(action)
+        seen.frame()
+        seen.d.save_screenshot(str(folder / f"{name}.png"))
+    Viewer.tearDownClass()
+
+
+def main():
+    if sys.argv[1:2] == ["--screenshots"]:
+        try:
+            screenshots(pathlib.Path(sys.argv[2]))
+        finally:
+            shutil.rmtree(TEMP, ignore_errors=True)
+        return
+    began = time.monotonic()
+    loader = unittest.TestLoader()
+    names = [n for n in loader.getTestCaseNames(Viewer) if len(sys.argv) == 1 or n in sys.argv[1:]]
+    try:
+        result = unittest.TextTestRunner(stream=sys.stderr, verbosity=0).run(unittest.TestSuite(Viewer(n) for n in names))
+    finally:
+        shutil.rmtree(TEMP, ignore_errors=True)
+    good = result.wasSuccessful() and result.testsRun == len(names) > 0
+    print(f"viewer: {result.testsRun} browser tests {'passed' if good else 'ran, and some FAILED'}, {time.monotonic() - began:.0f} s")
+    sys.exit(0 if good else 1)
+
+
+if __name__ == "__main__":
+    main()
