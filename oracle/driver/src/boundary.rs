@@ -1,5 +1,8 @@
 //! The C functions of the Rattle archive, and the list of entry points.
 
+// linked for its archive: the functions below are that crate's own
+use bezinkwolu as _;
+
 use crate::entry::{run, Report};
 use crate::lent::Handed;
 use crate::listing::{listing_beside, TEXT};
