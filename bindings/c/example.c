@@ -2,7 +2,8 @@
 #include <bezinkwolu.h>
 #include <stdio.h>
 
-/* Prints the corners from number `from` up to number `to`. */
+#define NONE BEZINKWOLU_NONE
+
 static void print(const int32_t *corners, uint32_t from, uint32_t to)
 {
     for (uint32_t i = from; i < to; i++)
@@ -12,13 +13,13 @@ static void print(const int32_t *corners, uint32_t from, uint32_t to)
 int main(void)
 {
     const bezinkwolu_triangle dart[2] = {
-        {{{0, 0}, {4, 0}, {0, 4}}, {1, BEZINKWOLU_NONE, BEZINKWOLU_NONE}},
-        {{{4, 0}, {10, -2}, {0, 4}}, {BEZINKWOLU_NONE, 0, BEZINKWOLU_NONE}},
+        {{{0, 0}, {4, 0}, {0, 4}}, {1, NONE, NONE}},
+        {{{4, 0}, {10, -2}, {0, 4}}, {NONE, 0, NONE}},
     };
-    uint32_t starts[2 + 1];  /* one start more than triangles, and six numbers a triangle, are always enough */
+    uint32_t starts[2 + 1]; /* one start more than triangles and six numbers a triangle are always enough */
     int32_t corners[6 * 2];
     bezinkwolu_counts parts = bezinkwolu_to_convex_polygons(dart, 2, starts, 3, corners, 12);
-    if (parts.fault != BEZINKWOLU_FAULT_NONE)
+    if (parts.fault)
         return (int)parts.fault;
     for (uint32_t k = 0; k < parts.parts; k++)
         print(corners, starts[k], starts[k + 1]);
@@ -28,9 +29,9 @@ int main(void)
     int32_t sum_corners[2 * (2 * 6 + 2 * 6)];
     bezinkwolu_told_pairs sums = bezinkwolu_sum_parts(
         starts, 3, corners, 12, bounds, starts, 3, corners, 12, bounds, sum_starts, 5, sum_corners, 48);
-    if (sums.fault != BEZINKWOLU_FAULT_NONE)
+    if (sums.fault)
         return (int)sums.fault;
     printf("sum: ");
-    print(sum_corners, sum_starts[1], sum_starts[2]); /* pair 0, 1 */
+    print(sum_corners, sum_starts[1], sum_starts[2]);
     return 0;
 }

@@ -95,7 +95,11 @@ mod archive {
             right: bool,
             k: u32,
         ) -> ToldPart;
-        pub fn bezinkwolu_walk_begin(contour: *const i32, length: usize, reflected: bool) -> ToldPlace;
+        pub fn bezinkwolu_walk_begin(
+            contour: *const i32,
+            length: usize,
+            reflected: bool,
+        ) -> ToldPlace;
         pub fn bezinkwolu_walk_point(contour: *const i32, length: usize, at: Place) -> ToldPoint;
         pub fn bezinkwolu_walk_edge(contour: *const i32, length: usize, at: Place) -> ToldEdge;
         pub fn bezinkwolu_walk_advance(contour: *const i32, length: usize, at: Place) -> ToldPlace;
@@ -135,8 +139,11 @@ mod archive {
             corners: *mut i32,
             corners_lent: usize,
         ) -> ToldPairs;
-        pub fn bezinkwolu_listing(bytes: *const u8, bytes_length: usize, out: *mut [u8; TEXT])
-            -> usize;
+        pub fn bezinkwolu_listing(
+            bytes: *const u8,
+            bytes_length: usize,
+            out: *mut [u8; TEXT],
+        ) -> usize;
         pub fn bezinkwolu_difference_parts(
             left_starts: *const u32,
             left_starts_length: usize,
