@@ -1,8 +1,8 @@
 /* Bezinkwolu: convex parts of triangle meshes, and their sums and differences pair by pair. Link with -lbezinkwolu.
  *
- * Every function here takes any input: it refuses by a number, or it finishes and its answer is complete. That it does what is said here is proved
- * (the contracts stand in crates/boundary_.. of the repository). None of them allocates, keeps anything, or calls anything but memcpy and memset; any
- * number of threads may call them at once.
+ * Every function here takes any input: it refuses by a number, or it finishes and its answer is complete. What each does is proved; these comments say it in words, and
+ * the contracts stand in crates/boundary_.. of the repository. None of them allocates, keeps anything, or calls anything but memcpy and memset, and any
+ * number of threads may call them at once. A call needs at most 256 KiB of stack (measured, not proved).
  *
  * MEMORY is lent for one call:
  *   - a list passes as a pointer and a length, in elements and not in bytes;
@@ -255,7 +255,7 @@ typedef struct bezinkwolu_told_next {
 bezinkwolu_told_place bezinkwolu_walk_begin(const int32_t *contour, size_t length, bool reflected);
 
 /* The point where a walk stands, negated of a reflected one.
- * Refuses: 7, 23 (a place or segment end that is no corner; it needs no step left), 2 (of the corner there). */
+ * Refuses: 7, 23 (a place or segment end that is no corner; no step needs to be left), 2 (of the corner there). */
 bezinkwolu_told_point bezinkwolu_walk_point(const int32_t *contour, size_t length, bezinkwolu_place at);
 
 /* The edge that a walk takes next.

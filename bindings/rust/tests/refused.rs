@@ -4,7 +4,10 @@ use bezinkwolu::*;
 
 const FAR: i32 = (1 << 30) - 1;
 
-fn mesh(triangles: &[([(i32, i32); 3], [usize; 3])]) -> IntDelaunay {
+/// Three points and three neighbours.
+type Given = ([(i32, i32); 3], [usize; 3]);
+
+fn mesh(triangles: &[Given]) -> IntDelaunay {
     triangles.iter().copied().collect()
 }
 
@@ -12,7 +15,7 @@ fn table(contours: &[&[(i32, i32)]]) -> PartTable {
     contours.iter().map(|c| c.iter().copied()).collect()
 }
 
-fn dart() -> [([(i32, i32); 3], [usize; 3]); 2] {
+fn dart() -> [Given; 2] {
     [
         ([(0, 0), (4, 0), (0, 4)], [1, NIL_INDEX, NIL_INDEX]),
         ([(4, 0), (10, -2), (0, 4)], [NIL_INDEX, 0, NIL_INDEX]),
@@ -37,7 +40,7 @@ fn each_fault_of_a_mesh() {
     assert_eq!(apart(1024).to_convex_polygons().map(|t| (t.len(), t.corner_count())), Ok((1024, 3072)));
     refused(&apart(1025), Error::TRIANGLES);
     refused(&apart(5000), Error::TRIANGLES);
-    let with = |change: fn(&mut [([(i32, i32); 3], [usize; 3]); 2])| {
+    let with = |change: fn(&mut [Given; 2])| {
         let mut dart = dart();
         change(&mut dart);
         mesh(&dart)

@@ -91,13 +91,14 @@ fn mesh_ratios(all: &[Subject], rounds: usize) -> String {
     for round in 0..rounds {
         let at = |k: usize| black_box(&all[(round + k) % all.len()]);
         let collected = |k: usize| at(k).rust.triangles().collect::<IntDelaunay>();
+        // Each on another mesh: on the same one the second call's branches are learnt.
         taken[0].push(timed(times, |k| at(k).rust.parts()));
-        taken[1].push(timed(times, |k| at(k).ours.to_convex_polygons()));
-        taken[2].push(timed(times, |k| collected(k).to_convex_polygons()));
-        let rust = |k: usize| at(k).rust.split_parts(LIMIT, EarClipping);
+        taken[1].push(timed(times, |k| at(k + 10).ours.to_convex_polygons()));
+        taken[2].push(timed(times, |k| collected(k + 20).to_convex_polygons()));
+        let rust = |k: usize| at(k + 30).rust.split_parts(LIMIT, EarClipping);
         taken[3].push(timed(times, rust));
-        taken[4].push(timed(times, |k| Subject::split(&at(k).ours)));
-        taken[5].push(timed(times, |k| Subject::split(&collected(k))));
+        taken[4].push(timed(times, |k| Subject::split(&at(k + 40).ours)));
+        taken[5].push(timed(times, |k| Subject::split(&collected(k + 50))));
     }
     let [join, joined, all_joined, split, parted, all_parted] = taken.map(median);
     format!(
