@@ -50,7 +50,8 @@ impl Prepared {
     /// The triangles as a caller of the Rust has them: points, and neighbours with
     /// `usize::MAX` for none.
     pub fn triangles(&self) -> impl Iterator<Item = ([Point; 3], [usize; 3])> + '_ {
-        let taken = |t: &IntTriangle<i32>| (t.vertices.map(|v| (v.point.x, v.point.y)), t.neighbors);
+        let taken =
+            |t: &IntTriangle<i32>| (t.vertices.map(|v| (v.point.x, v.point.y)), t.neighbors);
         self.0.triangles.iter().map(taken)
     }
 
