@@ -1,21 +1,14 @@
-//! Links the archives that BESIDE_LIBS lists, with a colon between, into the
-//! programs, where the feature `linked` asks for it, and into the benchmark the C++
-//! that BENCH_PEERS lists (oracle/peers/archive). Nothing else here needs them.
+//! Links the C++ that BENCH_PEERS lists (oracle/peers/archive) into the benchmark. The
+//! archive of the Rattle functions is linked by the crate bezinkwolu.
 
 use std::env;
 
 fn main() {
-    println!("cargo:rerun-if-env-changed=BESIDE_LIBS");
+    println!("cargo:rerun-if-env-changed=BENCH_PEERS");
+    println!("cargo:rustc-check-cfg=cfg(peers, cgal)");
     if env::var_os("CARGO_FEATURE_LINKED").is_none() {
         return;
     }
-    let archives = env::var("BESIDE_LIBS").expect("BESIDE_LIBS lists the archives to link");
-    for archive in archives.split(':') {
-        println!("cargo:rerun-if-changed={archive}");
-        println!("cargo:rustc-link-arg-bins={archive}");
-    }
-    println!("cargo:rerun-if-env-changed=BENCH_PEERS");
-    println!("cargo:rustc-check-cfg=cfg(peers, cgal)");
     let peers = env::var("BENCH_PEERS").unwrap_or_default();
     for peer in peers.split(':').filter(|peer| !peer.is_empty()) {
         if peer == "cgal" {

@@ -1,6 +1,6 @@
-// The mesh and its parts as the runs beside the Rust call them (oracle/beside links this crate as a static library): one thin function over
-// each function that is compared, with no `requires` and the same contract. A mesh is lent as rows of nine numbers. Leans on convex_join and
-// mesh_faults.
+// The mesh and its parts, exported to C: one thin function over each call, with no `requires` and the same contract. The package
+// (./package) and the runs beside the Rust (oracle/beside) link these same functions. A mesh is lent as rows of nine numbers. Leans on
+// convex_join and mesh_faults.
 ghost use mathlib.Core.Path.{_≡_};
 ghost use Rattle.integers.specs.Faults.{firstFault};
 ghost use Rattle.mesh.specs.Mesh.{meshKinds};
@@ -10,7 +10,7 @@ use table::Counts;
 
 // mesh_faults::mesh_fault.
 #[no_mangle]
-pub extern "C" fn beside_mesh_fault(mesh: &[[i32; 9]]) -> u32
+pub extern "C" fn bezinkwolu_mesh_fault(mesh: &[[i32; 9]]) -> u32
     ensures { λ r. ⌜ r ≡ firstFault (meshKinds (rowsMesh (now (mesh .entry)))) ⌝ }
 {
     mesh_faults::mesh_fault(mesh)
@@ -18,7 +18,7 @@ pub extern "C" fn beside_mesh_fault(mesh: &[[i32; 9]]) -> u32
 
 // convex_join::to_convex_polygons.
 #[no_mangle]
-pub extern "C" fn beside_to_convex_polygons(
+pub extern "C" fn bezinkwolu_to_convex_polygons(
     mesh: &[[i32; 9]],
     starts: &mut [u32],
     corners: &mut [i32],

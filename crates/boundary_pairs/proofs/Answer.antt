@@ -10,7 +10,7 @@ use Rattle.minkowski.specs.Pairs.{pairsCounts, pairsStarts, pairsCorners}
 use Rattle.minkowski_faults.specs.Kinds.{operand}
 use Rattle.boundary_pairs.specs.declared.Bounds.{Bounds}
 use Rattle.boundary_pairs.specs.declared.ToldPairs.{ToldPairs}
-use Rattle.boundary_pairs.specs.Beside.{rectOf, lent, toldCounts}
+use Rattle.boundary_pairs.specs.Told.{rectOf, lent, toldCounts}
 
 module _ (reflected : Bool) (ls : List ℕ) (lc : List ℤ) (lb : Bounds) (rs : List ℕ) (rc : List ℤ) (rb : Bounds) (s : List ℕ) (c : List ℤ) where
   -- t is told; s′ and c′ are what the lent starts and corners hold then

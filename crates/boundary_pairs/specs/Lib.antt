@@ -1,2 +1,2 @@
--- All pairs as the runs beside the Rust ask for them.
-pub mod Beside
+-- All pairs as C is told them.
+pub mod Told

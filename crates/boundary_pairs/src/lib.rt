@@ -1,10 +1,10 @@
-// All pairs as the runs beside the Rust ask for them (oracle/beside links this crate as a static library): one thin function over each call, with no
+// All pairs, exported to C for the package (./package) and the runs beside the Rust (oracle/beside): one thin function over each call, with no
 // `requires`. Slices pass as a pointer and a length, bounds by value. The answer and both lent buffers as the call returns equal the definitions of
-// minkowski/specs/Pairs.antt; bounds and answer are laid out for C (specs/Beside.antt). Leans on minkowski_parts.
+// minkowski/specs/Pairs.antt; bounds and answer are laid out for C (specs/Told.antt). Leans on minkowski_parts.
 ghost use mathlib.Core.Path.{_≡_};
 ghost use mathlib.Core.Bool.{false, true};
 ghost use Rattle.minkowski.specs.Pairs.{pairsCounts, pairsStarts, pairsCorners};
-ghost use Rattle.boundary_pairs.specs.Beside.{rectOf, lent, toldCounts};
+ghost use Rattle.boundary_pairs.specs.Told.{rectOf, lent, toldCounts};
 use minkowski::PairCounts;
 use table::IntRect;
 
@@ -58,7 +58,7 @@ fn told(answer: PairCounts) -> ToldPairs
 
 // minkowski_parts::sum_parts.
 #[no_mangle]
-pub extern "C" fn beside_sum_parts(
+pub extern "C" fn bezinkwolu_sum_parts(
     left_starts: &[u32],
     left_corners: &[i32],
     left_bounds: Bounds,
@@ -89,7 +89,7 @@ pub extern "C" fn beside_sum_parts(
 
 // minkowski_parts::difference_parts.
 #[no_mangle]
-pub extern "C" fn beside_difference_parts(
+pub extern "C" fn bezinkwolu_difference_parts(
     left_starts: &[u32],
     left_corners: &[i32],
     left_bounds: Bounds,

@@ -14,7 +14,7 @@ use Rattle.plane.specs.Machine.{OnGrid, point}
 use Rattle.plane.proofs.Vectors.{pt-eq}
 use Rattle.plane.proofs.Size.{on-grid-both}
 use Rattle.boundary_plane.specs.declared.Told.{Told}
-use Rattle.boundary_plane.specs.Beside.{allOn, told}
+use Rattle.boundary_plane.specs.Told.{allOn, told}
 
 -- ---- several points
 

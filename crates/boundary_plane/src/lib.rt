@@ -1,10 +1,10 @@
-// plane as the runs beside the Rust call it (oracle/beside links this crate as a static library): one thin function over each function
+// plane, exported to C for the package (./package) and the runs beside the Rust (oracle/beside): one thin function over each function
 // that is compared, on plain numbers, with no `requires`. A coordinate not strictly between -2^30 and 2^30 is refused with 2, as document 01
 // numbers it, and the value 0. Leans on plane.
 ghost use mathlib.Core.Path.{_≡_};
 ghost use mathlib.Core.List.{[], _∷_};
 ghost use Rattle.plane.specs.Machine.{point};
-ghost use Rattle.boundary_plane.specs.Beside.{allOn, orderNumber, toldCross, toldArea, toldAngle};
+ghost use Rattle.boundary_plane.specs.Told.{allOn, orderNumber, toldCross, toldArea, toldAngle};
 use plane::IntPoint;
 use plane::Ordering;
 
@@ -99,7 +99,7 @@ fn angle_of_edges(a: IntPoint, b: IntPoint, c: IntPoint, d: IntPoint) -> Told
 
 // plane::cross_product of b - a and d - c.
 #[no_mangle]
-pub extern "C" fn beside_cross_product(
+pub extern "C" fn bezinkwolu_cross_product(
     ax: i32,
     ay: i32,
     bx: i32,
@@ -121,7 +121,7 @@ pub extern "C" fn beside_cross_product(
 
 // plane::area_two of a, b and c.
 #[no_mangle]
-pub extern "C" fn beside_area_two(ax: i32, ay: i32, bx: i32, by: i32, cx: i32, cy: i32) -> Told
+pub extern "C" fn bezinkwolu_area_two(ax: i32, ay: i32, bx: i32, by: i32, cx: i32, cy: i32) -> Told
     ensures { λ r. ⌜ r ≡ toldArea (record { x = ax; y = ay }) (record { x = bx; y = by }) (record { x = cx; y = cy }) ⌝ }
 {
     area_of_triangle(
@@ -133,7 +133,7 @@ pub extern "C" fn beside_area_two(ax: i32, ay: i32, bx: i32, by: i32, cx: i32, c
 
 // plane::angle_cmp of b - a and d - c: -1 where the first comes before the second, 0 where they are level, 1 where it comes after.
 #[no_mangle]
-pub extern "C" fn beside_angle_cmp(
+pub extern "C" fn bezinkwolu_angle_cmp(
     ax: i32,
     ay: i32,
     bx: i32,

@@ -1,2 +1,2 @@
--- Splitting by a number, as the runs beside the Rust ask for it.
-pub mod Beside
+-- Splitting by a number, as C asks for it.
+pub mod Told

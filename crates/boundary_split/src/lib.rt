@@ -1,9 +1,9 @@
-// Splitting as the runs beside the Rust call it (oracle/beside links this crate as a static library): one thin function, with no `requires`,
+// Splitting, exported to C for the package (./package) and the runs beside the Rust (oracle/beside): one thin function, with no `requires`,
 // that takes the split as the number which document 01's file has for it and refuses any other number with 13. Its answer and both lent buffers
-// as it returns equal the definitions of specs/Beside.antt. Leans on split_parts and, for the numbers, on listing.
+// as it returns equal the definitions of specs/Told.antt. Leans on split_parts and, for the numbers, on listing.
 ghost use mathlib.Core.Path.{_≡_};
 ghost use Rattle.mesh.specs.Rows.{rowsMesh};
-ghost use Rattle.boundary_split.specs.Beside.{besideCounts, besideStarts, besideCorners};
+ghost use Rattle.boundary_split.specs.Told.{numberedCounts, numberedStarts, numberedCorners};
 use table::Counts;
 
 // The last split's number: "0 ear, 1 fan, 2 centroid" (document 01).
@@ -11,16 +11,16 @@ const LAST_SPLIT: u32 = 2;
 
 // split_parts::to_convex_polygons_with_max_vertices. Refuses with 13 before anything else where there is no such split.
 #[no_mangle]
-pub extern "C" fn beside_to_convex_polygons_with_max_vertices(
+pub extern "C" fn bezinkwolu_to_convex_polygons_with_max_vertices(
     mesh: &[[i32; 9]],
     limit: u32,
     split: u32,
     starts: &mut [u32],
     corners: &mut [i32],
 ) -> Counts
-    ensures counts { λ r. ⌜ r ≡ besideCounts split limit (rowsMesh (now (mesh .entry))) (now (starts .entry)) (now (corners .entry)) ⌝ }
-    ensures starts { λ r. ⌜ now (starts .exit) ≡ besideStarts split limit (rowsMesh (now (mesh .entry))) (now (starts .entry)) (now (corners .entry)) ⌝ }
-    ensures corners { λ r. ⌜ now (corners .exit) ≡ besideCorners split limit (rowsMesh (now (mesh .entry))) (now (starts .entry)) (now (corners .entry)) ⌝ }
+    ensures counts { λ r. ⌜ r ≡ numberedCounts split limit (rowsMesh (now (mesh .entry))) (now (starts .entry)) (now (corners .entry)) ⌝ }
+    ensures starts { λ r. ⌜ now (starts .exit) ≡ numberedStarts split limit (rowsMesh (now (mesh .entry))) (now (starts .entry)) (now (corners .entry)) ⌝ }
+    ensures corners { λ r. ⌜ now (corners .exit) ≡ numberedCorners split limit (rowsMesh (now (mesh .entry))) (now (starts .entry)) (now (corners .entry)) ⌝ }
 {
     if split > LAST_SPLIT {
         return Counts {

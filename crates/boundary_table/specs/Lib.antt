@@ -1,2 +1,2 @@
--- What the runs beside the judge are told.
-pub mod Beside
+-- What C is told of part tables.
+pub mod Told

@@ -1,2 +1,2 @@
--- What the runs beside the Rust are told.
-pub mod Beside
+-- What C is told of walks.
+pub mod Told

@@ -1,10 +1,10 @@
-// The calls on walks as the runs beside the Rust make them (oracle/beside links this crate as a static library): one thin function over each, with
-// no `requires`. A contour passes as a pointer and a length, places by value; the answer is the call's, laid out for C (specs/Beside.antt).
+// The calls on walks, exported to C for the package (./package) and the runs beside the Rust (oracle/beside): one thin function over each, with
+// no `requires`. A contour passes as a pointer and a length, places by value; the answer is the call's, laid out for C (specs/Told.antt).
 // Leans on walk_begin, walk_step, walk_pair and walk_next.
 ghost use mathlib.Core.Path.{_≡_};
 ghost use mathlib.Core.Bool.{true, false};
 ghost use Rattle.walk.specs.Calls.{begunOf, pointedOf, edgedOf, advancedOf, steppedOf, pairedOf, pairSteppedOf};
-ghost use Rattle.boundary_walk.specs.Beside.{nowhere, toldBegun, toldPointed, toldEdged, toldAdvanced, toldStepped, toldPaired, toldNext};
+ghost use Rattle.boundary_walk.specs.Told.{nowhere, toldBegun, toldPointed, toldEdged, toldAdvanced, toldStepped, toldPaired, toldNext};
 use pair::ConvexSum;
 use pair::Place;
 use walk::Advanced;
@@ -77,7 +77,7 @@ fn nowhere() -> Place
 
 // walk_begin::begin.
 #[no_mangle]
-pub extern "C" fn beside_walk_begin(contour: &[i32], reflected: bool) -> ToldPlace
+pub extern "C" fn bezinkwolu_walk_begin(contour: &[i32], reflected: bool) -> ToldPlace
     ensures { λ r. ⌜ r ≡ toldBegun (begunOf (now (contour .entry)) reflected) ⌝ }
 {
     let answer = walk_begin::begin(contour, reflected);
@@ -92,7 +92,7 @@ pub extern "C" fn beside_walk_begin(contour: &[i32], reflected: bool) -> ToldPla
 
 // walk_step::point.
 #[no_mangle]
-pub extern "C" fn beside_walk_point(contour: &[i32], w: Place) -> ToldPoint
+pub extern "C" fn bezinkwolu_walk_point(contour: &[i32], w: Place) -> ToldPoint
     ensures { λ r. ⌜ r ≡ toldPointed (pointedOf (now (contour .entry)) w) ⌝ }
 {
     let answer = walk_step::point(contour, w);
@@ -112,7 +112,7 @@ pub extern "C" fn beside_walk_point(contour: &[i32], w: Place) -> ToldPoint
 
 // walk_step::edge.
 #[no_mangle]
-pub extern "C" fn beside_walk_edge(contour: &[i32], w: Place) -> ToldEdge
+pub extern "C" fn bezinkwolu_walk_edge(contour: &[i32], w: Place) -> ToldEdge
     ensures { λ r. ⌜ r ≡ toldEdged (edgedOf (now (contour .entry)) w) ⌝ }
 {
     let answer = walk_step::edge(contour, w);
@@ -132,7 +132,7 @@ pub extern "C" fn beside_walk_edge(contour: &[i32], w: Place) -> ToldEdge
 
 // walk_step::advance.
 #[no_mangle]
-pub extern "C" fn beside_walk_advance(contour: &[i32], w: Place) -> ToldPlace
+pub extern "C" fn bezinkwolu_walk_advance(contour: &[i32], w: Place) -> ToldPlace
     ensures { λ r. ⌜ r ≡ toldAdvanced (advancedOf (now (contour .entry)) w) ⌝ }
 {
     let answer = walk_step::advance(contour, w);
@@ -144,7 +144,7 @@ pub extern "C" fn beside_walk_advance(contour: &[i32], w: Place) -> ToldPlace
 
 // walk_step::next.
 #[no_mangle]
-pub extern "C" fn beside_walk_next(contour: &[i32], w: Place) -> ToldStep
+pub extern "C" fn bezinkwolu_walk_next(contour: &[i32], w: Place) -> ToldStep
     ensures { λ r. ⌜ r ≡ toldStepped (steppedOf (now (contour .entry)) w) ⌝ }
 {
     let answer = walk_step::next(contour, w);
@@ -185,7 +185,7 @@ fn told_pair(answer: Paired) -> ToldPair
 
 // walk_pair::new.
 #[no_mangle]
-pub extern "C" fn beside_pair_new(left: &[i32], right: &[i32]) -> ToldPair
+pub extern "C" fn bezinkwolu_pair_new(left: &[i32], right: &[i32]) -> ToldPair
     ensures { λ r. ⌜ r ≡ toldPaired (pairedOf false (now (left .entry)) (now (right .entry))) ⌝ }
 {
     told_pair(walk_pair::new(left, right))
@@ -193,7 +193,7 @@ pub extern "C" fn beside_pair_new(left: &[i32], right: &[i32]) -> ToldPair
 
 // walk_pair::difference.
 #[no_mangle]
-pub extern "C" fn beside_pair_difference(left: &[i32], right: &[i32]) -> ToldPair
+pub extern "C" fn bezinkwolu_pair_difference(left: &[i32], right: &[i32]) -> ToldPair
     ensures { λ r. ⌜ r ≡ toldPaired (pairedOf true (now (left .entry)) (now (right .entry))) ⌝ }
 {
     told_pair(walk_pair::difference(left, right))
@@ -201,7 +201,7 @@ pub extern "C" fn beside_pair_difference(left: &[i32], right: &[i32]) -> ToldPai
 
 // walk_next::next.
 #[no_mangle]
-pub extern "C" fn beside_pair_next(left: &[i32], right: &[i32], s: ConvexSum) -> ToldNext
+pub extern "C" fn bezinkwolu_pair_next(left: &[i32], right: &[i32], s: ConvexSum) -> ToldNext
     ensures { λ r. ⌜ r ≡ toldNext (pairSteppedOf (now (left .entry)) (now (right .entry)) s) ⌝ }
 {
     let answer = walk_next::next(left, right, s);

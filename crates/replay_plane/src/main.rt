@@ -32,7 +32,7 @@ fn print_told(k: u64, name: &[u8], told: Told) {
 // Asks about a, b, c and d, whose coordinates these are, and writes the line.
 fn print_asked(k: u64, kind: u32, p: [i32; 8]) {
     if kind == CROSS_PRODUCT {
-        let told = boundary_plane::beside_cross_product(
+        let told = boundary_plane::bezinkwolu_cross_product(
             p[0],
             p[1],
             p[2],
@@ -46,11 +46,11 @@ fn print_asked(k: u64, kind: u32, p: [i32; 8]) {
         return;
     }
     if kind == AREA_TWO {
-        let told = boundary_plane::beside_area_two(p[0], p[1], p[2], p[3], p[4], p[5]);
+        let told = boundary_plane::bezinkwolu_area_two(p[0], p[1], p[2], p[3], p[4], p[5]);
         print_told(k, b"area_two", told);
         return;
     }
-    let told = boundary_plane::beside_angle_cmp(p[0], p[1], p[2], p[3], p[4], p[5], p[6], p[7]);
+    let told = boundary_plane::bezinkwolu_angle_cmp(p[0], p[1], p[2], p[3], p[4], p[5], p[6], p[7]);
     print_told(k, b"angle_cmp", told);
 }
 

@@ -22,7 +22,7 @@ fn print_split(
     starts: &mut [u32],
     corners: &mut [i32],
 ) {
-    let counts = boundary_split::beside_to_convex_polygons_with_max_vertices(
+    let counts = boundary_split::bezinkwolu_to_convex_polygons_with_max_vertices(
         rows,
         limit,
         split,

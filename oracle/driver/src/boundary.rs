@@ -1,5 +1,8 @@
 //! The C functions of the Rattle archive, and the list of entry points.
 
+// linked for its archive: the functions below are that crate's own
+use bezinkwolu as _;
+
 use crate::entry::{run, Report};
 use crate::lent::Handed;
 use crate::listing::{listing_beside, TEXT};
@@ -8,7 +11,7 @@ use crate::pairs::{all_pairs_beside, Bounds, HandedOperand, ToldPairs};
 use crate::plane::{angle_cmp_beside, area_two_beside, cross_product_beside};
 use crate::split::with_max_vertices_beside;
 use crate::table::{read_table_beside, show_part_beside, write_table_beside};
-use crate::table::{HandedTable, ToldLength};
+use crate::table::{HandedTable, ToldLength, ToldPart};
 use crate::told::{Counts, Told};
 use crate::walk::{self, Places};
 use crate::walk::{ToldEdge, ToldNext, ToldPair, ToldPlace, ToldPoint, ToldStep};
@@ -19,12 +22,12 @@ use judge::shown::Side;
 use judge::Point;
 
 mod archive {
-    use super::{Bounds, Counts, Place, Places, Row, Told, ToldLength, ToldPairs};
+    use super::{Bounds, Counts, Place, Places, Row, Told, ToldLength, ToldPairs, ToldPart};
     use super::{ToldEdge, ToldNext, ToldPair, ToldPlace, ToldPoint, ToldStep};
     use crate::listing::TEXT;
 
     extern "C" {
-        pub fn beside_cross_product(
+        pub fn bezinkwolu_cross_product(
             ax: i32,
             ay: i32,
             bx: i32,
@@ -34,8 +37,8 @@ mod archive {
             dx: i32,
             dy: i32,
         ) -> Told;
-        pub fn beside_area_two(ax: i32, ay: i32, bx: i32, by: i32, cx: i32, cy: i32) -> Told;
-        pub fn beside_angle_cmp(
+        pub fn bezinkwolu_area_two(ax: i32, ay: i32, bx: i32, by: i32, cx: i32, cy: i32) -> Told;
+        pub fn bezinkwolu_angle_cmp(
             ax: i32,
             ay: i32,
             bx: i32,
@@ -45,8 +48,8 @@ mod archive {
             dx: i32,
             dy: i32,
         ) -> Told;
-        pub fn beside_mesh_fault(mesh: *const Row, triangles: usize) -> u32;
-        pub fn beside_to_convex_polygons(
+        pub fn bezinkwolu_mesh_fault(mesh: *const Row, triangles: usize) -> u32;
+        pub fn bezinkwolu_to_convex_polygons(
             mesh: *const Row,
             triangles: usize,
             starts: *mut u32,
@@ -54,7 +57,7 @@ mod archive {
             corners: *mut i32,
             corners_lent: usize,
         ) -> Counts;
-        pub fn beside_to_convex_polygons_with_max_vertices(
+        pub fn bezinkwolu_to_convex_polygons_with_max_vertices(
             mesh: *const Row,
             triangles: usize,
             limit: u32,
@@ -64,7 +67,7 @@ mod archive {
             corners: *mut i32,
             corners_lent: usize,
         ) -> Counts;
-        pub fn beside_read_table(
+        pub fn bezinkwolu_read_table(
             bytes: *const u8,
             bytes_length: usize,
             starts: *mut u32,
@@ -72,7 +75,7 @@ mod archive {
             corners: *mut i32,
             corners_length: usize,
         ) -> Counts;
-        pub fn beside_write_table(
+        pub fn bezinkwolu_write_table(
             starts: *const u32,
             starts_length: usize,
             corners: *const i32,
@@ -80,7 +83,7 @@ mod archive {
             bytes: *mut u8,
             bytes_length: usize,
         ) -> ToldLength;
-        pub fn beside_show_part(
+        pub fn bezinkwolu_show_part(
             left_starts: *const u32,
             left_starts_length: usize,
             left_corners: *const i32,
@@ -91,34 +94,36 @@ mod archive {
             right_corners_length: usize,
             right: bool,
             k: u32,
-            out: *mut i32,
-            out_length: usize,
-        ) -> ToldLength;
-        pub fn beside_walk_begin(contour: *const i32, length: usize, reflected: bool) -> ToldPlace;
-        pub fn beside_walk_point(contour: *const i32, length: usize, at: Place) -> ToldPoint;
-        pub fn beside_walk_edge(contour: *const i32, length: usize, at: Place) -> ToldEdge;
-        pub fn beside_walk_advance(contour: *const i32, length: usize, at: Place) -> ToldPlace;
-        pub fn beside_walk_next(contour: *const i32, length: usize, at: Place) -> ToldStep;
-        pub fn beside_pair_new(
+        ) -> ToldPart;
+        pub fn bezinkwolu_walk_begin(
+            contour: *const i32,
+            length: usize,
+            reflected: bool,
+        ) -> ToldPlace;
+        pub fn bezinkwolu_walk_point(contour: *const i32, length: usize, at: Place) -> ToldPoint;
+        pub fn bezinkwolu_walk_edge(contour: *const i32, length: usize, at: Place) -> ToldEdge;
+        pub fn bezinkwolu_walk_advance(contour: *const i32, length: usize, at: Place) -> ToldPlace;
+        pub fn bezinkwolu_walk_next(contour: *const i32, length: usize, at: Place) -> ToldStep;
+        pub fn bezinkwolu_pair_new(
             left: *const i32,
             left_length: usize,
             right: *const i32,
             right_length: usize,
         ) -> ToldPair;
-        pub fn beside_pair_difference(
+        pub fn bezinkwolu_pair_difference(
             left: *const i32,
             left_length: usize,
             right: *const i32,
             right_length: usize,
         ) -> ToldPair;
-        pub fn beside_pair_next(
+        pub fn bezinkwolu_pair_next(
             left: *const i32,
             left_length: usize,
             right: *const i32,
             right_length: usize,
             at: Places,
         ) -> ToldNext;
-        pub fn beside_sum_parts(
+        pub fn bezinkwolu_sum_parts(
             left_starts: *const u32,
             left_starts_length: usize,
             left_corners: *const i32,
@@ -134,9 +139,12 @@ mod archive {
             corners: *mut i32,
             corners_lent: usize,
         ) -> ToldPairs;
-        pub fn beside_listing(bytes: *const u8, bytes_length: usize, out: *mut [u8; TEXT])
-            -> usize;
-        pub fn beside_difference_parts(
+        pub fn bezinkwolu_listing(
+            bytes: *const u8,
+            bytes_length: usize,
+            out: *mut [u8; TEXT],
+        ) -> usize;
+        pub fn bezinkwolu_difference_parts(
             left_starts: *const u32,
             left_starts_length: usize,
             left_corners: *const i32,
@@ -222,27 +230,27 @@ pub const ENTRY_POINTS: &[Named] = &[
 // they do not fail.
 
 fn cross_product([a, b, c, d]: Four) -> Told {
-    unsafe { archive::beside_cross_product(a.0, a.1, b.0, b.1, c.0, c.1, d.0, d.1) }
+    unsafe { archive::bezinkwolu_cross_product(a.0, a.1, b.0, b.1, c.0, c.1, d.0, d.1) }
 }
 
 fn area_two([a, b, c]: [Point; 3]) -> Told {
-    unsafe { archive::beside_area_two(a.0, a.1, b.0, b.1, c.0, c.1) }
+    unsafe { archive::bezinkwolu_area_two(a.0, a.1, b.0, b.1, c.0, c.1) }
 }
 
 fn angle_cmp([a, b, c, d]: Four) -> Told {
-    unsafe { archive::beside_angle_cmp(a.0, a.1, b.0, b.1, c.0, c.1, d.0, d.1) }
+    unsafe { archive::bezinkwolu_angle_cmp(a.0, a.1, b.0, b.1, c.0, c.1, d.0, d.1) }
 }
 
 // Safe: each list and buffer passes as its place and its length, lent for the call
 // alone, and the prover has shown that nothing past it is touched.
 
 pub fn mesh_fault(mesh: Handed<Row>) -> u32 {
-    unsafe { archive::beside_mesh_fault(mesh.at, mesh.length) }
+    unsafe { archive::bezinkwolu_mesh_fault(mesh.at, mesh.length) }
 }
 
 pub fn to_convex_polygons(mesh: Handed<Row>, starts: Handed<u32>, corners: Handed<i32>) -> Counts {
     unsafe {
-        archive::beside_to_convex_polygons(
+        archive::bezinkwolu_to_convex_polygons(
             mesh.at,
             mesh.length,
             starts.at,
@@ -261,7 +269,7 @@ pub fn to_convex_polygons_with_max_vertices(
     corners: Handed<i32>,
 ) -> Counts {
     unsafe {
-        archive::beside_to_convex_polygons_with_max_vertices(
+        archive::bezinkwolu_to_convex_polygons_with_max_vertices(
             mesh.at,
             mesh.length,
             limit,
@@ -276,7 +284,7 @@ pub fn to_convex_polygons_with_max_vertices(
 
 fn read_table(bytes: Handed<u8>, starts: Handed<u32>, corners: Handed<i32>) -> Counts {
     unsafe {
-        archive::beside_read_table(
+        archive::bezinkwolu_read_table(
             bytes.at,
             bytes.length,
             starts.at,
@@ -289,7 +297,7 @@ fn read_table(bytes: Handed<u8>, starts: Handed<u32>, corners: Handed<i32>) -> C
 
 fn write_table(table: HandedTable, bytes: Handed<u8>) -> ToldLength {
     unsafe {
-        archive::beside_write_table(
+        archive::bezinkwolu_write_table(
             table.starts.at,
             table.starts.length,
             table.corners.at,
@@ -300,14 +308,9 @@ fn write_table(table: HandedTable, bytes: Handed<u8>) -> ToldLength {
     }
 }
 
-fn show_part(
-    [left, right]: [HandedTable; 2],
-    side: Side,
-    part: u32,
-    out: Handed<i32>,
-) -> ToldLength {
+fn show_part([left, right]: [HandedTable; 2], side: Side, part: u32) -> ToldPart {
     unsafe {
-        archive::beside_show_part(
+        archive::bezinkwolu_show_part(
             left.starts.at,
             left.starts.length,
             left.corners.at,
@@ -318,42 +321,40 @@ fn show_part(
             right.corners.length,
             side == Side::Right,
             part,
-            out.at,
-            out.length,
         )
     }
 }
 
 fn walk_begin(contour: Handed<i32>, reflected: bool) -> ToldPlace {
-    unsafe { archive::beside_walk_begin(contour.at, contour.length, reflected) }
+    unsafe { archive::bezinkwolu_walk_begin(contour.at, contour.length, reflected) }
 }
 
 fn walk_point(contour: Handed<i32>, at: Place) -> ToldPoint {
-    unsafe { archive::beside_walk_point(contour.at, contour.length, at) }
+    unsafe { archive::bezinkwolu_walk_point(contour.at, contour.length, at) }
 }
 
 fn walk_edge(contour: Handed<i32>, at: Place) -> ToldEdge {
-    unsafe { archive::beside_walk_edge(contour.at, contour.length, at) }
+    unsafe { archive::bezinkwolu_walk_edge(contour.at, contour.length, at) }
 }
 
 fn walk_advance(contour: Handed<i32>, at: Place) -> ToldPlace {
-    unsafe { archive::beside_walk_advance(contour.at, contour.length, at) }
+    unsafe { archive::bezinkwolu_walk_advance(contour.at, contour.length, at) }
 }
 
 fn walk_next(contour: Handed<i32>, at: Place) -> ToldStep {
-    unsafe { archive::beside_walk_next(contour.at, contour.length, at) }
+    unsafe { archive::bezinkwolu_walk_next(contour.at, contour.length, at) }
 }
 
 fn pair_new(left: Handed<i32>, right: Handed<i32>) -> ToldPair {
-    unsafe { archive::beside_pair_new(left.at, left.length, right.at, right.length) }
+    unsafe { archive::bezinkwolu_pair_new(left.at, left.length, right.at, right.length) }
 }
 
 fn pair_difference(left: Handed<i32>, right: Handed<i32>) -> ToldPair {
-    unsafe { archive::beside_pair_difference(left.at, left.length, right.at, right.length) }
+    unsafe { archive::bezinkwolu_pair_difference(left.at, left.length, right.at, right.length) }
 }
 
 fn pair_next(left: Handed<i32>, right: Handed<i32>, at: Places) -> ToldNext {
-    unsafe { archive::beside_pair_next(left.at, left.length, right.at, right.length, at) }
+    unsafe { archive::bezinkwolu_pair_next(left.at, left.length, right.at, right.length, at) }
 }
 
 /// `sum_parts` or `difference_parts`.
@@ -364,8 +365,8 @@ fn all_pairs(
     corners: Handed<i32>,
 ) -> ToldPairs {
     let asked = match operation {
-        Operation::Sum => archive::beside_sum_parts,
-        Operation::Difference => archive::beside_difference_parts,
+        Operation::Sum => archive::bezinkwolu_sum_parts,
+        Operation::Difference => archive::bezinkwolu_difference_parts,
     };
     unsafe {
         asked(
@@ -400,5 +401,5 @@ fn difference_parts(
 }
 
 fn listing(bytes: &[u8], out: &mut [u8; TEXT]) -> usize {
-    unsafe { archive::beside_listing(bytes.as_ptr(), bytes.len(), out) }
+    unsafe { archive::bezinkwolu_listing(bytes.as_ptr(), bytes.len(), out) }
 }

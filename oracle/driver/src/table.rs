@@ -15,11 +15,21 @@ use judge::table::Table;
 use judge::Fault;
 use std::fmt::Debug;
 
-/// How many bytes were written, or how many numbers are shown; 0 where refused.
+/// How many bytes were written; 0 where refused.
 #[repr(C)]
 #[derive(Debug, Clone, Copy, PartialEq, Eq)]
 pub struct ToldLength {
     pub fault: u32,
+    pub length: usize,
+}
+
+/// Where the numbers of the part shown begin in the lent corners, and how many they
+/// are; both 0 where refused.
+#[repr(C)]
+#[derive(Debug, Clone, Copy, PartialEq, Eq)]
+pub struct ToldPart {
+    pub fault: u32,
+    pub offset: usize,
     pub length: usize,
 }
 
@@ -37,10 +47,11 @@ pub struct WriteAnswer {
     pub bytes: Lent<u8>,
 }
 
+/// With the numbers that stand where the part is told to lie.
 #[derive(Debug, PartialEq)]
 pub struct ShowAnswer {
-    pub told: ToldLength,
-    pub numbers: Lent<i32>,
+    pub told: ToldPart,
+    pub numbers: Vec<i32>,
 }
 
 /// A table's lists, lent, and as they are handed over.
@@ -121,28 +132,35 @@ pub fn write_into(input: &Write, bytes: &mut [u8]) -> ToldLength {
     told
 }
 
-/// The part shown is copied where all of it has room.
-pub fn show_into(input: &Show, out: &mut [i32]) -> ToldLength {
+/// The part shown, and its place: two numbers for each corner before it.
+pub fn show_part(input: &Show) -> ShowAnswer {
     let Show {
         left,
         right,
         side,
         part,
-        ..
     } = input;
-    let mut told = ToldLength {
+    let mut told = ToldPart {
         fault: shown::fault(left, right, *side, *part),
+        offset: 0,
         length: 0,
     };
+    let mut numbers = Vec::new();
     if told.fault == 0 {
         let corners = shown::corners(left, right, *side, *part);
-        let numbers: Vec<i32> = corners.iter().flat_map(|&(x, y)| [x, y]).collect();
+        numbers.extend(corners.iter().flat_map(|&(x, y)| [x, y]));
+        told.offset = 2 * asked_of(input).starts[*part as usize] as usize;
         told.length = numbers.len();
-        if numbers.len() <= out.len() {
-            put(out, &numbers);
-        }
     }
-    told
+    ShowAnswer { told, numbers }
+}
+
+/// The table that the part is asked of.
+fn asked_of(input: &Show) -> &Table {
+    match input.side {
+        Side::Left => &input.left,
+        Side::Right => &input.right,
+    }
 }
 
 fn read_table(input: &Read) -> ReadAnswer {
@@ -160,14 +178,6 @@ fn write_table(input: &Write) -> WriteAnswer {
     WriteAnswer {
         told: write_into(input, bytes.slice_mut()),
         bytes,
-    }
-}
-
-fn show_part(input: &Show) -> ShowAnswer {
-    let mut numbers = Lent::places(input.lent);
-    ShowAnswer {
-        told: show_into(input, numbers.slice_mut()),
-        numbers,
     }
 }
 
@@ -240,14 +250,15 @@ where
 
 pub fn show_part_beside<F>(rattle: F) -> OfTables<Show, ShowAnswer>
 where
-    F: Fn([HandedTable; 2], Side, u32, Handed<i32>) -> ToldLength + 'static,
+    F: Fn([HandedTable; 2], Side, u32) -> ToldPart + 'static,
 {
     let asked = move |input: &Show| {
         let mut left = LentTable::new(&input.left);
         let mut right = LentTable::new(&input.right);
-        let mut numbers = Lent::places(input.lent);
-        let tables = [left.handed(), right.handed()];
-        let told = rattle(tables, input.side, input.part, numbers.handed());
+        let told = rattle([left.handed(), right.handed()], input.side, input.part);
+        let corners = &asked_of(input).corners;
+        let numbers = corners.iter().skip(told.offset).take(told.length);
+        let numbers = numbers.copied().collect();
         Kept {
             told: ShowAnswer { told, numbers },
             kept: left.holds(&input.left) && right.holds(&input.right),
@@ -320,7 +331,7 @@ mod tests {
 
     type Reads = fn(&Read, &mut [u32], &mut [i32]) -> Counts;
     type Writes = fn(&Write, &mut [u8]) -> ToldLength;
-    type Shows = fn(&Show, &mut [i32]) -> ToldLength;
+    type Shows = fn(&Show) -> ToldPart;
 
     fn read_asked(f: Reads) -> impl Fn(Handed<u8>, Handed<u32>, Handed<i32>) -> Counts {
         move |bytes, starts, corners| {
@@ -354,17 +365,19 @@ mod tests {
         }
     }
 
-    fn show_asked(f: Shows) -> impl Fn([HandedTable; 2], Side, u32, Handed<i32>) -> ToldLength {
-        move |[left, right], side, part, out| {
-            let input = Show {
+    fn show_asked(f: Shows) -> impl Fn([HandedTable; 2], Side, u32) -> ToldPart {
+        move |[left, right], side, part| {
+            f(&Show {
                 left: table_of(left),
                 right: table_of(right),
                 side,
                 part,
-                lent: out.length,
-            };
-            f(&input, unsafe { out.slice() })
+            })
         }
+    }
+
+    fn show_told(input: &Show) -> ToldPart {
+        show_part(input).told
     }
 
     #[test]
@@ -372,7 +385,7 @@ mod tests {
         for report in [
             run(&read_table_beside(read_asked(read_into)), 1, COUNT),
             run(&write_table_beside(write_asked(write_into)), 1, COUNT),
-            run(&show_part_beside(show_asked(show_into)), 1, COUNT),
+            run(&show_part_beside(show_asked(show_told)), 1, COUNT),
         ] {
             assert!(report.passed(), "{report}");
             assert!(report.compared > COUNT / SHARE + 5_000, "{report}");
@@ -435,27 +448,19 @@ mod tests {
     fn overruns_of_show_part_are_caught() {
         for at in overruns::ALL {
             for side in 0..2 {
-                let entry = show_part_beside(move |tables, of, part, out| {
-                    let told = show_asked(show_into)(tables, of, part, out);
+                let entry = show_part_beside(move |tables, of, part| {
+                    let told = show_asked(show_told)(tables, of, part);
                     plant(tables[side].starts, at);
                     told
                 });
                 seen(&entry, at);
-                let entry = show_part_beside(move |tables, of, part, out| {
-                    let told = show_asked(show_into)(tables, of, part, out);
+                let entry = show_part_beside(move |tables, of, part| {
+                    let told = show_asked(show_told)(tables, of, part);
                     plant(tables[side].corners, at);
                     told
                 });
                 seen(&entry, at);
             }
-        }
-        for at in overruns::ENDS {
-            let entry = show_part_beside(move |tables, of, part, out| {
-                let told = show_asked(show_into)(tables, of, part, out);
-                plant(out, at);
-                told
-            });
-            seen(&entry, at);
         }
     }
 
@@ -599,10 +604,10 @@ mod tests {
 
     #[test]
     fn the_other_operand_is_caught() {
-        let small = show_fails(|q, out| {
+        let small = show_fails(|q| {
             let mut turned = q.clone();
             std::mem::swap(&mut turned.left, &mut turned.right);
-            show_into(&turned, out)
+            show_told(&turned)
         });
         assert!(small.contains("fault: 12"), "{small}");
     }
@@ -610,26 +615,43 @@ mod tests {
     /// Only the table asked for is judged.
     #[test]
     fn a_table_not_judged_is_caught() {
-        let small = show_fails(|q, out| {
+        let small = show_fails(|q| {
             let mut alone = q.clone();
             match q.side {
                 Side::Left => alone.right = Table::of(&[]),
                 Side::Right => alone.left = Table::of(&[]),
             }
-            show_into(&alone, out)
+            show_told(&alone)
         });
         assert!(
-            small.contains("Rust ShowAnswer { told: ToldLength { fault: 7,"),
+            small.contains("Rust ShowAnswer { told: ToldPart { fault: 7,"),
             "{small}"
         );
     }
 
     #[test]
     fn the_next_part_is_caught() {
-        show_fails(|q, out| {
+        show_fails(|q| {
             let mut next = q.clone();
             next.part = q.part.saturating_add(1);
-            show_into(&next, out)
+            show_told(&next)
+        });
+    }
+
+    #[test]
+    fn a_place_that_is_wrong_is_caught() {
+        let small = show_fails(|q| {
+            let mut told = show_told(q);
+            told.offset /= 2;
+            told
+        });
+        assert!(small.contains("offset: 2,"), "{small}");
+        show_fails(|q| {
+            let mut told = show_told(q);
+            if told.fault != 0 {
+                told.offset = 2;
+            }
+            told
         });
     }
 }

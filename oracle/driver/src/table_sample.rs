@@ -2,7 +2,7 @@
 //! what the judge answers. The same every time.
 
 use crate::sample::{listed, numbers, record, words, Case, Sample};
-use crate::table::{read_into, show_into, write_into};
+use crate::table::{read_into, show_part, write_into, ShowAnswer};
 use inputs::rng::Rng;
 use inputs::table_calls::{any_read, any_show, any_write, Read, Show, Write};
 use judge::shown::Side;
@@ -97,17 +97,14 @@ fn write_case(input: Write) -> Drawn {
 }
 
 /// Both tables, left and right; the side asked for and the part's number.
-fn show_case(mut input: Show) -> Drawn {
-    input.lent = NUMBERS;
-    let mut shown = vec![HELD_NUMBER; NUMBERS];
-    let told = show_into(&input, &mut shown);
-    shown.truncate(told.length);
+fn show_case(input: Show) -> Drawn {
+    let ShowAnswer { told, numbers: at } = show_part(&input);
+    let shown = listed("corners", &at);
     let Show {
         left,
         right,
         side,
         part,
-        ..
     } = input;
     let lists = [
         left.starts.len(),
@@ -122,7 +119,6 @@ fn show_case(mut input: Show) -> Drawn {
         words(&right.starts),
         numbers(&right.corners),
     ]);
-    let shown = listed("corners", &shown);
     Drawn {
         case: Case {
             record,

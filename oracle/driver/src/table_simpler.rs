@@ -108,9 +108,6 @@ pub fn simpler_show(input: &Show) -> Vec<Show> {
     for part in lesser(input.part as usize) {
         out.push(with(&|q| q.part = part as u32));
     }
-    for lent in lesser(input.lent) {
-        out.push(with(&|q| q.lent = lent));
-    }
     if input.side == Side::Right {
         out.push(with(&|q| q.side = Side::Left));
     }
@@ -139,7 +136,7 @@ mod tests {
         let of_write = |q: &Write| table_size(&q.table) + q.lent as i64;
         let of_show = |q: &Show| {
             let asked = i64::from(q.part) + i64::from(q.side == Side::Right);
-            table_size(&q.left) + table_size(&q.right) + asked + q.lent as i64
+            table_size(&q.left) + table_size(&q.right) + asked
         };
         for _ in 0..50 {
             let (read, write, show) = (any_read(&mut rng), any_write(&mut rng), any_show(&mut rng));

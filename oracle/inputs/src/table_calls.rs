@@ -23,14 +23,13 @@ pub struct Write {
     pub lent: usize,
 }
 
-/// A part asked for, and the places lent for a copy of its numbers.
+/// A part asked for.
 #[derive(Debug, Clone, PartialEq, Eq)]
 pub struct Show {
     pub left: Table,
     pub right: Table,
     pub side: Side,
     pub part: u32,
-    pub lent: usize,
 }
 
 pub type Inputs<'a, T> = Box<dyn Iterator<Item = T> + 'a>;
@@ -252,15 +251,12 @@ pub fn any_show(rng: &mut Rng) -> Show {
 
 const SIDES: [Side; 2] = [Side::Left, Side::Right];
 
-/// Each part of both sides and one past the last, a copy's places one short,
-/// exact, and longer.
+/// Each part of both sides and one past the last.
 fn every_part(left: &Table, right: &Table) -> Vec<Show> {
     let mut out = Vec::new();
     for side in SIDES {
         for part in 0..asked(left, right, side).starts.len() as u32 {
-            for lent in [1, 2, 6] {
-                out.push(of(left, right, side, part, lent));
-            }
+            out.push(of(left, right, side, part));
         }
     }
     out
@@ -270,7 +266,7 @@ fn every_part(left: &Table, right: &Table) -> Vec<Show> {
 fn about_last(left: &Table, right: &Table, side: Side) -> Vec<Show> {
     let last = asked(left, right, side).starts.len() as u32 - 2;
     [0, last.saturating_sub(1), last, last + 1, u32::MAX]
-        .map(|part| of(left, right, side, part, 2_100))
+        .map(|part| of(left, right, side, part))
         .to_vec()
 }
 
@@ -281,21 +277,15 @@ fn show(rng: &mut Rng, left: &Table, right: &Table) -> Show {
         0 => rng.pick(&[u32::MAX, 0x8000_0000, 2_047, 2_048]),
         _ => rng.below(starts.len() + 1) as u32,
     };
-    let length = match (starts.get(part as usize), starts.get(part as usize + 1)) {
-        (Some(&a), Some(&b)) => 2 * b.saturating_sub(a).min(2_000) as usize,
-        _ => 4,
-    };
-    let lent = one_about(rng, length);
-    of(left, right, side, part, lent)
+    of(left, right, side, part)
 }
 
-fn of(left: &Table, right: &Table, side: Side, part: u32, lent: usize) -> Show {
+fn of(left: &Table, right: &Table, side: Side, part: u32) -> Show {
     Show {
         left: left.clone(),
         right: right.clone(),
         side,
         part,
-        lent,
     }
 }
 

@@ -4,7 +4,7 @@ use borrow.Author.Needs.{needs}
 use mir.Syntax.{w64}
 use Rattle.integers.proofs.Bits.{got}
 use Rattle.plane.specs.Plane.{angleCmp}
-use Rattle.boundary_plane.specs.Beside.{orderNumber, toldAngle}
+use Rattle.boundary_plane.specs.Told.{orderNumber, toldAngle}
 use Rattle.boundary_plane.proofs.Answers.{four-on, answered, refused}
 use Rattle.boundary_plane.proofs.angle_of_edges.Statement.{statement}
 use Rattle.boundary_plane.proofs.angle_of_edges.Tie as tie

@@ -3,7 +3,7 @@ use mathlib.Core.Path.{_∙_}
 use borrow.Author.Needs.{needs}
 use mir.Syntax.{w64}
 use Rattle.integers.proofs.Bits.{got}
-use Rattle.boundary_plane.specs.Beside.{toldArea}
+use Rattle.boundary_plane.specs.Told.{toldArea}
 use Rattle.boundary_plane.proofs.Answers.{three-on, answered, refused}
 use Rattle.boundary_plane.proofs.area_of_triangle.Statement.{statement}
 use Rattle.boundary_plane.proofs.area_of_triangle.Tie as tie

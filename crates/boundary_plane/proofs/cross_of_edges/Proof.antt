@@ -4,7 +4,7 @@ use borrow.Author.Needs.{needs}
 use mir.Syntax.{w64}
 use Rattle.integers.proofs.Bits.{got}
 use Rattle.plane.specs.Plane.{cross}
-use Rattle.boundary_plane.specs.Beside.{toldCross}
+use Rattle.boundary_plane.specs.Told.{toldCross}
 use Rattle.boundary_plane.proofs.Answers.{four-on, answered, refused}
 use Rattle.boundary_plane.proofs.cross_of_edges.Statement.{statement}
 use Rattle.boundary_plane.proofs.cross_of_edges.Tie as tie

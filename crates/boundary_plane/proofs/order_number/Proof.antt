@@ -1,7 +1,7 @@
 -- `boundary_plane::order_number` meets its contract: the number of the variant that each arm matched. Assumes nothing.
 use mathlib.Core.Path.{sym, ap}
 use borrow.Author.Needs.{needs}
-use Rattle.boundary_plane.specs.Beside.{orderNumber}
+use Rattle.boundary_plane.specs.Told.{orderNumber}
 use Rattle.boundary_plane.proofs.order_number.Statement.{statement}
 use Rattle.boundary_plane.proofs.order_number.Tie as tie
 

@@ -1,6 +1,6 @@
 -- `boundary_walk::told_pair` meets its contract: each case of the answer, laid out. Assumes nothing.
 use mathlib.Core.Path.{sym, _∙_, ap}
-use Rattle.boundary_walk.specs.Beside.{toldPaired}
+use Rattle.boundary_walk.specs.Told.{toldPaired}
 use borrow.Author.Needs.{needs}
 use Rattle.boundary_walk.proofs.told_pair.Statement.{statement}
 use Rattle.boundary_walk.proofs.told_pair.Tie as tie

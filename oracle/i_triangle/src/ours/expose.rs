@@ -47,6 +47,14 @@ impl Prepared {
         Self(delaunay(mesh))
     }
 
+    /// The triangles as a caller of the Rust has them: points, and neighbours with
+    /// `usize::MAX` for none.
+    pub fn triangles(&self) -> impl Iterator<Item = ([Point; 3], [usize; 3])> + '_ {
+        let taken =
+            |t: &IntTriangle<i32>| (t.vertices.map(|v| (v.point.x, v.point.y)), t.neighbors);
+        self.0.triangles.iter().map(taken)
+    }
+
     pub fn parts(&self) -> Parts {
         self.0.to_convex_polygons()
     }

@@ -1,7 +1,8 @@
-//! `bench [ROUNDS [joining|splits|pairs]]`: times our calls, the Rust's and, of all
+//! `bench [ROUNDS [joining|splits|pairs|crate]]`: times our calls, the Rust's and, of all
 //! pairs, a C++ one from this one program on the same inputs, in turn, and prints our
 //! time over theirs. docs/BENCHMARKS.md says what they show.
 
+mod bindings;
 mod meshes;
 mod pairs;
 mod peers;
@@ -18,10 +19,11 @@ fn main() {
     let rounds = words.first().and_then(|word| word.parse().ok());
     let rounds = rounds.unwrap_or(ROUNDS);
     let only = words.get(1).map(String::as_str);
-    let topics: [(&str, fn(usize)); 3] = [
+    let topics: [(&str, fn(usize)); 4] = [
         ("joining", meshes::joining),
         ("splits", meshes::splits),
         ("pairs", pairs::pairs),
+        ("crate", bindings::crate_calls),
     ];
     for (name, topic) in topics {
         if only.is_none() || only == Some(name) {

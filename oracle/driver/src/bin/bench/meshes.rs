@@ -110,17 +110,17 @@ const SPLIT_KINDS: &[(&str, fn(&mut Rng) -> Mesh)] = &[
     ("2 triangles: a square", two),
 ];
 
-fn sixteen(rng: &mut Rng) -> Mesh {
+pub fn sixteen(rng: &mut Rng) -> Mesh {
     let mesh = meshes::linked(&meshes::polygon(rng, &meshes::parabola(18)));
     meshes::renumbered(rng, &mesh)
 }
 
-fn two(rng: &mut Rng) -> Mesh {
+pub fn two(rng: &mut Rng) -> Mesh {
     let mesh = meshes::linked(&meshes::grid(rng, 1, 1, 4));
     meshes::renumbered(rng, &mesh)
 }
 
-fn squares(rng: &mut Rng) -> Mesh {
+pub fn squares(rng: &mut Rng) -> Mesh {
     let square = meshes::linked(&meshes::grid(rng, 1, 1, 3));
     meshes::copies(rng, &square, TRIANGLES / 2)
 }

@@ -200,7 +200,7 @@ impl Subject {
 }
 
 /// A strictly convex contour of just so many corners.
-fn convex(rng: &mut Rng, corners: usize) -> Contour {
+pub fn convex(rng: &mut Rng, corners: usize) -> Contour {
     loop {
         let contour = contours::convex(rng, corners, 1 << 28);
         if contour.len() == corners {

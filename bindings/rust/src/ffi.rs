@@ -1,0 +1,330 @@
+//! The archive's functions, and all that is unsafe. bezinkwolu.h has their contracts; `lend` has the rules of the memory that they write.
+
+use crate::{Error, IntRect, PartTable};
+use std::mem::size_of;
+
+/// Six coordinates and three neighbours, none as -1: `bezinkwolu_triangle`, number by number.
+pub(crate) type Row = [i32; 9];
+
+#[repr(C)]
+#[derive(Clone, Copy)]
+struct Counts {
+    fault: u32,
+    parts: u32,
+    corners: u32,
+}
+
+#[repr(C)]
+#[derive(Clone, Copy)]
+struct ToldPairs {
+    fault: u32,
+    contours: u32,
+    corners: u32,
+    bounds: IntRect,
+}
+
+#[repr(C)]
+struct ToldLength {
+    fault: u32,
+    length: usize,
+}
+
+#[repr(C)]
+pub(crate) struct ToldPart {
+    pub(crate) fault: u32,
+    pub(crate) offset: usize,
+    pub(crate) length: usize,
+}
+
+#[repr(C)]
+#[derive(Debug, Clone, Copy)]
+pub(crate) struct Place {
+    index: u16,
+    remaining: u16,
+    reverse: bool,
+    reflected: bool,
+    segment: bool,
+    start: u16,
+    end: u16,
+}
+
+#[repr(C)]
+#[derive(Debug, Clone, Copy)]
+pub(crate) struct Places {
+    a: Place,
+    b: Place,
+}
+
+#[repr(C)]
+pub(crate) struct ToldPlace {
+    pub(crate) fault: u32,
+    pub(crate) place: Place,
+}
+
+#[repr(C)]
+pub(crate) struct ToldPoint {
+    pub(crate) fault: u32,
+    pub(crate) x: i32,
+    pub(crate) y: i32,
+}
+
+#[repr(C)]
+pub(crate) struct ToldStep {
+    pub(crate) fault: u32,
+    pub(crate) x: i64,
+    pub(crate) y: i64,
+    pub(crate) place: Place,
+}
+
+#[repr(C)]
+pub(crate) struct ToldPair {
+    pub(crate) fault: u32,
+    pub(crate) places: Places,
+}
+
+#[repr(C)]
+pub(crate) struct ToldNext {
+    pub(crate) fault: u32,
+    pub(crate) corners: u32,
+    pub(crate) x: i32,
+    pub(crate) y: i32,
+    pub(crate) places: Places,
+}
+
+type AllPairs = unsafe extern "C" fn(
+    *const u32,
+    usize,
+    *const i32,
+    usize,
+    IntRect,
+    *const u32,
+    usize,
+    *const i32,
+    usize,
+    IntRect,
+    *mut u32,
+    usize,
+    *mut i32,
+    usize,
+) -> ToldPairs;
+
+#[rustfmt::skip]
+extern "C" {
+    fn bezinkwolu_mesh_fault(mesh: *const Row, triangles: usize) -> u32;
+    fn bezinkwolu_to_convex_polygons(mesh: *const Row, triangles: usize, starts: *mut u32, starts_room: usize, corners: *mut i32, corners_room: usize) -> Counts;
+    fn bezinkwolu_to_convex_polygons_with_max_vertices(mesh: *const Row, triangles: usize, limit: u32, split: u32, starts: *mut u32, starts_room: usize, corners: *mut i32, corners_room: usize) -> Counts;
+    fn bezinkwolu_read_table(bytes: *const u8, length: usize, starts: *mut u32, starts_room: usize, corners: *mut i32, corners_room: usize) -> Counts;
+    fn bezinkwolu_write_table(starts: *const u32, starts_length: usize, corners: *const i32, corners_length: usize, bytes: *mut u8, bytes_room: usize) -> ToldLength;
+    fn bezinkwolu_show_part(left_starts: *const u32, left_starts_length: usize, left_corners: *const i32, left_corners_length: usize, right_starts: *const u32, right_starts_length: usize, right_corners: *const i32, right_corners_length: usize, right: bool, k: u32) -> ToldPart;
+    fn bezinkwolu_sum_parts(left_starts: *const u32, left_starts_length: usize, left_corners: *const i32, left_corners_length: usize, left_bounds: IntRect, right_starts: *const u32, right_starts_length: usize, right_corners: *const i32, right_corners_length: usize, right_bounds: IntRect, starts: *mut u32, starts_room: usize, corners: *mut i32, corners_room: usize) -> ToldPairs;
+    fn bezinkwolu_difference_parts(left_starts: *const u32, left_starts_length: usize, left_corners: *const i32, left_corners_length: usize, left_bounds: IntRect, right_starts: *const u32, right_starts_length: usize, right_corners: *const i32, right_corners_length: usize, right_bounds: IntRect, starts: *mut u32, starts_room: usize, corners: *mut i32, corners_room: usize) -> ToldPairs;
+    fn bezinkwolu_walk_begin(contour: *const i32, length: usize, reflected: bool) -> ToldPlace;
+    fn bezinkwolu_walk_point(contour: *const i32, length: usize, at: Place) -> ToldPoint;
+    fn bezinkwolu_walk_next(contour: *const i32, length: usize, at: Place) -> ToldStep;
+    fn bezinkwolu_pair_new(left: *const i32, left_length: usize, right: *const i32, right_length: usize) -> ToldPair;
+    fn bezinkwolu_pair_difference(left: *const i32, left_length: usize, right: *const i32, right_length: usize) -> ToldPair;
+    fn bezinkwolu_pair_next(left: *const i32, left_length: usize, right: *const i32, right_length: usize, at: Places) -> ToldNext;
+}
+
+/// What a call tells that writes starts and corners.
+trait Told: Copy {
+    fn fault(self) -> u32;
+    fn parts(self) -> usize;
+    fn corners(self) -> usize;
+}
+
+impl Told for Counts {
+    fn fault(self) -> u32 {
+        self.fault
+    }
+
+    fn parts(self) -> usize {
+        self.parts as usize
+    }
+
+    fn corners(self) -> usize {
+        self.corners as usize
+    }
+}
+
+impl Told for ToldPairs {
+    fn fault(self) -> u32 {
+        self.fault
+    }
+
+    fn parts(self) -> usize {
+        self.contours as usize
+    }
+
+    fn corners(self) -> usize {
+        self.corners as usize
+    }
+}
+
+/// Lends memory for so many starts and so many numbers, and makes a table of what the call wrote there. The memory has no first values: what the
+/// answer does not need is never touched.
+///
+/// # Safety
+/// The call writes within what it is lent. Where it tells no fault it has written one start more than it tells parts, and two numbers for each corner.
+unsafe fn lend<T: Told>(starts_room: usize, numbers_room: usize, call: impl FnOnce(*mut u32, *mut i32) -> T) -> Result<(T, PartTable), Error> {
+    let mut starts: Vec<u32> = Vec::with_capacity(starts_room);
+    let mut numbers: Vec<i32> = Vec::with_capacity(numbers_room);
+    let told = call(starts.as_mut_ptr(), numbers.as_mut_ptr());
+    Error::told(told.fault())?;
+    // SAFETY: so many were written, into what was lent.
+    unsafe {
+        starts.set_len(told.parts() + 1);
+        numbers.set_len(2 * told.corners());
+    }
+    starts.shrink_to_fit();
+    numbers.shrink_to_fit();
+    Ok((told, PartTable::of_lists(starts, numbers)))
+}
+
+// ---- Below, each call is sound for one reason: a slice passes as its place and its length, for the call alone; what is written is lent by `lend`, with the
+// length that is told to the call; and the prover has shown of each function that it takes any input and touches nothing but that.
+
+/// Document 01's limits: past them a mesh or a table is refused whatever the room, so that none is lent for more.
+const MAX_TRIANGLES: usize = 1024;
+const MAX_PARTS: usize = 2048;
+const MAX_CORNERS: usize = 8192;
+
+pub(crate) fn mesh_fault(mesh: &[Row]) -> u32 {
+    // SAFETY: as above.
+    unsafe { bezinkwolu_mesh_fault(mesh.as_ptr(), mesh.len()) }
+}
+
+/// A part takes a triangle or more, and has at most three corners for each.
+pub(crate) fn to_convex_polygons(mesh: &[Row]) -> Result<PartTable, Error> {
+    let n = mesh.len().min(MAX_TRIANGLES);
+    let (s, c) = (n + 1, 6 * n);
+    // SAFETY: as above.
+    let told = unsafe {
+        lend(s, c, |starts, corners| {
+            bezinkwolu_to_convex_polygons(mesh.as_ptr(), mesh.len(), starts, s, corners, c)
+        })
+    };
+    told.map(|(_, table)| table)
+}
+
+/// A split makes at most two parts for each triangle, and six corners.
+pub(crate) fn to_convex_polygons_with_max_vertices(mesh: &[Row], limit: u32, split: u32) -> Result<PartTable, Error> {
+    let n = mesh.len().min(MAX_TRIANGLES);
+    let (s, c) = (2 * n + 1, 12 * n);
+    // SAFETY: as above.
+    let told = unsafe {
+        lend(s, c, |starts, corners| {
+            bezinkwolu_to_convex_polygons_with_max_vertices(mesh.as_ptr(), mesh.len(), limit, split, starts, s, corners, c)
+        })
+    };
+    told.map(|(_, table)| table)
+}
+
+/// An operand: a table and its bounds.
+pub(crate) type Operand<'a> = (&'a PartTable, IntRect);
+
+/// All pair sums or differences, and the bounds of the result. A pair has at most the corners of both its parts.
+pub(crate) fn all_pairs(difference: bool, left: Operand, right: Operand) -> Result<(PartTable, IntRect), Error> {
+    let call: AllPairs = if difference { bezinkwolu_difference_parts } else { bezinkwolu_sum_parts };
+    let ((left, lb), (right, rb)) = (left, right);
+    let parts = |table: &PartTable| table.len().min(MAX_PARTS);
+    let corners = |table: &PartTable| table.corner_count().min(MAX_CORNERS);
+    let s = parts(left) * parts(right) + 1;
+    let c = 2 * (parts(right) * corners(left) + parts(left) * corners(right));
+    let ((ls, lc), (rs, rc)) = (left.lists(), right.lists());
+    // SAFETY: as above.
+    let told = unsafe {
+        lend(s, c, |starts, corners| {
+            call(
+                ls.as_ptr(),
+                ls.len(),
+                lc.as_ptr(),
+                lc.len(),
+                lb,
+                rs.as_ptr(),
+                rs.len(),
+                rc.as_ptr(),
+                rc.len(),
+                rb,
+                starts,
+                s,
+                corners,
+                c,
+            )
+        })
+    };
+    told.map(|(told, table)| (table, told.bounds))
+}
+
+/// A stored table has four bytes for each start and for each number.
+pub(crate) fn read_table(bytes: &[u8]) -> Result<PartTable, Error> {
+    let words = bytes.len() / size_of::<u32>();
+    let (s, c) = (words.min(MAX_PARTS + 1), words.min(2 * MAX_CORNERS));
+    // SAFETY: as above.
+    let told = unsafe {
+        lend(s, c, |starts, corners| {
+            bezinkwolu_read_table(bytes.as_ptr(), bytes.len(), starts, s, corners, c)
+        })
+    };
+    told.map(|(_, table)| table)
+}
+
+/// The two counts, the starts and the numbers.
+pub(crate) fn write_table(table: &PartTable) -> Result<Vec<u8>, Error> {
+    let (starts, corners) = table.lists();
+    let words = 2 + starts.len().min(MAX_PARTS + 1) + corners.len().min(2 * MAX_CORNERS);
+    let room = size_of::<u32>() * words;
+    let mut bytes: Vec<u8> = Vec::with_capacity(room);
+    // SAFETY: as above; and the call writes as many bytes as it tells, at the front.
+    unsafe {
+        let told = bezinkwolu_write_table(starts.as_ptr(), starts.len(), corners.as_ptr(), corners.len(), bytes.as_mut_ptr(), room);
+        Error::told(told.fault)?;
+        bytes.set_len(told.length);
+    }
+    Ok(bytes)
+}
+
+pub(crate) fn show_part(left: &PartTable, right: &PartTable, of_right: bool, k: u32) -> ToldPart {
+    let ((ls, lc), (rs, rc)) = (left.lists(), right.lists());
+    // SAFETY: as above.
+    unsafe {
+        bezinkwolu_show_part(
+            ls.as_ptr(),
+            ls.len(),
+            lc.as_ptr(),
+            lc.len(),
+            rs.as_ptr(),
+            rs.len(),
+            rc.as_ptr(),
+            rc.len(),
+            of_right,
+            k,
+        )
+    }
+}
+
+pub(crate) fn walk_begin(contour: &[i32], reflected: bool) -> ToldPlace {
+    // SAFETY: as above.
+    unsafe { bezinkwolu_walk_begin(contour.as_ptr(), contour.len(), reflected) }
+}
+
+pub(crate) fn walk_point(contour: &[i32], at: Place) -> ToldPoint {
+    // SAFETY: as above.
+    unsafe { bezinkwolu_walk_point(contour.as_ptr(), contour.len(), at) }
+}
+
+pub(crate) fn walk_next(contour: &[i32], at: Place) -> ToldStep {
+    // SAFETY: as above.
+    unsafe { bezinkwolu_walk_next(contour.as_ptr(), contour.len(), at) }
+}
+
+pub(crate) fn pair_begin(difference: bool, left: &[i32], right: &[i32]) -> ToldPair {
+    let call = if difference { bezinkwolu_pair_difference } else { bezinkwolu_pair_new };
+    // SAFETY: as above.
+    unsafe { call(left.as_ptr(), left.len(), right.as_ptr(), right.len()) }
+}
+
+pub(crate) fn pair_next(left: &[i32], right: &[i32], at: Places) -> ToldNext {
+    // SAFETY: as above.
+    unsafe { bezinkwolu_pair_next(left.as_ptr(), left.len(), right.as_ptr(), right.len(), at) }
+}

@@ -1,0 +1,46 @@
+-- `boundary_pairs::bezinkwolu_sum_parts` meets its contract: `sum_parts`, its answer laid out for C. Assumes nothing.
+use mathlib.Core.Bool.{false}
+use borrow.Author.Needs.{needs}
+use Rattle.boundary_pairs.proofs.Answer.{as-told}
+use Rattle.boundary_pairs.proofs.bezinkwolu_sum_parts.Statement.{statement}
+use Rattle.boundary_pairs.proofs.bezinkwolu_sum_parts.Tie as tie
+
+rect-requires : tie.Need-rect-requires
+rect-requires c κs = search needs
+
+rect-requires-2 : tie.Need-rect-requires-2
+rect-requires-2 c κs = search needs
+
+sum-parts-requires : tie.Need-sum-parts-requires
+sum-parts-requires c κs = search needs
+
+told-requires : tie.Need-told-requires
+told-requires c κs = search needs
+
+same-length : tie.Need-same-length
+same-length c = search needs
+
+same-length-2 : tie.Need-same-length-2
+same-length-2 c = search needs
+
+returns : tie.Need-returns
+returns c =
+    let d = c .before .before .before .before in
+    let t = d .before .before .before in
+    let b = t .before .rect .ensures in
+    let s = t .before .before .before .before .before .args in
+    let e = d .sum-parts .ensures in
+    as-told false (s .left-starts .now) (s .left-corners .now) (s .left-bounds) (s .right-starts .now) (s .right-corners .now) (s .right-bounds) (s .starts .now) (s .corners .now)
+    b (t .rect2 .ensures) (c .told .ensures) (e .0) (e .1 .0) (e .1 .1)
+
+pub bezinkwolu-sum-parts-spec : {M : Type 1} → statement M
+bezinkwolu-sum-parts-spec =
+    tie.close
+    (tie.spec
+    rect-requires
+    rect-requires-2
+    sum-parts-requires
+    told-requires
+    same-length
+    same-length-2
+    returns)

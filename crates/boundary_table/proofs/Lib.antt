@@ -1,0 +1,2 @@
+-- Laws of what C is told of part tables.
+pub mod Place
