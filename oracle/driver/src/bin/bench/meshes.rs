@@ -1,8 +1,8 @@
 //! Joining and splitting, timed: the Rust's `to_convex_polygons` and ours on the same
-//! meshes of 1,024 triangles, and `to_convex_polygons_with_max_vertices` of both on
-//! those, on few triangles and on some. A line for each kind of mesh: the call alone,
-//! and with the checks that accept the mesh, which the Rust has not; both for one mesh
-//! again and again, and for another mesh each time.
+//! meshes of 1 to 1,024 triangles, and `to_convex_polygons_with_max_vertices` of both on
+//! few triangles and on many. A line for each kind of mesh: the call alone, and with the
+//! checks that accept the mesh, which the Rust has not; both for one mesh again and
+//! again, and for another mesh each time.
 
 use crate::timing::{median, timed};
 use driver::boundary::{mesh_fault, to_convex_polygons, to_convex_polygons_with_max_vertices};
@@ -14,18 +14,29 @@ use inputs::contours;
 use inputs::meshes::{self, Mesh};
 use inputs::rng::Rng;
 use judge::limits::TRIANGLES;
+use judge::Point;
 use std::hint::black_box;
 
 /// How many meshes there are of a kind, so many that the processor cannot learn
 /// their branches, as it does of one mesh that comes again and again.
 const MESHES: usize = 64;
 
-/// Joining of every kind of mesh.
+/// Joining of every kind of mesh: of few triangles, and of as many as there may be.
 pub fn joining(rounds: usize) {
     told();
-    for (name, kind) in KINDS {
-        print_ratios(*kind, name, &Joining, rounds);
+    for &(name, kind, sizes) in SMALL_KINDS {
+        for &triangles in sizes {
+            let name = format!("{triangles} triangles: {name}");
+            print_ratios(kind, triangles, &name, &Joining, rounds);
+        }
     }
+    let mut whole = Vec::new();
+    for &(name, kind) in KINDS {
+        whole.extend(print_ratios(kind, TRIANGLES, name, &Joining, rounds));
+    }
+    whole.sort_by(f64::total_cmp);
+    let (middle, greatest) = (whole[whole.len() / 2], whole[whole.len() - 1]);
+    println!("1,024 triangles, with the checks: median {middle:4.2}, greatest {greatest:4.2}");
 }
 
 /// Each split, past two limits.
@@ -36,7 +47,7 @@ pub fn splits(rounds: usize) {
             for limit in [3, 8] {
                 let call = Splitting { limit, split, by };
                 let name = format!("{name}; limit {limit}, {split:?}");
-                print_ratios(*kind, &name, &call, rounds / 4);
+                print_ratios(*kind, TRIANGLES, &name, &call, rounds / 4);
             }
         }
     }
@@ -47,13 +58,29 @@ fn told() {
     println!("one mesh     another each time");
 }
 
-fn print_ratios(kind: fn(&mut Rng) -> Mesh, name: &str, call: &impl Call, rounds: usize) {
+/// Prints a line, and hands back its two numbers with the checks.
+fn print_ratios(
+    kind: Kind,
+    triangles: usize,
+    name: &str,
+    call: &impl Call,
+    rounds: usize,
+) -> [f64; 2] {
     let mut rng = Rng::new(1);
-    let all: Vec<Timed> = (0..MESHES).map(|_| Timed::of(&kind(&mut rng))).collect();
-    let one = ratios(&all[..1], call, rounds);
-    let another = ratios(&all, call, rounds);
-    println!("{one}    {another}    {name}");
+    let all: Vec<Timed> = (0..MESHES)
+        .map(|_| Timed::of(&kind(&mut rng, triangles)))
+        .collect();
+    let [one, another] = [&all[..1], &all[..]].map(|some| ratios(some, call, rounds));
+    println!("{}    {}    {name}", told_of(one), told_of(another));
+    [one[1], another[1]]
 }
+
+fn told_of([alone, whole]: [f64; 2]) -> String {
+    format!("{alone:4.2} {whole:4.2}")
+}
+
+/// A mesh of so many triangles, another each time it is asked for.
+type Kind = fn(&mut Rng, usize) -> Mesh;
 
 /// The two functions that are timed.
 trait Call {
@@ -97,32 +124,126 @@ impl Call for Splitting {
 }
 
 /// One region, many, and meshes of few triangles.
-const SPLIT_KINDS: &[(&str, fn(&mut Rng) -> Mesh)] = &[
-    ("one region: polygon of 1,026 corners", |rng| {
-        meshes::renumbered(rng, &fan())
+const SPLIT_KINDS: &[(&str, Kind)] = &[
+    ("one region: polygon of 1,026 corners", |rng, triangles| {
+        let mesh = fan(rng, triangles);
+        meshes::renumbered(rng, &mesh)
     }),
-    ("128 regions of ten corners", |rng| {
+    ("128 regions of ten corners", |rng, triangles| {
         let polygon = decagon(rng);
-        meshes::copies(rng, &polygon, TRIANGLES / 8)
+        meshes::copies(rng, &polygon, triangles / 8)
     }),
     ("512 squares", squares),
-    ("16 triangles: polygon of 18 corners", sixteen),
-    ("2 triangles: a square", two),
+    ("16 triangles: polygon of 18 corners", |rng, _| {
+        cut_renumbered(rng, 16)
+    }),
+    ("2 triangles: a square", |rng, _| square(rng, 2)),
 ];
 
-pub fn sixteen(rng: &mut Rng) -> Mesh {
-    let mesh = meshes::linked(&meshes::polygon(rng, &meshes::parabola(18)));
+/// Few triangles, which most patterns are: one region, and many.
+const SMALL_KINDS: &[(&str, Kind, &[usize])] = &[
+    (
+        "one region, a polygon cut at random",
+        cut_renumbered,
+        &[1, 8, 16, 64, 128],
+    ),
+    ("one region, a square", square, &[2]),
+    ("many regions, an uneven strip", strip, &[8, 16, 64, 128]),
+    ("many regions, triangles apart", apart, &[2, 8, 16, 64, 128]),
+];
+
+/// As many triangles as there may be: one region, some, and as many as triangles.
+const KINDS: &[(&str, Kind)] = &[
+    ("one region: polygon, a fan", fan),
+    (
+        "one region: polygon, a fan, renumbered",
+        |rng, triangles| {
+            let mesh = fan(rng, triangles);
+            meshes::renumbered(rng, &mesh)
+        },
+    ),
+    ("one region: polygon, cut at random", cut),
+    ("one region: the same, renumbered", cut_renumbered),
+    ("one region: level strip", level),
+    ("one region: level strip, renumbered", |rng, triangles| {
+        let mesh = level(rng, triangles);
+        meshes::renumbered(rng, &mesh)
+    }),
+    ("some regions: grid of 32 by 16 squares", grid),
+    ("some regions: the same, renumbered", |rng, triangles| {
+        let mesh = grid(rng, triangles);
+        meshes::renumbered(rng, &mesh)
+    }),
+    ("many regions: uneven strip", strip),
+    ("many regions: the same, renumbered", |rng, triangles| {
+        let mesh = strip(rng, triangles);
+        meshes::renumbered(rng, &mesh)
+    }),
+    ("many regions: squares apart", squares),
+    ("many regions: triangles apart", apart),
+];
+
+/// A strictly convex polygon, begun at any of its corners.
+fn polygon(rng: &mut Rng, corners: usize) -> Vec<Point> {
+    let mut contour = meshes::parabola(corners);
+    contour.rotate_left(rng.below(corners));
+    contour
+}
+
+fn fan(rng: &mut Rng, triangles: usize) -> Mesh {
+    meshes::linked(&meshes::fan(&polygon(rng, triangles + 2)))
+}
+
+fn cut(rng: &mut Rng, triangles: usize) -> Mesh {
+    meshes::linked(&meshes::polygon(rng, &meshes::parabola(triangles + 2)))
+}
+
+fn cut_renumbered(rng: &mut Rng, triangles: usize) -> Mesh {
+    let mesh = cut(rng, triangles);
     meshes::renumbered(rng, &mesh)
 }
 
-pub fn two(rng: &mut Rng) -> Mesh {
+fn strip(rng: &mut Rng, triangles: usize) -> Mesh {
+    meshes::linked(&meshes::strip(rng, triangles as i32 / 2))
+}
+
+fn grid(rng: &mut Rng, triangles: usize) -> Mesh {
+    meshes::linked(&meshes::grid(rng, triangles as i32 / 32, 16, 3))
+}
+
+fn square(rng: &mut Rng, _: usize) -> Mesh {
     let mesh = meshes::linked(&meshes::grid(rng, 1, 1, 4));
     meshes::renumbered(rng, &mesh)
 }
 
-pub fn squares(rng: &mut Rng) -> Mesh {
+/// A row of squares, each cut by either diagonal: all corners but four lie in line.
+fn level(rng: &mut Rng, triangles: usize) -> Mesh {
+    let mut square = |i: i32| {
+        let [a, b, c, d] = [(i, 0), (i + 1, 0), (i + 1, 1), (i, 1)];
+        if rng.once_in(2) {
+            [[a, b, d], [b, c, d]]
+        } else {
+            [[a, c, d], [a, b, c]]
+        }
+    };
+    let triangles: Vec<_> = (0..triangles as i32 / 2).flat_map(&mut square).collect();
+    meshes::linked(&triangles)
+}
+
+fn squares(rng: &mut Rng, triangles: usize) -> Mesh {
     let square = meshes::linked(&meshes::grid(rng, 1, 1, 3));
-    meshes::copies(rng, &square, TRIANGLES / 2)
+    meshes::copies(rng, &square, triangles / 2)
+}
+
+/// Triangles of any shape that has an area, none linked.
+fn apart(rng: &mut Rng, triangles: usize) -> Mesh {
+    let mut mesh = meshes::apart(triangles);
+    for triangle in &mut mesh {
+        let [x, y, far] = [0; 3].map(|_| rng.below(99) as i32);
+        triangle.points = [(x, y), (x + 1 + far, y), (far, y + 1 + x)];
+        triangle.points.rotate_left(rng.below(3));
+    }
+    mesh
 }
 
 /// A strictly convex contour of ten corners, cut at random: eight triangles.
@@ -133,67 +254,6 @@ fn decagon(rng: &mut Rng) -> Mesh {
             return meshes::linked(&meshes::polygon(rng, &contour));
         }
     }
-}
-
-/// One region, some, and as many as there are triangles; meshes of few triangles.
-const KINDS: &[(&str, fn(&mut Rng) -> Mesh)] = &[
-    ("one region: polygon, a fan", |_| fan()),
-    ("one region: polygon, a fan, renumbered", |rng| {
-        meshes::renumbered(rng, &fan())
-    }),
-    ("one region: polygon, cut at random", cut),
-    ("one region: the same, renumbered", |rng| {
-        let mesh = cut(rng);
-        meshes::renumbered(rng, &mesh)
-    }),
-    ("one region: level strip", |_| level()),
-    ("one region: level strip, renumbered", |rng| {
-        meshes::renumbered(rng, &level())
-    }),
-    ("some regions: grid of 32 by 16 squares", grid),
-    ("some regions: the same, renumbered", |rng| {
-        let mesh = grid(rng);
-        meshes::renumbered(rng, &mesh)
-    }),
-    ("many regions: uneven strip", strip),
-    ("many regions: the same, renumbered", |rng| {
-        let mesh = strip(rng);
-        meshes::renumbered(rng, &mesh)
-    }),
-    ("many regions: squares apart", squares),
-    ("many regions: triangles apart", |_| {
-        meshes::apart(TRIANGLES)
-    }),
-    ("16 triangles: polygon of 18 corners", sixteen),
-    ("2 triangles: a square", two),
-];
-
-fn fan() -> Mesh {
-    meshes::linked(&meshes::fan(&meshes::parabola(TRIANGLES + 2)))
-}
-
-fn cut(rng: &mut Rng) -> Mesh {
-    meshes::linked(&meshes::polygon(rng, &meshes::parabola(TRIANGLES + 2)))
-}
-
-fn strip(rng: &mut Rng) -> Mesh {
-    meshes::linked(&meshes::strip(rng, TRIANGLES as i32 / 2))
-}
-
-fn grid(rng: &mut Rng) -> Mesh {
-    meshes::linked(&meshes::grid(rng, 32, 16, 3))
-}
-
-/// A row of squares, each cut by the same diagonal: all corners but four lie in line.
-fn level() -> Mesh {
-    let square = |i: i32| {
-        [
-            [(i, 0), (i + 1, 0), (i, 1)],
-            [(i + 1, 0), (i + 1, 1), (i, 1)],
-        ]
-    };
-    let triangles: Vec<_> = (0..TRIANGLES as i32 / 2).flat_map(square).collect();
-    meshes::linked(&triangles)
 }
 
 /// A mesh as each side takes it, made before anything is timed.
@@ -214,7 +274,7 @@ impl Timed {
 }
 
 /// The Rust, ours, and our checks alone, in turn, each on another of the meshes.
-fn ratios(all: &[Timed], call: &impl Call, rounds: usize) -> String {
+fn ratios(all: &[Timed], call: &impl Call, rounds: usize) -> [f64; 2] {
     let mut starts = vec![0; 2 * TRIANGLES + 1];
     let mut corners = vec![0; 12 * TRIANGLES];
     // A call on a small mesh is so short that the clock is read but once for some.
@@ -233,5 +293,5 @@ fn ratios(all: &[Timed], call: &impl Call, rounds: usize) -> String {
         checks.push(timed(times, |k| mesh_fault(at(k + 40).ours[..].into())));
     }
     let [rust, whole, checks] = [rust, whole, checks].map(median);
-    format!("{:4.2} {:4.2}", (whole - checks) / rust, whole / rust)
+    [(whole - checks) / rust, whole / rust]
 }
