@@ -79,7 +79,7 @@ loop-again c =
     let rows = l .before .args .mesh .now in
     let a = got w64 (d .before .area-of .result) (d .before .area-of .ok) ∙ d .before .area-of .ensures .0 in
     let q = total-of _ (c .before .sum .given .0 .0) (ap (λ z. addedOf (toZ w64 (l .loop .total) +ℤ z)) (sym a) ∙ sym (d .add-area .ensures) ∙ c .before .sum .given .1) in
-    (omega arith, subst (Going rows (l .loop .k + 1)) (sym (kept (search needs) ∙ q .0)) (going-next rows (l .loop .k) (omega arith) (l .loop .inv .1) (sym (f .before .row-clean .ensures) ∙ not-false _ (f .if1 .left)) (q .1)))
+    (omega arith, subst (Going rows (l .loop .k + 1)) (sym (kept {w = w64} {z = c .before .sum .given .0 .0} (search needs) ∙ q .0)) (going-next rows (l .loop .k) (omega arith) (l .loop .inv .1) (sym (f .before .row-clean .ensures) ∙ not-false _ (f .if1 .left)) (q .1)))
 
 returns-3 : tie.Need-returns-3 Inv-loop μ-loop
 returns-3 c = going-end (c .before .before .args .mesh .now) (c .before .loop .k) (omega arith) (c .before .loop .inv .1)
