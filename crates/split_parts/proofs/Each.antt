@@ -1,10 +1,10 @@
 -- Joined parts split one after another: the parts of equal contours (`at-part`); the parts of the first k contours, one more a turn (`each-more`, `room-at`), and none at first (`first-gathered`); the parts gathered are
--- those that the buffers hold (`parts-in`), so joined parts can be split (`splittable`), there is
--- room for all of theirs (`room-all`), and they are the mesh's (`gathered-in`). Assumes
+-- those that the buffers hold (`parts-in`), so joined parts can be split (`splittable`), into at most twice as many as there are triangles, with six corners
+-- for each (`few-in`); there is room for all of them (`room-all`, `holds-all`), and they are the mesh's (`gathered-in`). Assumes
 -- an accepted mesh where it says so.
 use mathlib.Core.Path.{_≡_, refl, sym, _∙_, ap, subst}
 use mathlib.Core.List.{List, [], _∷_, _++_, map, flatten, map-append, append-nil}
-use Prim.Native.Nat.{ℕ, zero, suc, _+_, _≤_, _<_, _^_}
+use Prim.Native.Nat.{ℕ, zero, suc, _+_, _*_, _≤_, _<_, _^_}
 use native.Mathlib.Omega.{arith}
 use native.Mathlib.Numerals.{add-one}
 use lib.ListN.{length, getD, set, take, drop, take-append-drop}
@@ -15,10 +15,14 @@ use Rattle.integers.specs.Faults.{firstFault}
 use Rattle.integers.proofs.Elements.{all-getD}
 use Rattle.integers.proofs.Sums.{flatten-append}
 use Rattle.plane.specs.Plane.{Pt}
-use Rattle.mesh.specs.Mesh.{Mesh, meshKinds}
+use Rattle.mesh.specs.Mesh.{meshKinds}
+use Rattle.mesh.specs.Rows.{rowsMesh}
+use Rattle.mesh.proofs.Accepted.{accepted}
+use Rattle.mesh.proofs.Rows.{length-rows}
 use Rattle.table.specs.Table.{startsFrom, startsOf, partsOf}
 use Rattle.table.proofs.Parts.{parts-starts}
 use Rattle.convex.specs.Joining.{parts}
+use Rattle.convex.proofs.Sizes.{parts-corners}
 use Rattle.convex_contour.specs.Contour.{firstPoints}
 use Rattle.convex_gather.specs.declared.Tally.{Tally}
 use Rattle.convex_gather.specs.Gather.{Gathered, RoomFor, PartsAppended}
@@ -26,7 +30,7 @@ use Rattle.convex_gather.proofs.Reading.{PartPlaced, enough-starts, part-placed
 use Rattle.convex_gather.proofs.Gathering.{then-appended, room-first, room-rest}
 use Rattle.split.specs.declared.ConvexSplitStrategy.{ConvexSplitStrategy}
 use Rattle.split.specs.Splitting.{raised, splitContour, splitParts}
-use Rattle.split.proofs.Sizes.{split-table}
+use Rattle.split.proofs.Sizes.{split-parts-few}
 use Rattle.split_centre.specs.Centre.{Summable}
 use Rattle.split_pairs.proofs.Joined.{parts-summable}
 use Rattle.split_parts.specs.Parts.{partsIn, Splittable, splitEach}
@@ -90,21 +94,34 @@ module _ (s : List ℕ) (p : List (List ℤ)) (t : Tally) (k : ℕ) (j : Splitta
   pub sums-fit : Summable (getD (partsIn s p t) k [])
   sums-fit = all-getD Summable (partsIn s p t) [] (j .summable) k (omega (arith, h, j .gathered .parts))
 
-module _ (s : List ℕ) (p : List (List ℤ)) (t : Tally) (mesh : Mesh) (e : firstFault (meshKinds mesh) ≡ 0) (g : Gathered s p t (parts mesh)) where
+-- those of the mesh that lent rows are
+module _ (s : List ℕ) (p : List (List ℤ)) (t : Tally) (rows : List (List ℤ)) (e : firstFault (meshKinds (rowsMesh rows)) ≡ 0) (g : Gathered s p t (parts (rowsMesh rows))) where
   pub splittable : Splittable s p t
-  splittable = record { gathered = subst (Gathered s p t) (sym (parts-in s p t (parts mesh) g)) g; summable = subst (All Summable) (sym (parts-in s p t (parts mesh) g)) (parts-summable mesh e) }
+  splittable =
+      let q = sym (parts-in s p t (parts (rowsMesh rows)) g) in
+      record { gathered = subst (Gathered s p t) q g; summable = subst (All Summable) q (parts-summable (rowsMesh rows) e) }
 
   module _ (how : ConvexSplitStrategy) (m : ℕ) {r : ℕ} (q : r ≡ raised m) where
     -- they split as the mesh's parts do
-    pub split-in : splitEach how r (partsIn s p t) ≡ splitParts how m mesh
+    pub split-in : splitEach how r (partsIn s p t) ≡ splitParts how m (rowsMesh rows)
     unfolding splitParts
-    split-in = (λ i. splitEach how (q i) (parts-in s p t (parts mesh) g i))
+    split-in = (λ i. splitEach how (q i) (parts-in s p t (parts (rowsMesh rows)) g i))
 
-    pub few-in : (length (splitEach how r (partsIn s p t)) ≤ 2048) × (length (flatten (splitEach how r (partsIn s p t))) ≤ 6144)
-    few-in = let f = split-table how m mesh e in (omega (arith, ap length split-in, f .few-parts), omega (arith, ap (λ qs. length (flatten qs)) split-in, f .few-corners))
+    -- Σ 2 (n − 2) parts and Σ 6 (n − 2) corners, and Σ (n − 2) is at most the number of triangles
+    pub few-in : (length (splitEach how r (partsIn s p t)) ≤ 2 * length rows) × (length (flatten (splitEach how r (partsIn s p t))) ≤ 6 * length rows)
+    few-in =
+        let ok = accepted (rowsMesh rows) e in
+        let f = split-parts-few how m (rowsMesh rows) ok in
+        let c = parts-corners (rowsMesh rows) ok in
+        let n = length-rows rows in
+        (omega (arith, ap length split-in, f .some, c, n), omega (arith, ap (λ qs. length (flatten qs)) split-in, f .corners, c, n))
 
-    pub room-all : (s′ : List ℕ) (p′ : List (List ℤ)) → length s′ ≡ 2049 → length p′ ≡ 6144 → RoomFor s′ p′ (record { parts = 0; corners = 0 }) (splitEach how r (partsIn s p t))
-    room-all s′ p′ h k = record { for-starts = omega (arith, h, few-in .0); for-points = omega (arith, k, few-in .1); small = omega (arith, k) }
+    pub room-all : (s′ : List ℕ) (p′ : List (List ℤ)) → 2 * length rows < length s′ → 6 * length rows ≤ length p′ → length p′ < 2 ^ 32 → RoomFor s′ p′ (record { parts = 0; corners = 0 }) (splitEach how r (partsIn s p t))
+    room-all s′ p′ h k b = record { for-starts = omega (arith, h, few-in .0); for-points = omega (arith, k, few-in .1); small = b }
 
-    pub gathered-in : {s′ : List ℕ} {p′ : List (List ℤ)} {t′ : Tally} → Gathered s′ p′ t′ (splitEach how r (partsIn s p t)) → Gathered s′ p′ t′ (splitParts how m mesh)
+    pub gathered-in : {s′ : List ℕ} {p′ : List (List ℤ)} {t′ : Tally} → Gathered s′ p′ t′ (splitEach how r (partsIn s p t)) → Gathered s′ p′ t′ (splitParts how m (rowsMesh rows))
     gathered-in {s′} {p′} {t′} h = subst (Gathered s′ p′ t′) split-in h
+
+    -- and the arrays that they are in, as long as before, hold them
+    pub holds-all : {s′ : List ℕ} {p′ : List (List ℤ)} {t′ : Tally} {a b : ℕ} → Gathered s′ p′ t′ (splitEach how r (partsIn s p t)) → length s′ ≡ a → length p′ ≡ b → 2 * length rows < a → 6 * length rows ≤ b → a < 2 ^ 32 → b < 2 ^ 32 → (t′ .parts < length s′) × (t′ .corners ≤ length p′) × (length s′ < 2 ^ 32) × (length p′ < 2 ^ 32)
+    holds-all h i j k l v w = (omega (arith, h .parts, i, k, few-in .0), omega (arith, h .corners, j, l, few-in .1), omega (arith, i, v), omega (arith, j, w))

@@ -1,6 +1,7 @@
--- Joined parts read from their buffers (`partsIn`), as splitting asks for them (`Splittable`). Assumes nothing.
+-- Joined parts read from their buffers (`partsIn`), as splitting asks for them (`Splittable`);
+-- the work arrays that suffice for a mesh (`WorkRoom`). Assumes nothing.
 use mathlib.Core.List.{List, map, flatten}
-use Prim.Native.Nat.{ℕ, _+_}
+use Prim.Native.Nat.{ℕ, _+_, _*_, _<_, _≤_, _^_}
 use lib.ListN.{take}
 use lib.IntN.{ℤ}
 use Rattle.integers.specs.Lists.{All}
@@ -25,3 +26,12 @@ pub record Splittable (starts : List ℕ) (points : List (List ℤ)) (t : Tally)
 -- each of some parts split
 abbrev pub splitEach : ConvexSplitStrategy → ℕ → List (List Pt) → List (List Pt)
 splitEach how m ps = flatten (map (splitContour how m) ps)
+
+-- work arrays of these lengths hold the parts of any mesh of n triangles, joined and split, and every place has a number of 32 bits
+pub record WorkRoom (n begins joined splitBegins points : ℕ) : Type 0 where
+  pub for-begins : n < begins
+  pub for-joined : 3 * n ≤ joined
+  pub for-split-begins : 2 * n < splitBegins
+  pub for-points : 6 * n ≤ points
+  pub few-starts : splitBegins < 2 ^ 32
+  pub few-points : points < 2 ^ 32

@@ -1,15 +1,20 @@
 // Joining with parts past a corner limit split (advanced/convex.rs): `to_convex_polygons_with_max_vertices`, with no `requires`. Its answer and both lent
 // buffers equal `splitCounts`, `splitStarts` and `splitCorners` of split/specs/Splitting.antt. The joined parts are gathered, each is split into
-// further buffers, and all are handed out once there is room. Leans on convex_regions, split_contour and convex_gather.
+// further buffers, and all are handed out once there is room. The work arrays come in three sizes by the mesh's, so that a small mesh does not wait for
+// the filling of large ones. Leans on convex_regions, split_contour and convex_gather.
 ghost use mathlib.Core.Path.{_≡_};
 ghost use Prim.Native.Nat.{_+_, _<_, _≤_, max};
 ghost use lib.ListN.{length, getD};
 ghost use mathlib.Core.List.{[]};
+ghost use Rattle.integers.specs.Faults.{firstFault};
+ghost use Rattle.mesh.specs.Mesh.{meshKinds};
 ghost use Rattle.mesh.specs.Rows.{rowsMesh};
 ghost use Rattle.split.specs.Splitting.{raised, splitContour, splitCounts, splitStarts, splitCorners};
 ghost use Rattle.convex_gather.specs.Gather.{Gathered, RoomFor, PartsAppended};
-ghost use Rattle.split_parts.specs.Parts.{partsIn, Splittable, splitEach};
+ghost use Rattle.split_parts.specs.Parts.{partsIn, Splittable, splitEach, WorkRoom};
 use convex_gather::Tally;
+use convex_regions::SMALL;
+use convex_regions::TINY;
 use split::ConvexSplitStrategy;
 use table::Counts;
 
@@ -72,6 +77,119 @@ fn split_all(
     t
 }
 
+// The parts of an accepted mesh, by way of lent work arrays that hold those of any mesh of so many triangles.
+fn split_within(
+    mesh: &[[i32; 9]],
+    limit: u32,
+    strategy: ConvexSplitStrategy,
+    begins: &mut [u32],
+    joined: &mut [[i32; 2]],
+    split_begins: &mut [u32],
+    points: &mut [[i32; 2]],
+    starts: &mut [u32],
+    corners: &mut [i32],
+) -> Counts
+    requires { ⌜ (firstFault (meshKinds (rowsMesh (now mesh))) ≡ 0) × WorkRoom (length (now mesh)) (length (now begins)) (length (now joined)) (length (now «split_begins»)) (length (now points)) ⌝ }
+    ensures counts { λ r. ⌜ r ≡ splitCounts strategy limit (rowsMesh (now (mesh .entry))) (now (starts .entry)) (now (corners .entry)) ⌝ }
+    ensures starts { λ r. ⌜ now (starts .exit) ≡ splitStarts strategy limit (rowsMesh (now (mesh .entry))) (now (starts .entry)) (now (corners .entry)) ⌝ }
+    ensures corners { λ r. ⌜ now (corners .exit) ≡ splitCorners strategy limit (rowsMesh (now (mesh .entry))) (now (starts .entry)) (now (corners .entry)) ⌝ }
+{
+    let u = convex_regions::gather(mesh, begins, joined);
+    let most = raised(limit);
+    let t = split_all(begins, joined, u, most, strategy, split_begins, points);
+    convex_gather::hand_out(split_begins, points, t, starts, corners)
+}
+
+// The parts of a tiny mesh that is accepted.
+fn split_tiny(
+    mesh: &[[i32; 9]],
+    limit: u32,
+    strategy: ConvexSplitStrategy,
+    starts: &mut [u32],
+    corners: &mut [i32],
+) -> Counts
+    requires { ⌜ (length (now mesh) ≤ 16) × (firstFault (meshKinds (rowsMesh (now mesh))) ≡ 0) ⌝ }
+    ensures counts { λ r. ⌜ r ≡ splitCounts strategy limit (rowsMesh (now (mesh .entry))) (now (starts .entry)) (now (corners .entry)) ⌝ }
+    ensures starts { λ r. ⌜ now (starts .exit) ≡ splitStarts strategy limit (rowsMesh (now (mesh .entry))) (now (starts .entry)) (now (corners .entry)) ⌝ }
+    ensures corners { λ r. ⌜ now (corners .exit) ≡ splitCorners strategy limit (rowsMesh (now (mesh .entry))) (now (starts .entry)) (now (corners .entry)) ⌝ }
+{
+    let mut begins = [0u32; TINY + 1];
+    let mut joined = [[0i32; 2]; 3 * TINY];
+    let mut split_begins = [0u32; 2 * TINY + 1];
+    let mut points = [[0i32; 2]; 6 * TINY];
+    split_within(
+        mesh,
+        limit,
+        strategy,
+        &mut begins,
+        &mut joined,
+        &mut split_begins,
+        &mut points,
+        starts,
+        corners,
+    )
+}
+
+// The parts of a small mesh that is accepted.
+fn split_small(
+    mesh: &[[i32; 9]],
+    limit: u32,
+    strategy: ConvexSplitStrategy,
+    starts: &mut [u32],
+    corners: &mut [i32],
+) -> Counts
+    requires { ⌜ (length (now mesh) ≤ 128) × (firstFault (meshKinds (rowsMesh (now mesh))) ≡ 0) ⌝ }
+    ensures counts { λ r. ⌜ r ≡ splitCounts strategy limit (rowsMesh (now (mesh .entry))) (now (starts .entry)) (now (corners .entry)) ⌝ }
+    ensures starts { λ r. ⌜ now (starts .exit) ≡ splitStarts strategy limit (rowsMesh (now (mesh .entry))) (now (starts .entry)) (now (corners .entry)) ⌝ }
+    ensures corners { λ r. ⌜ now (corners .exit) ≡ splitCorners strategy limit (rowsMesh (now (mesh .entry))) (now (starts .entry)) (now (corners .entry)) ⌝ }
+{
+    let mut begins = [0u32; SMALL + 1];
+    let mut joined = [[0i32; 2]; 3 * SMALL];
+    let mut split_begins = [0u32; 2 * SMALL + 1];
+    let mut points = [[0i32; 2]; 6 * SMALL];
+    split_within(
+        mesh,
+        limit,
+        strategy,
+        &mut begins,
+        &mut joined,
+        &mut split_begins,
+        &mut points,
+        starts,
+        corners,
+    )
+}
+
+// The parts of any mesh that is accepted.
+fn split_large(
+    mesh: &[[i32; 9]],
+    limit: u32,
+    strategy: ConvexSplitStrategy,
+    starts: &mut [u32],
+    corners: &mut [i32],
+) -> Counts
+    requires { ⌜ (length (now mesh) ≤ 1024) × (firstFault (meshKinds (rowsMesh (now mesh))) ≡ 0) ⌝ }
+    ensures counts { λ r. ⌜ r ≡ splitCounts strategy limit (rowsMesh (now (mesh .entry))) (now (starts .entry)) (now (corners .entry)) ⌝ }
+    ensures starts { λ r. ⌜ now (starts .exit) ≡ splitStarts strategy limit (rowsMesh (now (mesh .entry))) (now (starts .entry)) (now (corners .entry)) ⌝ }
+    ensures corners { λ r. ⌜ now (corners .exit) ≡ splitCorners strategy limit (rowsMesh (now (mesh .entry))) (now (starts .entry)) (now (corners .entry)) ⌝ }
+{
+    let mut begins = [0u32; mesh::MAX_TRIANGLES + 1];
+    let mut joined = [[0i32; 2]; 3 * mesh::MAX_TRIANGLES];
+    let mut split_begins = [0u32; 2 * mesh::MAX_TRIANGLES + 1];
+    let mut points = [[0i32; 2]; 6 * mesh::MAX_TRIANGLES];
+    split_within(
+        mesh,
+        limit,
+        strategy,
+        &mut begins,
+        &mut joined,
+        &mut split_begins,
+        &mut points,
+        starts,
+        corners,
+    )
+}
+
 // The convex parts of a mesh, those past `limit` corners split by `strategy`: starts and corners (x, y in turn) on the front of the lent buffers. A refusal
 // (1, 2, 3, 4, 5, 6, 11, 22 or 21) gives zero counts and changes nothing.
 pub fn to_convex_polygons_with_max_vertices(
@@ -89,19 +207,12 @@ pub fn to_convex_polygons_with_max_vertices(
     if fault != 0 {
         return convex_gather::refusal(fault);
     }
-    let mut begins = [0u32; mesh::MAX_TRIANGLES + 1];
-    let mut joined = [[0i32; 2]; 3 * mesh::MAX_TRIANGLES];
-    let u = convex_regions::gather(mesh, &mut begins, &mut joined);
-    let mut split_begins = [0u32; table::MAX_PARTS + 1];
-    let mut points = [[0i32; 2]; 6 * mesh::MAX_TRIANGLES];
-    let t = split_all(
-        &begins,
-        &joined,
-        u,
-        raised(limit),
-        strategy,
-        &mut split_begins,
-        &mut points,
-    );
-    convex_gather::hand_out(&split_begins, &points, t, starts, corners)
+    let n = mesh.len();
+    if n <= TINY {
+        return split_tiny(mesh, limit, strategy, starts, corners);
+    }
+    if n <= SMALL {
+        return split_small(mesh, limit, strategy, starts, corners);
+    }
+    split_large(mesh, limit, strategy, starts, corners)
 }
