@@ -1,7 +1,7 @@
-// A walk that holds its contour (document 01's `Walk`: "a contour slice, an index, a direction and its remaining steps, with its lifetime"). Each
-// call takes the struct apart and hands its contour and its place to the covered function that answers: it takes any walk, also one that a caller
-// made up, and refuses as walk_step does. `advance` returns the walk, as it came where it is refused, and tells the fault number, 0 for none, in a
-// lent number, and so does `begin`. Leans on walk_step and walk_begin.
+// A walk that holds its contour (document 01: "Walk holds a contour slice, index, direction and remaining steps; thin point, edge and advance over
+// covered functions"). Each call takes the struct apart and hands its contour and its place to the covered function that answers: it takes any walk,
+// also one that a caller made up, and refuses as walk_step does. `begin` and `advance` return the walk and tell the fault number, 0 for none, in a
+// lent number; a refused step returns it as it came. Leans on walk_step and walk_begin.
 ghost use mathlib.Core.Path.{_≡_};
 ghost use Rattle.walk.specs.Calls.{stepFault};
 ghost use Rattle.walk.specs.Contracts.{PointedBy, EdgedBy, MovedBy};

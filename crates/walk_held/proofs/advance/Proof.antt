@@ -20,7 +20,7 @@ use ghost.Atoms.{Atoms, sem}
 use contract.Lifetimes.{Lfts}
 use contract.Monad.{Fun, fact}
 use contract.Running.{givenOf, tables, tablesOf}
-use types.Kit.{Given, ‵, raw, _⊛_, given, ⋆, some, later, _$_, _∵_, !, qed, by, move, keep, drop, use1, use2, use3, rewrite, split, join, learn, pick, fsplit, fjoin, suffices, frame, await, done}
+use types.Kit.{Given, ‵, raw, _⊛_, given, ⋆, some, later, _$_, _∵_, !, qed, by, move, keep, drop, use1, use2, rewrite, split, join, learn, pick, fsplit, fjoin, suffices, frame, await, done}
 use types.Part.{agg, whole, sub, look-in}
 use types.Run.{look, init, forget, stop, hop, fld, from, load, addr, of-opd, and-then, no-more, assigns, land, returns, enter, alloc1, alloc0, params1, pass1, pass0, free1, free0}
 use sound.WpLaws.{FmC, fmOf, WpFn-mono}
@@ -30,7 +30,7 @@ use denote.Builtin.{i32, u32}
 use denote.Ref.{RefT, now, MutRef, ptr-vals, mut-tells}
 use denote.Signature.{namedLft, plain}
 use denote.Slice.{sliceVal, ShrSlice}
-use denote.Steps.{only, owned, peeks, heard, nothing}
+use denote.Steps.{only, peeks, heard, nothing}
 use denote.Struct.Declared.{Declared}
 use denote.Struct.Laws as LL
 use denote.Struct.Rest.{all-own, own-open, own-put}
@@ -49,7 +49,6 @@ use Rattle.pair.proofs.Place.Laws as P′
 use Rattle.walk.specs.Calls.{stepFault}
 use Rattle.walk.specs.Contracts.{MovedBy}
 use Rattle.walk_held.specs.declared.Walk.{Walk}
-use Rattle.walk_held.specs.Held.{AdvancedWalk}
 use Rattle.walk_held.proofs.Walk as T
 use Rattle.walk_held.proofs.Walk.Laws as T′
 use Rattle.walk_held.proofs.advanced as callee

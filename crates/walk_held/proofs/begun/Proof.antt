@@ -1,18 +1,14 @@
 -- `walk_held::begun` meets its contract: each case of the answer gives the number and the place. Assumes nothing.
-use mathlib.Core.Path.{_≡_, refl, sym, _∙_, ap, subst}
+use mathlib.Core.Path.{_≡_, refl, sym, _∙_, ap}
 use mathlib.Core.Bool.{Bool, true, false, cond}
 use mathlib.Core.List.{List, [], _∷_}
-use Prim.Native.Nat.{ℕ}
-use native.Mathlib.Omega.{arith}
 use lib.Dec.{eqb}
-use lib.ListN.{length}
 use lib.IntN.{ℤ}
 use borrow.Author.Needs.{needs}
 use Rattle.table.specs.Table.{pointsOf}
 use Rattle.pair.specs.declared.Place.{Place}
 use Rattle.pair.specs.Walk as walk
 use Rattle.walk.specs.declared.Begun.{Begun}
-use Rattle.walk.specs.declared.Begun.the-variants as begun
 use Rattle.walk.specs.Calls.{beginFault, begunNumber, begunPlace}
 use Rattle.walk.specs.Contracts.{BegunBy}
 use Rattle.walk_held.specs.Held.{nowhere, BegunPlace}
