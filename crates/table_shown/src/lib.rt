@@ -1,12 +1,13 @@
 // The part shown (document 01: "The desk asks for part k of the left or the right operand and gets those corners themselves, not a copy"):
 // `show_part` returns a part of one of the two lent corner slices, at their lifetime, and tells the fault number, 0 for none, in a lent
-// number. It takes any input: the part and the number equal the definitions of table's specs/Shown.antt, and a refusal shows an empty
-// part. Leans on table.
+// number. It takes any input: the part and the number equal the definitions of table's specs/Shown.antt, and where the part lies that of
+// specs/Place.antt, in the asked operand's own corners. A refusal shows an empty part, at the left corners. Leans on table.
 ghost use mathlib.Core.Path.{_≡_};
 ghost use mathlib.Core.Bool.{false};
 ghost use Prim.Native.Nat.{_<_};
 ghost use Rattle.table.specs.Table.{tableBroken, partCount};
 ghost use Rattle.table.specs.Shown.{shownFault, shownPart, partNumbers};
+ghost use Rattle.table_shown.specs.Place.{partPlace, shownPlace};
 
 // The fault of asking for part k of the left or the right table; 0 for none. Both tables are judged, also the one not asked for.
 fn shown_fault(
@@ -37,10 +38,11 @@ fn shown_fault(
     0
 }
 
-// The numbers of part k's corners, in the lent corners.
+// The numbers of part k's corners, where they lie in the lent corners.
 pub fn part_of<'a>(starts: &[u32], corners: &'a [i32], k: usize) -> &'a [i32]
     requires { ⌜ (tableBroken (now starts) (now corners) ≡ false) × (k < partCount (now starts)) ⌝ }
-    ensures { λ r. ⌜ now r ≡ partNumbers (now (starts .entry)) (now (corners .entry)) k ⌝ }
+    ensures numbers { λ r. ⌜ now r ≡ partNumbers (now (starts .entry)) (now (corners .entry)) k ⌝ }
+    ensures placed { λ r. ⌜ r .ptr ≡ partPlace (now (starts .entry)) (corners .entry .ptr) k ⌝ }
 {
     let from = 2 * (starts[k] as usize);
     let to = 2 * (starts[k + 1] as usize);
@@ -59,6 +61,7 @@ pub fn show_part<'a>(
 ) -> &'a [i32]
     ensures shown { λ r. ⌜ now r ≡ shownPart (now («left_starts» .entry)) (now («left_corners» .entry)) (now («right_starts» .entry)) (now («right_corners» .entry)) right k ⌝ }
     ensures told { λ r. ⌜ now (fault .exit) ≡ shownFault (now («left_starts» .entry)) (now («left_corners» .entry)) (now («right_starts» .entry)) (now («right_corners» .entry)) right k ⌝ }
+    ensures placed { λ r. ⌜ r .ptr ≡ shownPlace (now (fault .exit)) (now («left_starts» .entry)) («left_corners» .entry .ptr) (now («right_starts» .entry)) («right_corners» .entry .ptr) right k ⌝ }
 {
     let part = k as usize;
     let number = shown_fault(

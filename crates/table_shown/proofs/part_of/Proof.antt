@@ -1,9 +1,19 @@
 -- `table_shown::part_of` meets its contract: part k of a table that is not broken lies within its corners. Assumes nothing.
+use mathlib.Core.Path.{_≡_, ap}
+use mathlib.Core.List.{List}
+use Prim.Native.Nat.{ℕ, _+_, _*_}
+use lib.ListN.{getD}
 use native.Mathlib.Omega.{arith}
 use borrow.Author.Needs.{needs}
 use Rattle.table.proofs.Shown.{placed, numbers-taken}
+use Rattle.table_shown.specs.Place.{partPlace}
 use Rattle.table_shown.proofs.part_of.Statement.{statement}
 use Rattle.table_shown.proofs.part_of.Tie as tie
+
+-- the numbers before the part, in bytes
+placed-at : (starts : List ℕ) (place : ℕ × ℕ) (k : ℕ) → (place .0, (2 * getD starts k 0) * 4 + place .1) ≡ partPlace starts place k
+unfolding partPlace
+placed-at starts place k = ap (λ o. (place .0, o)) (omega arith)
 
 mul-from : tie.Need-mul-from
 mul-from c = search needs
@@ -47,7 +57,7 @@ part-result-end c = let p = placed _ _ _ (c .before .before .pre .0) (c .before 
 returns : tie.Need-returns
 returns c =
     let p = placed _ _ _ (c .before .before .before .pre .0) (c .before .before .before .pre .1) in
-    numbers-taken _ _ _ (p .rises)
+    (numbers-taken _ _ _ (p .rises), placed-at _ _ _)
 
 pub part-of-spec : {M : Type 1} → statement M
 part-of-spec =
