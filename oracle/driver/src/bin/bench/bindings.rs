@@ -3,7 +3,7 @@
 //! splitting stand twice: on a mesh that was taken before, and with the taking of the
 //! Rust's triangles in the time.
 
-use crate::meshes::{sixteen, squares, two};
+use crate::meshes::{cut_renumbered, square, squares};
 use crate::pairs::convex;
 use crate::timing::{median, timed};
 use bezinkwolu::{sum_parts, ConvexSplitStrategy, IntDelaunay, IntRect, PartTable};
@@ -25,21 +25,15 @@ type Kind = (&'static str, fn(&mut Rng) -> Mesh);
 
 const KINDS: [Kind; 7] = [
     ("1 triangle", |_| meshes::apart(1)),
-    ("2 triangles: a square", two),
-    ("16 triangles: one polygon", sixteen),
-    ("128 triangles: one polygon", |rng| polygon(rng, 128)),
-    ("128 triangles: 64 squares", |rng| {
-        let square = two(rng);
-        meshes::copies(rng, &square, 64)
+    ("2 triangles: a square", |rng| square(rng, 2)),
+    ("16 triangles: one polygon", |rng| cut_renumbered(rng, 16)),
+    ("128 triangles: one polygon", |rng| cut_renumbered(rng, 128)),
+    ("128 triangles: 64 squares", |rng| squares(rng, 128)),
+    ("1,024 triangles: one polygon", |rng| {
+        cut_renumbered(rng, 1_024)
     }),
-    ("1,024 triangles: one polygon", |rng| polygon(rng, 1_024)),
-    ("1,024 triangles: 512 squares", squares),
+    ("1,024 triangles: 512 squares", |rng| squares(rng, 1_024)),
 ];
-
-fn polygon(rng: &mut Rng, triangles: usize) -> Mesh {
-    let mesh = meshes::linked(&meshes::polygon(rng, &meshes::parabola(triangles + 2)));
-    meshes::renumbered(rng, &mesh)
-}
 
 pub fn crate_calls(rounds: usize) {
     println!("the Rust crate's time over that of the Rust's own calls, allocation included");

@@ -198,7 +198,7 @@ fn cut(rng: &mut Rng, triangles: usize) -> Mesh {
     meshes::linked(&meshes::polygon(rng, &meshes::parabola(triangles + 2)))
 }
 
-fn cut_renumbered(rng: &mut Rng, triangles: usize) -> Mesh {
+pub fn cut_renumbered(rng: &mut Rng, triangles: usize) -> Mesh {
     let mesh = cut(rng, triangles);
     meshes::renumbered(rng, &mesh)
 }
@@ -211,7 +211,7 @@ fn grid(rng: &mut Rng, triangles: usize) -> Mesh {
     meshes::linked(&meshes::grid(rng, triangles as i32 / 32, 16, 3))
 }
 
-fn square(rng: &mut Rng, _: usize) -> Mesh {
+pub fn square(rng: &mut Rng, _: usize) -> Mesh {
     let mesh = meshes::linked(&meshes::grid(rng, 1, 1, 4));
     meshes::renumbered(rng, &mesh)
 }
@@ -230,7 +230,7 @@ fn level(rng: &mut Rng, triangles: usize) -> Mesh {
     meshes::linked(&triangles)
 }
 
-fn squares(rng: &mut Rng, triangles: usize) -> Mesh {
+pub fn squares(rng: &mut Rng, triangles: usize) -> Mesh {
     let square = meshes::linked(&meshes::grid(rng, 1, 1, 3));
     meshes::copies(rng, &square, triangles / 2)
 }

@@ -1,0 +1,31 @@
+-- A mesh as a slice of triangle structs is lent (geom/triangle.rs). Assumes nothing.
+use mathlib.Core.List.{List, [], map}
+use Prim.Native.Nat.{ℕ}
+use lib.ListN.{getD}
+use lib.IntN.{ℤ, pos}
+use Rattle.plane.specs.Plane.{Pt}
+use Rattle.mesh.specs.Mesh.{Triangle, Mesh}
+use Rattle.triangles.specs.declared.IntTriangle.{IntTriangle}
+
+-- the struct that stands past a slice's end
+unfoldable pub noStruct : IntTriangle
+noStruct = record { vertices = []; neighbors = [] }
+
+-- vertex i of a struct
+abbrev pub corner : IntTriangle → ℕ → ℕ → Pt
+corner t i j = record { x = getD (t .vertices) i (pos 0); y = getD (t .vertices) j (pos 0) }
+
+-- the triangle that a struct is
+unfoldable pub structTriangle : IntTriangle → Triangle
+structTriangle t = record {
+  v0 = corner t 0 1;
+  v1 = corner t 2 3;
+  v2 = corner t 4 5;
+  n0 = getD (t .neighbors) 0 0;
+  n1 = getD (t .neighbors) 1 0;
+  n2 = getD (t .neighbors) 2 0;
+}
+
+-- the mesh that a slice of structs is
+unfoldable pub trianglesMesh : List IntTriangle → Mesh
+trianglesMesh ts = map structTriangle ts

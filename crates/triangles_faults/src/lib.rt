@@ -1,0 +1,30 @@
+// The faults of a mesh that is lent as a slice of triangle structs: `mesh_fault`, with no `requires`, reads the rows into a local array (triangles) and goes on
+// as over rows, so what it answers is said by the same definitions. It is proved by a walk of its MIR, by hand. Leans on triangles and mesh_faults.
+ghost use mathlib.Core.Path.{_≡_};
+ghost use Prim.Native.Nat.{_≤_};
+ghost use lib.ListN.{length, take};
+ghost use Rattle.integers.specs.Faults.{firstFault};
+ghost use Rattle.mesh.specs.Mesh.{meshKinds};
+ghost use Rattle.mesh.specs.Rows.{rowsMesh};
+ghost use Rattle.triangles.specs.Triangles.{trianglesMesh};
+use triangles::IntTriangle;
+
+// The first fault of the mesh on the front of the rows.
+fn fault_large(rows: [[i32; 9]; 1024], n: usize) -> u32
+    requires { ⌜ n ≤ 1024 ⌝ }
+    ensures { λ r. ⌜ r ≡ firstFault (meshKinds (rowsMesh (take n rows))) ⌝ }
+{
+    mesh_faults::mesh_fault(&rows[..n])
+}
+
+// The first fault of a mesh, as document 01 orders them; 0 for none.
+pub fn mesh_fault(mesh: &[IntTriangle]) -> u32
+    ensures { λ r. ⌜ r ≡ firstFault (meshKinds (trianglesMesh (now (mesh .entry)))) ⌝ }
+{
+    let n = mesh.len();
+    if n > mesh::MAX_TRIANGLES {
+        return integers::fault::TRIANGLES;
+    }
+    let rows = triangles::rows_large(mesh);
+    fault_large(rows, n)
+}

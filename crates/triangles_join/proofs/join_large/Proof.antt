@@ -1,0 +1,34 @@
+-- `triangles_join::join_large` meets its contract. Assumes nothing.
+use borrow.Author.Needs.{needs}
+use Rattle.triangles_faults.proofs.Front.{front}
+use Rattle.triangles_join.proofs.join_large.Statement.{statement}
+use Rattle.triangles_join.proofs.join_large.Tie as tie
+
+array-share-prefix-rows : tie.Need-array-share-prefix-rows
+array-share-prefix-rows c = search needs
+
+slice-aggregate-to-convex-polygons : tie.Need-slice-aggregate-to-convex-polygons
+slice-aggregate-to-convex-polygons c = front (c .before .before .args .n) (c .before .before .args .t1) (search needs)
+
+to-convex-polygons-requires : tie.Need-to-convex-polygons-requires
+to-convex-polygons-requires c κs = search needs
+
+same-length : tie.Need-same-length
+same-length c = search needs
+
+same-length-2 : tie.Need-same-length-2
+same-length-2 c = search needs
+
+returns : tie.Need-returns
+returns c = search needs
+
+pub join-large-spec : {M : Type 1} → statement M
+join-large-spec =
+    tie.close
+    (tie.spec
+    array-share-prefix-rows
+    slice-aggregate-to-convex-polygons
+    to-convex-polygons-requires
+    same-length
+    same-length-2
+    returns)

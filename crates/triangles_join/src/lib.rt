@@ -1,0 +1,31 @@
+// Joining over a lent slice of triangle structs: `to_convex_polygons`, with no `requires`, reads the rows into a local array (triangles) and goes on as over
+// rows, so what it answers is said by the same definitions. It is proved by a walk of its MIR, by hand. Leans on triangles, convex_join and convex_gather.
+ghost use mathlib.Core.Path.{_≡_};
+ghost use Prim.Native.Nat.{_≤_};
+ghost use lib.ListN.{length, take};
+ghost use Rattle.mesh.specs.Rows.{rowsMesh};
+ghost use Rattle.convex.specs.Joining.{partsCounts, partsStarts, partsCorners};
+ghost use Rattle.triangles.specs.Triangles.{trianglesMesh};
+use table::Counts;
+use triangles::IntTriangle;
+
+// The parts of the mesh on the front of the rows.
+fn join_large(rows: [[i32; 9]; 1024], n: usize, starts: &mut [u32], corners: &mut [i32]) -> Counts
+    requires { ⌜ n ≤ 1024 ⌝ }
+    ensures { λ r. ⌜ (r ≡ partsCounts (rowsMesh (take n rows)) (now (starts .entry)) (now (corners .entry))) × (now (starts .exit) ≡ partsStarts (rowsMesh (take n rows)) (now (starts .entry)) (now (corners .entry))) × (now (corners .exit) ≡ partsCorners (rowsMesh (take n rows)) (now (starts .entry)) (now (corners .entry))) ⌝ }
+{
+    convex_join::to_convex_polygons(&rows[..n], starts, corners)
+}
+
+// The convex parts of a mesh, joined from its triangles: starts and corners (x, y in turn) on the front of the lent buffers. A refusal (1, 2, 3, 4, 5,
+// 6, 11, 22 or 21) gives zero counts and changes nothing.
+pub fn to_convex_polygons(mesh: &[IntTriangle], starts: &mut [u32], corners: &mut [i32]) -> Counts
+    ensures { λ r. ⌜ (r ≡ partsCounts (trianglesMesh (now (mesh .entry))) (now (starts .entry)) (now (corners .entry))) × (now (starts .exit) ≡ partsStarts (trianglesMesh (now (mesh .entry))) (now (starts .entry)) (now (corners .entry))) × (now (corners .exit) ≡ partsCorners (trianglesMesh (now (mesh .entry))) (now (starts .entry)) (now (corners .entry))) ⌝ }
+{
+    let n = mesh.len();
+    if n > mesh::MAX_TRIANGLES {
+        return convex_gather::refusal(integers::fault::TRIANGLES);
+    }
+    let rows = triangles::rows_large(mesh);
+    join_large(rows, n, starts, corners)
+}
