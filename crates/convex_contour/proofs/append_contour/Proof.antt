@@ -46,9 +46,16 @@ place-after-requires c κs =
 
 corner-at-requires-3 : tie.Need-corner-at-requires-3 Inv-loop μ-loop
 corner-at-requires-3 c κs =
-    let s = c .before .before .before .before .before .before .before in
-    let g = s .args in
-    (omega (arith, (place-next (g .corners .now) (g .p) (s .pre .0) (c .before .before .loop .i) (omega (arith, c .before .loop-test .taken, (s .pre .0) .some)) (c .before .before .loop .inv .1 .1) (c .place-after .ensures)), place-below (g .corners .now) (g .p) (s .pre .0) (c .before .before .loop .i + 1) (omega (arith, c .before .loop-test .taken, (s .pre .0) .some))), (s .pre .0) .grid)
+    let l = c .before .before in
+    let s = l .before .before .before .before .before in
+    let g = s .args in (
+      omega (
+        arith,
+        (place-next (g .corners .now) (g .p) (s .pre .0) (l .loop .i) (omega (arith, c .before .loop-test .taken, (s .pre .0) .some)) (l .loop .inv .1 .1) (c .place-after .ensures)),
+        place-below (g .corners .now) (g .p) (s .pre .0) (l .loop .i + 1) (omega (arith, c .before .loop-test .taken, (s .pre .0) .some)),
+      ),
+      (s .pre .0) .grid,
+    )
 
 append-corner-requires : tie.Need-append-corner-requires Inv-loop μ-loop
 append-corner-requires c κs =
@@ -66,14 +73,33 @@ loop-less c = omega (arith, c .before .before .before .before .before .loop-test
 
 loop-again : tie.Need-loop-again Inv-loop μ-loop
 loop-again c =
-    let s = c .before .before .before .before .before .before .before .before .before .before .before in
+    let p2 = c .before .before .before in
+    let p1 = p2 .before .before in
+    let s = p1 .before .before .before .before .before .before in
     let g = s .args in
-    let i = c .before .before .before .before .before .before .loop .i in
-    let k = c .before .before .before .before .before .before .loop .inv .0 in
-    let v = c .before .before .before .before .before .before .loop .inv .1 .0 in
-    let n = place-next (g .corners .now) (g .p) (s .pre .0) i (omega (arith, c .before .before .before .before .before .loop-test .taken, (s .pre .0) .some)) (c .before .before .before .before .before .before .loop .inv .1 .1) (c .before .before .before .before .place-after .ensures) in
-    let h : i < length (contourAt (g .corners .now) (g .p)) = omega (arith, length-contour (g .corners .now) (g .p) (s .pre .0), c .before .before .before .before .before .loop-test .taken) in
-    (keeping-turn (contourAt (g .corners .now) (g .p)) (g .points .now) (g .from) i h k (sliding-kept (contourAt (g .corners .now) (g .p)) i h v (place-corner (g .corners .now) (g .p) (s .pre .0) i (omega (arith, c .before .before .before .before .before .loop-test .taken, (s .pre .0) .some)) n (c .before .before .before .corner-at3 .ensures .0), c .before .before .before .corner-at3 .ensures .1) (c .before .append-corner .ensures)), (sliding-turn (contourAt (g .corners .now) (g .p)) i h v (place-corner (g .corners .now) (g .p) (s .pre .0) i (omega (arith, c .before .before .before .before .before .loop-test .taken, (s .pre .0) .some)) n (c .before .before .before .corner-at3 .ensures .0), c .before .before .before .corner-at3 .ensures .1), n))
+    let i = p1 .before .loop .i in
+    let k = p1 .before .loop .inv .0 in
+    let v = p1 .before .loop .inv .1 .0 in
+    let n =
+    place-next (g .corners .now) (g .p) (s .pre .0) i (omega (arith, p1 .loop-test .taken, (s .pre .0) .some)) (p1 .before .loop .inv .1 .1)
+    (p2 .before .place-after .ensures) in
+    let h : i < length (contourAt (g .corners .now) (g .p)) =
+    omega (arith, length-contour (g .corners .now) (g .p) (s .pre .0), p1 .loop-test .taken) in (
+      keeping-turn (contourAt (g .corners .now) (g .p)) (g .points .now) (g .from) i h k
+          (sliding-kept (contourAt (g .corners .now) (g .p)) i h v (
+            place-corner (g .corners .now) (g .p) (s .pre .0) i (omega (arith, p1 .loop-test .taken, (s .pre .0) .some)) n
+                (p2 .corner-at3 .ensures .0),
+            p2 .corner-at3 .ensures .1,
+          ) (c .before .append-corner .ensures)),
+      (
+        sliding-turn (contourAt (g .corners .now) (g .p)) i h v (
+          place-corner (g .corners .now) (g .p) (s .pre .0) i (omega (arith, p1 .loop-test .taken, (s .pre .0) .some)) n
+              (p2 .corner-at3 .ensures .0),
+          p2 .corner-at3 .ensures .1,
+        ),
+        n,
+      ),
+    )
 
 same-length : tie.Need-same-length Inv-loop μ-loop
 same-length c = omega (arith, c .before .loop .inv .0 .appended .size)

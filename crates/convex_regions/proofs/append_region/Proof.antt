@@ -44,9 +44,13 @@ same-length-5 c = search needs
 
 returns : tie.Need-returns
 returns c =
-    let s = c .before .before .before .before .before .before .before .before .before .before .before .before .before .before .before .before .before .before .before in
+    let p3 = c .before .before in
+    let p2 = p3 .before .before .before .before in
+    let p1 = p2 .before .before .before .before .before .before .before in
+    let s = p1 .before .before .before .before .before .before in
     let g = s .args in
-    joined (length (g .corners .now)) (rowsMesh (g .mesh .now)) (g .k) (g .taken .now) (g .starts .now) (g .points .now) (g .t) (s .pre .3) (c .before .before .before .before .before .before .before .before .before .before .before .before .before .grow .ensures) (c .before .before .before .before .before .before .append-contour .ensures) (c .before .before .put-start .ensures)
+    joined (length (g .corners .now)) (rowsMesh (g .mesh .now)) (g .k) (g .taken .now) (g .starts .now) (g .points .now) (g .t) (s .pre .3)
+    (p1 .grow .ensures) (p2 .append-contour .ensures) (p3 .put-start .ensures)
 
 pub append-region-spec : {M : Type 1} → statement M
 append-region-spec =

@@ -34,9 +34,12 @@ loop-less c = omega (arith, c .before .before .before .before .before .before .b
 
 loop-again : tie.Need-loop-again Inv-loop μ-loop
 loop-again c =
-    let s = c .before .before .before .before .before .before .before .before .before .before .before .before .before .before .before .before .before in
+    let p2 = c .before .before .before .before .before .before .before in
+    let p1 = p2 .before .before .before .before .before .before in
+    let s = p1 .before .before .before .before in
     let g = s .args in
-    visiting-turn (length (g .corners .now)) (length (g .starts .now)) (length (g .points .now)) (rowsMesh (g .mesh .now)) (c .before .before .before .before .before .before .before .before .before .before .before .before .before .before .loop .k) (omega (arith, length-rows (g .mesh .now), c .before .before .before .before .before .before .before .before .before .before .before .before .before .loop-test .taken)) (c .before .before .before .before .before .before .before .before .before .before .before .before .before .before .loop .inv) (c .before .before .before .before .before .before .before .visit .ensures)
+    visiting-turn (length (g .corners .now)) (length (g .starts .now)) (length (g .points .now)) (rowsMesh (g .mesh .now)) (p1 .before .loop .k)
+    (omega (arith, length-rows (g .mesh .now), p1 .loop-test .taken)) (p1 .before .loop .inv) (p2 .visit .ensures)
 
 same-length : tie.Need-same-length Inv-loop μ-loop
 same-length c = omega (arith, c .before .loop .inv .ready .corners, c .before .before .before .before .pre .0 .corners)

@@ -44,8 +44,14 @@ shares-edge-requires c κs = search needs
 
 returns-3 : tie.Need-returns-3
 returns-3 c =
-    let s = c .before .before .before .before .before .before .before .before .before .before .before in
-    row-first (s .args .mesh .now) (s .args .k) (s .pre) (c .before .before .before .before .before .before .before .before .before .row-off .ensures) (c .before .before .before .before .before .before .before .before .if1 .left) (c .before .before .before .before .before .before .before .row-flat .ensures) (c .before .before .before .before .before .before .if2 .left) (c .before .before .before .before .before .vertex-of .ensures) (c .before .before .before .before .vertex-of2 .ensures) (c .before .before .before .vertex-of3 .ensures) (c .before .before .neighbor-of .ensures) (c .before .shares-edge .ensures) (c .if3 .taken)
+    let p4 = c .before .before in
+    let p3 = p4 .before .before in
+    let p2 = p3 .before .before in
+    let p1 = p2 .before .before in
+    let s = p1 .before .before .before in
+    row-first (s .args .mesh .now) (s .args .k) (s .pre) (p1 .before .row-off .ensures) (p1 .if1 .left) (p2 .before .row-flat .ensures)
+    (p2 .if2 .left) (p3 .before .vertex-of .ensures) (p3 .vertex-of2 .ensures) (p4 .before .vertex-of3 .ensures) (p4 .neighbor-of .ensures)
+    (c .before .shares-edge .ensures) (c .if3 .taken)
 
 neighbor-of-requires-2 : tie.Need-neighbor-of-requires-2
 neighbor-of-requires-2 c κs = search needs
@@ -55,8 +61,17 @@ shares-edge-requires-2 c κs = search needs
 
 returns-4 : tie.Need-returns-4
 returns-4 c =
-    let s = c .before .before .before .before .before .before .before .before .before .before .before .before .before .before in
-    row-second (s .args .mesh .now) (s .args .k) (s .pre) (c .before .before .before .before .before .before .before .before .before .before .before .before .row-off .ensures) (c .before .before .before .before .before .before .before .before .before .before .before .if1 .left) (c .before .before .before .before .before .before .before .before .before .before .row-flat .ensures) (c .before .before .before .before .before .before .before .before .before .if2 .left) (c .before .before .before .before .before .before .before .before .vertex-of .ensures) (c .before .before .before .before .before .before .before .vertex-of2 .ensures) (c .before .before .before .before .before .before .vertex-of3 .ensures) (c .before .before .before .before .before .neighbor-of .ensures) (c .before .before .before .before .shares-edge .ensures) (c .before .before .before .if3 .left) (c .before .before .neighbor-of2 .ensures) (c .before .shares-edge2 .ensures) (c .if4 .taken)
+    let p6 = c .before .before in
+    let p5 = p6 .before .before in
+    let p4 = p5 .before .before in
+    let p3 = p4 .before .before in
+    let p2 = p3 .before .before in
+    let p1 = p2 .before .before in
+    let s = p1 .before .before in
+    row-second (s .args .mesh .now) (s .args .k) (s .pre) (p1 .row-off .ensures) (p2 .before .if1 .left) (p2 .row-flat .ensures)
+    (p3 .before .if2 .left) (p3 .vertex-of .ensures) (p4 .before .vertex-of2 .ensures) (p4 .vertex-of3 .ensures)
+    (p5 .before .neighbor-of .ensures) (p5 .shares-edge .ensures) (p6 .before .if3 .left) (p6 .neighbor-of2 .ensures)
+    (c .before .shares-edge2 .ensures) (c .if4 .taken)
 
 neighbor-of-requires-3 : tie.Need-neighbor-of-requires-3
 neighbor-of-requires-3 c κs = search needs
@@ -66,8 +81,18 @@ shares-edge-requires-3 c κs = search needs
 
 returns-5 : tie.Need-returns-5
 returns-5 c =
-    let s = c .before .before .before .before .before .before .before .before .before .before .before .before .before .before .before .before in
-    row-third (s .args .mesh .now) (s .args .k) (s .pre) (c .before .before .before .before .before .before .before .before .before .before .before .before .before .before .row-off .ensures) (c .before .before .before .before .before .before .before .before .before .before .before .before .before .if1 .left) (c .before .before .before .before .before .before .before .before .before .before .before .before .row-flat .ensures) (c .before .before .before .before .before .before .before .before .before .before .before .if2 .left) (c .before .before .before .before .before .before .before .before .before .before .vertex-of .ensures) (c .before .before .before .before .before .before .before .before .before .vertex-of2 .ensures) (c .before .before .before .before .before .before .before .before .vertex-of3 .ensures) (c .before .before .before .before .before .before .before .neighbor-of .ensures) (c .before .before .before .before .before .before .shares-edge .ensures) (c .before .before .before .before .before .if3 .left) (c .before .before .before .before .neighbor-of2 .ensures) (c .before .before .before .shares-edge2 .ensures) (c .before .before .if4 .left) (c .before .neighbor-of3 .ensures) (c .shares-edge3 .ensures)
+    let p7 = c .before .before in
+    let p6 = p7 .before .before in
+    let p5 = p6 .before .before in
+    let p4 = p5 .before .before in
+    let p3 = p4 .before .before in
+    let p2 = p3 .before .before in
+    let p1 = p2 .before .before in
+    let s = p1 .before .before in
+    row-third (s .args .mesh .now) (s .args .k) (s .pre) (p1 .row-off .ensures) (p2 .before .if1 .left) (p2 .row-flat .ensures)
+    (p3 .before .if2 .left) (p3 .vertex-of .ensures) (p4 .before .vertex-of2 .ensures) (p4 .vertex-of3 .ensures)
+    (p5 .before .neighbor-of .ensures) (p5 .shares-edge .ensures) (p6 .before .if3 .left) (p6 .neighbor-of2 .ensures)
+    (p7 .before .shares-edge2 .ensures) (p7 .if4 .left) (c .before .neighbor-of3 .ensures) (c .shares-edge3 .ensures)
 
 pub row-clean-spec : {M : Type 1} → statement M
 row-clean-spec =

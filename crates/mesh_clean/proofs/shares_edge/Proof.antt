@@ -36,8 +36,12 @@ same-edge-requires c κs = search needs
 
 returns-3 : tie.Need-returns-3
 returns-3 c =
-    let s = c .before .before .before .before .before .before .before .before in
-    side-first (s .args .mesh .now) (s .args .k) (s .args .n) (point (s .args .a)) (point (s .args .b)) (c .before .before .before .before .before .before .before .if1 .left) (c .before .before .before .before .before .before .if2 .left) (c .before .before .before .before .neighbor-of .ensures) (c .before .before .before .if3 .taken) (c .before .before .vertex-of .ensures) (c .before .vertex-of2 .ensures) (c .same-edge .ensures)
+    let p3 = c .before .before in
+    let p2 = p3 .before .before in
+    let p1 = p2 .before .before in
+    let s = p1 .before .before in
+    side-first (s .args .mesh .now) (s .args .k) (s .args .n) (point (s .args .a)) (point (s .args .b)) (p1 .before .if1 .left) (p1 .if2 .left)
+    (p2 .neighbor-of .ensures) (p3 .before .if3 .taken) (p3 .vertex-of .ensures) (c .before .vertex-of2 .ensures) (c .same-edge .ensures)
 
 neighbor-of-requires-2 : tie.Need-neighbor-of-requires-2
 neighbor-of-requires-2 c κs = search needs
@@ -53,8 +57,14 @@ same-edge-requires-2 c κs = search needs
 
 returns-4 : tie.Need-returns-4
 returns-4 c =
-    let s = c .before .before .before .before .before .before .before .before .before .before in
-    side-second (s .args .mesh .now) (s .args .k) (s .args .n) (point (s .args .a)) (point (s .args .b)) (c .before .before .before .before .before .before .before .before .before .if1 .left) (c .before .before .before .before .before .before .before .before .if2 .left) (c .before .before .before .before .before .before .neighbor-of .ensures) (c .before .before .before .before .before .if3 .left) (c .before .before .before .before .neighbor-of2 .ensures) (c .before .before .before .if4 .taken) (c .before .before .vertex-of3 .ensures) (c .before .vertex-of4 .ensures) (c .same-edge2 .ensures)
+    let p4 = c .before .before in
+    let p3 = p4 .before .before in
+    let p2 = p3 .before .before in
+    let p1 = p2 .before .before in
+    let s = p1 .before .before in
+    side-second (s .args .mesh .now) (s .args .k) (s .args .n) (point (s .args .a)) (point (s .args .b)) (p1 .before .if1 .left) (p1 .if2 .left)
+    (p2 .neighbor-of .ensures) (p3 .before .if3 .left) (p3 .neighbor-of2 .ensures) (p4 .before .if4 .taken) (p4 .vertex-of3 .ensures)
+    (c .before .vertex-of4 .ensures) (c .same-edge2 .ensures)
 
 neighbor-of-requires-3 : tie.Need-neighbor-of-requires-3
 neighbor-of-requires-3 c κs = search needs
@@ -70,13 +80,25 @@ same-edge-requires-3 c κs = search needs
 
 returns-5 : tie.Need-returns-5
 returns-5 c =
-    let s = c .before .before .before .before .before .before .before .before .before .before .before .before in
-    side-third (s .args .mesh .now) (s .args .k) (s .args .n) (point (s .args .a)) (point (s .args .b)) (c .before .before .before .before .before .before .before .before .before .before .before .if1 .left) (c .before .before .before .before .before .before .before .before .before .before .if2 .left) (c .before .before .before .before .before .before .before .before .neighbor-of .ensures) (c .before .before .before .before .before .before .before .if3 .left) (c .before .before .before .before .before .before .neighbor-of2 .ensures) (c .before .before .before .before .before .if4 .left) (c .before .before .before .before .neighbor-of3 .ensures) (c .before .before .before .if5 .taken) (c .before .before .vertex-of5 .ensures) (c .before .vertex-of6 .ensures) (c .same-edge3 .ensures)
+    let p5 = c .before .before in
+    let p4 = p5 .before .before in
+    let p3 = p4 .before .before in
+    let p2 = p3 .before .before in
+    let p1 = p2 .before .before in
+    let s = p1 .before .before in
+    side-third (s .args .mesh .now) (s .args .k) (s .args .n) (point (s .args .a)) (point (s .args .b)) (p1 .before .if1 .left) (p1 .if2 .left)
+    (p2 .neighbor-of .ensures) (p3 .before .if3 .left) (p3 .neighbor-of2 .ensures) (p4 .before .if4 .left) (p4 .neighbor-of3 .ensures)
+    (p5 .before .if5 .taken) (p5 .vertex-of5 .ensures) (c .before .vertex-of6 .ensures) (c .same-edge3 .ensures)
 
 returns-6 : tie.Need-returns-6
 returns-6 c =
-    let s = c .before .before .before .before .before .before .before .before .before in
-    side-nowhere (s .args .mesh .now) (s .args .k) (s .args .n) (point (s .args .a)) (point (s .args .b)) (c .before .before .before .before .before .before .before .before .if1 .left) (c .before .before .before .before .before .before .before .if2 .left) (c .before .before .before .before .before .neighbor-of .ensures) (c .before .before .before .before .if3 .left) (c .before .before .before .neighbor-of2 .ensures) (c .before .before .if4 .left) (c .before .neighbor-of3 .ensures) (c .if5 .left)
+    let p3 = c .before .before in
+    let p2 = p3 .before .before in
+    let p1 = p2 .before .before .before in
+    let s = p1 .before .before in
+    side-nowhere (s .args .mesh .now) (s .args .k) (s .args .n) (point (s .args .a)) (point (s .args .b)) (p1 .before .if1 .left) (p1 .if2 .left)
+    (p2 .before .neighbor-of .ensures) (p2 .if3 .left) (p3 .before .neighbor-of2 .ensures) (p3 .if4 .left) (c .before .neighbor-of3 .ensures)
+    (c .if5 .left)
 
 pub shares-edge-spec : {M : Type 1} → statement M
 shares-edge-spec =

@@ -103,21 +103,35 @@ flat-requires c κs = read (c .before .before .before .off-grid .ensures) (c .be
 
 returns-5 : tie.Need-returns-5
 returns-5 c =
-    let rows = c .before .before .before .before .before .before .before .before .before .args .mesh .now in
-    six (rowsMesh rows) (few rows (c .before .before .before .before .before .before .before .before .if1 .left)) (read (c .before .before .before .before .before .off-grid .ensures) (c .before .before .before .before .if3 .left)) (c .before .before .before .neighbor-fault .ensures) (c .before .before .if4 .left) (read (c .before .flat .ensures) (c .if5 .taken))
+    let p3 = c .before .before in
+    let p2 = p3 .before .before in
+    let p1 = p2 .before .before .before .before in
+    let rows = p1 .before .args .mesh .now in
+    six (rowsMesh rows) (few rows (p1 .if1 .left)) (read (p2 .before .off-grid .ensures) (p2 .if3 .left)) (p3 .before .neighbor-fault .ensures)
+    (p3 .if4 .left) (read (c .before .flat .ensures) (c .if5 .taken))
 
 too-large-requires : tie.Need-too-large-requires
 too-large-requires c κs = (read (c .before .before .before .before .before .off-grid .ensures) (c .before .before .before .before .if3 .left), read (c .before .flat .ensures) (c .if5 .left))
 
 returns-6 : tie.Need-returns-6
 returns-6 c =
-    let rows = c .before .before .before .before .before .before .before .before .before .before .before .args .mesh .now in
-    eleven (rowsMesh rows) (few rows (c .before .before .before .before .before .before .before .before .before .before .if1 .left)) (read (c .before .before .before .before .before .before .before .off-grid .ensures) (c .before .before .before .before .before .before .if3 .left)) (c .before .before .before .before .before .neighbor-fault .ensures) (c .before .before .before .before .if4 .left) (read (c .before .before .before .flat .ensures) (c .before .before .if5 .left)) (read (c .before .too-large .ensures) (c .if6 .taken))
+    let p4 = c .before .before in
+    let p3 = p4 .before .before in
+    let p2 = p3 .before .before in
+    let p1 = p2 .before .before .before .before in
+    let rows = p1 .before .args .mesh .now in
+    eleven (rowsMesh rows) (few rows (p1 .if1 .left)) (read (p2 .before .off-grid .ensures) (p2 .if3 .left)) (p3 .before .neighbor-fault .ensures)
+    (p3 .if4 .left) (read (p4 .before .flat .ensures) (p4 .if5 .left)) (read (c .before .too-large .ensures) (c .if6 .taken))
 
 returns-7 : tie.Need-returns-7
 returns-7 c =
-    let rows = c .before .before .before .before .before .before .before .before .before .before .before .args .mesh .now in
-    accepted (rowsMesh rows) (few rows (c .before .before .before .before .before .before .before .before .before .before .if1 .left)) (read (c .before .before .before .before .before .before .before .off-grid .ensures) (c .before .before .before .before .before .before .if3 .left)) (c .before .before .before .before .before .neighbor-fault .ensures) (c .before .before .before .before .if4 .left) (read (c .before .before .before .flat .ensures) (c .before .before .if5 .left)) (read (c .before .too-large .ensures) (c .if6 .left))
+    let p4 = c .before .before in
+    let p3 = p4 .before .before in
+    let p2 = p3 .before .before in
+    let p1 = p2 .before .before .before .before in
+    let rows = p1 .before .args .mesh .now in
+    accepted (rowsMesh rows) (few rows (p1 .if1 .left)) (read (p2 .before .off-grid .ensures) (p2 .if3 .left)) (p3 .before .neighbor-fault .ensures)
+    (p3 .if4 .left) (read (p4 .before .flat .ensures) (p4 .if5 .left)) (read (c .before .too-large .ensures) (c .if6 .left))
 
 pub mesh-fault-spec : {M : Type 1} → statement M
 mesh-fault-spec =

@@ -27,8 +27,11 @@ returns c =
 
 returns-2 : tie.Need-returns-2
 returns-2 c =
-    let s = c .before .before .before .before .before .before .before in
-    first-third (s .args .mesh .now) (s .args .n) (s .args .k) (s .pre) (point (s .args .a)) (point (s .args .b)) (c .before .before .before .before .before .neighbor-of .ensures) (c .before .before .before .before .neighbor-of2 .ensures) (c .before .before .before .neighbor-of3 .ensures) (c .before .before .if1 .taken) (c .before .if2 .left) (c .if3 .taken)
+    let p2 = c .before .before in
+    let p1 = p2 .before .before in
+    let s = p1 .before .before .before in
+    first-third (s .args .mesh .now) (s .args .n) (s .args .k) (s .pre) (point (s .args .a)) (point (s .args .b)) (p1 .before .neighbor-of .ensures)
+    (p1 .neighbor-of2 .ensures) (p2 .before .neighbor-of3 .ensures) (p2 .if1 .taken) (c .before .if2 .left) (c .if3 .taken)
 
 vertex-of-requires : tie.Need-vertex-of-requires
 vertex-of-requires c κs = search needs
@@ -41,13 +44,22 @@ edge-fault-requires c κs = search needs
 
 returns-3 : tie.Need-returns-3
 returns-3 c =
-    let s = c .before .before .before .before .before .before .before .before .before .before in
-    first-alone (s .args .mesh .now) (s .args .n) (s .args .k) (s .pre) (point (s .args .a)) (point (s .args .b)) (c .before .before .before .before .before .before .before .before .neighbor-of .ensures) (c .before .before .before .before .before .before .before .neighbor-of2 .ensures) (c .before .before .before .before .before .before .neighbor-of3 .ensures) (c .before .before .before .before .before .if1 .taken) (c .before .before .before .before .if2 .left) (c .before .before .before .if3 .left) (c .before .before .vertex-of .ensures) (c .before .vertex-of2 .ensures) (c .edge-fault .ensures)
+    let p4 = c .before .before in
+    let p3 = p4 .before .before in
+    let p2 = p3 .before .before in
+    let p1 = p2 .before .before in
+    let s = p1 .before .before in
+    first-alone (s .args .mesh .now) (s .args .n) (s .args .k) (s .pre) (point (s .args .a)) (point (s .args .b)) (p1 .neighbor-of .ensures)
+    (p2 .before .neighbor-of2 .ensures) (p2 .neighbor-of3 .ensures) (p3 .before .if1 .taken) (p3 .if2 .left) (p4 .before .if3 .left)
+    (p4 .vertex-of .ensures) (c .before .vertex-of2 .ensures) (c .edge-fault .ensures)
 
 returns-4 : tie.Need-returns-4
 returns-4 c =
-    let s = c .before .before .before .before .before .before .before in
-    second-third (s .args .mesh .now) (s .args .n) (s .args .k) (s .pre) (point (s .args .a)) (point (s .args .b)) (c .before .before .before .before .before .neighbor-of .ensures) (c .before .before .before .before .neighbor-of2 .ensures) (c .before .before .before .neighbor-of3 .ensures) (c .before .before .if1 .left) (c .before .if4 .taken) (c .if5 .taken)
+    let p2 = c .before .before in
+    let p1 = p2 .before .before in
+    let s = p1 .before .before .before in
+    second-third (s .args .mesh .now) (s .args .n) (s .args .k) (s .pre) (point (s .args .a)) (point (s .args .b)) (p1 .before .neighbor-of .ensures)
+    (p1 .neighbor-of2 .ensures) (p2 .before .neighbor-of3 .ensures) (p2 .if1 .left) (c .before .if4 .taken) (c .if5 .taken)
 
 vertex-of-requires-3 : tie.Need-vertex-of-requires-3
 vertex-of-requires-3 c κs = search needs
@@ -60,8 +72,14 @@ edge-fault-requires-2 c κs = search needs
 
 returns-5 : tie.Need-returns-5
 returns-5 c =
-    let s = c .before .before .before .before .before .before .before .before .before .before in
-    second-alone (s .args .mesh .now) (s .args .n) (s .args .k) (s .pre) (point (s .args .a)) (point (s .args .b)) (c .before .before .before .before .before .before .before .before .neighbor-of .ensures) (c .before .before .before .before .before .before .before .neighbor-of2 .ensures) (c .before .before .before .before .before .before .neighbor-of3 .ensures) (c .before .before .before .before .before .if1 .left) (c .before .before .before .before .if4 .taken) (c .before .before .before .if5 .left) (c .before .before .vertex-of3 .ensures) (c .before .vertex-of4 .ensures) (c .edge-fault2 .ensures)
+    let p4 = c .before .before in
+    let p3 = p4 .before .before in
+    let p2 = p3 .before .before in
+    let p1 = p2 .before .before in
+    let s = p1 .before .before in
+    second-alone (s .args .mesh .now) (s .args .n) (s .args .k) (s .pre) (point (s .args .a)) (point (s .args .b)) (p1 .neighbor-of .ensures)
+    (p2 .before .neighbor-of2 .ensures) (p2 .neighbor-of3 .ensures) (p3 .before .if1 .left) (p3 .if4 .taken) (p4 .before .if5 .left)
+    (p4 .vertex-of3 .ensures) (c .before .vertex-of4 .ensures) (c .edge-fault2 .ensures)
 
 vertex-of-requires-5 : tie.Need-vertex-of-requires-5
 vertex-of-requires-5 c κs = search needs
@@ -74,13 +92,22 @@ edge-fault-requires-3 c κs = search needs
 
 returns-6 : tie.Need-returns-6
 returns-6 c =
-    let s = c .before .before .before .before .before .before .before .before .before .before in
-    third-alone (s .args .mesh .now) (s .args .n) (s .args .k) (s .pre) (point (s .args .a)) (point (s .args .b)) (c .before .before .before .before .before .before .before .before .neighbor-of .ensures) (c .before .before .before .before .before .before .before .neighbor-of2 .ensures) (c .before .before .before .before .before .before .neighbor-of3 .ensures) (c .before .before .before .before .before .if1 .left) (c .before .before .before .before .if4 .left) (c .before .before .before .if6 .taken) (c .before .before .vertex-of5 .ensures) (c .before .vertex-of6 .ensures) (c .edge-fault3 .ensures)
+    let p4 = c .before .before in
+    let p3 = p4 .before .before in
+    let p2 = p3 .before .before in
+    let p1 = p2 .before .before in
+    let s = p1 .before .before in
+    third-alone (s .args .mesh .now) (s .args .n) (s .args .k) (s .pre) (point (s .args .a)) (point (s .args .b)) (p1 .neighbor-of .ensures)
+    (p2 .before .neighbor-of2 .ensures) (p2 .neighbor-of3 .ensures) (p3 .before .if1 .left) (p3 .if4 .left) (p4 .before .if6 .taken)
+    (p4 .vertex-of5 .ensures) (c .before .vertex-of6 .ensures) (c .edge-fault3 .ensures)
 
 returns-7 : tie.Need-returns-7
 returns-7 c =
-    let s = c .before .before .before .before .before .before .before in
-    no-side (s .args .mesh .now) (s .args .n) (s .args .k) (s .pre) (point (s .args .a)) (point (s .args .b)) (c .before .before .before .before .before .neighbor-of .ensures) (c .before .before .before .before .neighbor-of2 .ensures) (c .before .before .before .neighbor-of3 .ensures) (c .before .before .if1 .left) (c .before .if4 .left) (c .if6 .left)
+    let p2 = c .before .before in
+    let p1 = p2 .before .before in
+    let s = p1 .before .before .before in
+    no-side (s .args .mesh .now) (s .args .n) (s .args .k) (s .pre) (point (s .args .a)) (point (s .args .b)) (p1 .before .neighbor-of .ensures)
+    (p1 .neighbor-of2 .ensures) (p2 .before .neighbor-of3 .ensures) (p2 .if1 .left) (c .before .if4 .left) (c .if6 .left)
 
 pub back-fault-spec : {M : Type 1} → statement M
 back-fault-spec =

@@ -50,14 +50,22 @@ earlier-of-requires-2 c κs = search needs
 returns : tie.Need-returns
 unfolding after
 returns c =
-    let s = c .before .before .before .before .before .before .before .before .before .before .before .before in
+    let p5 = c .before .before in
+    let p4 = p5 .before .before in
+    let p3 = p4 .before .before in
+    let p2 = p3 .before .before in
+    let p1 = p2 .before .before in
+    let s = p1 .before .before in
     let rows = s .args .mesh .now in
     let k = s .args .k in
     three-told (rowsMesh rows) k
-    (side-read rows k 0 (s .pre) (omega arith) (c .before .before .before .before .before .before .before .before .before .before .neighbor-of .ensures) (c .before .before .before .before .before .before .before .before .before .neighbor-of2 .ensures) (c .before .before .before .before .before .before .before .before .neighbor-of3 .ensures) (c .before .before .before .before .before .before .vertex-of2 .ensures) (c .before .before .before .before .before .vertex-of3 .ensures) (c .before .before .before .before .side-fault .ensures))
-    (side-read rows k 1 (s .pre) (omega arith) (c .before .before .before .before .before .before .before .before .before .neighbor-of2 .ensures) (c .before .before .before .before .before .before .before .before .neighbor-of3 .ensures) (c .before .before .before .before .before .before .before .before .before .before .neighbor-of .ensures) (c .before .before .before .before .before .vertex-of3 .ensures) (c .before .before .before .before .before .before .before .vertex-of .ensures) (c .before .before .before .side-fault2 .ensures))
-    (side-read rows k 2 (s .pre) (omega arith) (c .before .before .before .before .before .before .before .before .neighbor-of3 .ensures) (c .before .before .before .before .before .before .before .before .before .before .neighbor-of .ensures) (c .before .before .before .before .before .before .before .before .before .neighbor-of2 .ensures) (c .before .before .before .before .before .before .before .vertex-of .ensures) (c .before .before .before .before .before .before .vertex-of2 .ensures) (c .before .before .side-fault3 .ensures))
-    (c .before .earlier-of .ensures) (c .earlier-of2 .ensures)
+    (side-read rows k 0 (s .pre) (omega arith) (p1 .neighbor-of .ensures) (p2 .before .neighbor-of2 .ensures) (p2 .neighbor-of3 .ensures)
+    (p3 .vertex-of2 .ensures) (p4 .before .vertex-of3 .ensures) (p4 .side-fault .ensures))
+    (side-read rows k 1 (s .pre) (omega arith) (p2 .before .neighbor-of2 .ensures) (p2 .neighbor-of3 .ensures) (p1 .neighbor-of .ensures)
+    (p4 .before .vertex-of3 .ensures) (p3 .before .vertex-of .ensures) (p5 .before .side-fault2 .ensures))
+    (side-read rows k 2 (s .pre) (omega arith) (p2 .neighbor-of3 .ensures) (p1 .neighbor-of .ensures) (p2 .before .neighbor-of2 .ensures)
+    (p3 .before .vertex-of .ensures) (p3 .vertex-of2 .ensures) (p5 .side-fault3 .ensures)) (c .before .earlier-of .ensures)
+    (c .earlier-of2 .ensures)
 
 pub row-fault-spec : {M : Type 1} → statement M
 row-fault-spec =
