@@ -5,8 +5,9 @@ ghost use mathlib.Core.Path.{_≡_};
 ghost use Prim.Native.Nat.{_≤_};
 ghost use lib.ListN.{length};
 ghost use Rattle.integers.specs.Faults.{firstFault};
-ghost use Rattle.mesh.specs.Mesh.{meshKinds};
+ghost use Rattle.mesh.specs.Mesh.{maxTriangles, meshKinds};
 ghost use Rattle.mesh.specs.Rows.{rowsMesh};
+ghost use Rattle.convex_regions.specs.Parts.{tiny, small};
 ghost use Rattle.convex.specs.Joining.{partsCounts, partsStarts, partsCorners};
 use convex_regions::SMALL;
 use convex_regions::TINY;
@@ -14,7 +15,7 @@ use table::Counts;
 
 // The parts of a tiny mesh that is accepted.
 fn join_tiny(mesh: &[[i32; 9]], starts: &mut [u32], corners: &mut [i32]) -> Counts
-    requires { ⌜ (length (now mesh) ≤ 16) × (firstFault (meshKinds (rowsMesh (now mesh))) ≡ 0) ⌝ }
+    requires { ⌜ (length (now mesh) ≤ tiny) × (firstFault (meshKinds (rowsMesh (now mesh))) ≡ 0) ⌝ }
     ensures counts { λ r. ⌜ r ≡ partsCounts (rowsMesh (now (mesh .entry))) (now (starts .entry)) (now (corners .entry)) ⌝ }
     ensures starts { λ r. ⌜ now (starts .exit) ≡ partsStarts (rowsMesh (now (mesh .entry))) (now (starts .entry)) (now (corners .entry)) ⌝ }
     ensures corners { λ r. ⌜ now (corners .exit) ≡ partsCorners (rowsMesh (now (mesh .entry))) (now (starts .entry)) (now (corners .entry)) ⌝ }
@@ -27,7 +28,7 @@ fn join_tiny(mesh: &[[i32; 9]], starts: &mut [u32], corners: &mut [i32]) -> Coun
 
 // The parts of a small mesh that is accepted.
 fn join_small(mesh: &[[i32; 9]], starts: &mut [u32], corners: &mut [i32]) -> Counts
-    requires { ⌜ (length (now mesh) ≤ 128) × (firstFault (meshKinds (rowsMesh (now mesh))) ≡ 0) ⌝ }
+    requires { ⌜ (length (now mesh) ≤ small) × (firstFault (meshKinds (rowsMesh (now mesh))) ≡ 0) ⌝ }
     ensures counts { λ r. ⌜ r ≡ partsCounts (rowsMesh (now (mesh .entry))) (now (starts .entry)) (now (corners .entry)) ⌝ }
     ensures starts { λ r. ⌜ now (starts .exit) ≡ partsStarts (rowsMesh (now (mesh .entry))) (now (starts .entry)) (now (corners .entry)) ⌝ }
     ensures corners { λ r. ⌜ now (corners .exit) ≡ partsCorners (rowsMesh (now (mesh .entry))) (now (starts .entry)) (now (corners .entry)) ⌝ }
@@ -40,7 +41,7 @@ fn join_small(mesh: &[[i32; 9]], starts: &mut [u32], corners: &mut [i32]) -> Cou
 
 // The parts of any mesh that is accepted.
 fn join_large(mesh: &[[i32; 9]], starts: &mut [u32], corners: &mut [i32]) -> Counts
-    requires { ⌜ (length (now mesh) ≤ 1024) × (firstFault (meshKinds (rowsMesh (now mesh))) ≡ 0) ⌝ }
+    requires { ⌜ (length (now mesh) ≤ maxTriangles) × (firstFault (meshKinds (rowsMesh (now mesh))) ≡ 0) ⌝ }
     ensures counts { λ r. ⌜ r ≡ partsCounts (rowsMesh (now (mesh .entry))) (now (starts .entry)) (now (corners .entry)) ⌝ }
     ensures starts { λ r. ⌜ now (starts .exit) ≡ partsStarts (rowsMesh (now (mesh .entry))) (now (starts .entry)) (now (corners .entry)) ⌝ }
     ensures corners { λ r. ⌜ now (corners .exit) ≡ partsCorners (rowsMesh (now (mesh .entry))) (now (starts .entry)) (now (corners .entry)) ⌝ }

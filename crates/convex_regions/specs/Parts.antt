@@ -15,6 +15,13 @@ use Rattle.convex_gather.specs.Gather.{Gathered}
 use Rattle.convex_ring.specs.Buffers.{free, Marked, Ready}
 use Rattle.convex_contour.specs.Contour.{firstPoints}
 
+-- a mesh of at most so many triangles is tiny, or small: its work arrays are of that size
+abbrev pub tiny : ℕ
+tiny = 16
+
+abbrev pub small : ℕ
+small = 128
+
 -- there is a place for each triangle's start and one more, and three for its corners; each triangle not taken has its own
 pub record Room (m : Mesh) (flags : List Bool) (starts : List ℕ) (points : List (List ℤ)) (t : Tally) : Type 0 where
   pub for-starts : length m < length starts

@@ -7,12 +7,12 @@ ghost use mathlib.Core.List.{[]};
 ghost use Prim.Native.Nat.{_<_, _≤_, _*_};
 ghost use lib.ListN.{length, getD};
 ghost use Rattle.integers.specs.Faults.{firstFault};
-ghost use Rattle.mesh.specs.Mesh.{meshKinds};
+ghost use Rattle.mesh.specs.Mesh.{maxTriangles, meshKinds};
 ghost use Rattle.mesh.specs.Rows.{rowsMesh};
 ghost use Rattle.convex.specs.Joining.{parts};
 ghost use Rattle.convex_ring.specs.Buffers.{Marked, Ready};
 ghost use Rattle.convex_gather.specs.Gather.{Gathered};
-ghost use Rattle.convex_regions.specs.Parts.{Room, Joined, Visited};
+ghost use Rattle.convex_regions.specs.Parts.{tiny, small, Room, Joined, Visited};
 use convex_gather::Tally;
 
 // A mesh of at most so many triangles is tiny, or small; `large` is any that is accepted.
@@ -90,7 +90,7 @@ fn visit_all(
 
 // The parts of a tiny mesh.
 fn gather_tiny(mesh: &[[i32; 9]], starts: &mut [u32], points: &mut [[i32; 2]]) -> Tally
-    requires { ⌜ (length (now mesh) ≤ 16) × (firstFault (meshKinds (rowsMesh (now mesh))) ≡ 0) × (length (now mesh) < length (now starts)) × (3 * length (now mesh) ≤ length (now points)) ⌝ }
+    requires { ⌜ (length (now mesh) ≤ tiny) × (firstFault (meshKinds (rowsMesh (now mesh))) ≡ 0) × (length (now mesh) < length (now starts)) × (3 * length (now mesh) ≤ length (now points)) ⌝ }
     ensures { λ r. ⌜ Gathered (now (starts .exit)) (now (points .exit)) r (parts (rowsMesh (now (mesh .entry)))) × (r .parts ≤ length (now (mesh .entry))) × (r .corners ≤ 3 * length (now (mesh .entry))) ⌝ }
 {
     let mut corners = [[0i32; 2]; TINY + 2];
@@ -110,7 +110,7 @@ fn gather_tiny(mesh: &[[i32; 9]], starts: &mut [u32], points: &mut [[i32; 2]]) -
 
 // The parts of a small mesh.
 fn gather_small(mesh: &[[i32; 9]], starts: &mut [u32], points: &mut [[i32; 2]]) -> Tally
-    requires { ⌜ (length (now mesh) ≤ 128) × (firstFault (meshKinds (rowsMesh (now mesh))) ≡ 0) × (length (now mesh) < length (now starts)) × (3 * length (now mesh) ≤ length (now points)) ⌝ }
+    requires { ⌜ (length (now mesh) ≤ small) × (firstFault (meshKinds (rowsMesh (now mesh))) ≡ 0) × (length (now mesh) < length (now starts)) × (3 * length (now mesh) ≤ length (now points)) ⌝ }
     ensures { λ r. ⌜ Gathered (now (starts .exit)) (now (points .exit)) r (parts (rowsMesh (now (mesh .entry)))) × (r .parts ≤ length (now (mesh .entry))) × (r .corners ≤ 3 * length (now (mesh .entry))) ⌝ }
 {
     let mut corners = [[0i32; 2]; SMALL + 2];
@@ -130,7 +130,7 @@ fn gather_small(mesh: &[[i32; 9]], starts: &mut [u32], points: &mut [[i32; 2]]) 
 
 // The parts of any accepted mesh: document 01 has at most 1,024 triangles.
 fn gather_large(mesh: &[[i32; 9]], starts: &mut [u32], points: &mut [[i32; 2]]) -> Tally
-    requires { ⌜ (length (now mesh) ≤ 1024) × (firstFault (meshKinds (rowsMesh (now mesh))) ≡ 0) × (length (now mesh) < length (now starts)) × (3 * length (now mesh) ≤ length (now points)) ⌝ }
+    requires { ⌜ (length (now mesh) ≤ maxTriangles) × (firstFault (meshKinds (rowsMesh (now mesh))) ≡ 0) × (length (now mesh) < length (now starts)) × (3 * length (now mesh) ≤ length (now points)) ⌝ }
     ensures { λ r. ⌜ Gathered (now (starts .exit)) (now (points .exit)) r (parts (rowsMesh (now (mesh .entry)))) × (r .parts ≤ length (now (mesh .entry))) × (r .corners ≤ 3 * length (now (mesh .entry))) ⌝ }
 {
     let mut corners = [[0i32; 2]; mesh::MAX_TRIANGLES + 2];

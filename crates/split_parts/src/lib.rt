@@ -7,8 +7,9 @@ ghost use Prim.Native.Nat.{_+_, _<_, _≤_, max};
 ghost use lib.ListN.{length, getD};
 ghost use mathlib.Core.List.{[]};
 ghost use Rattle.integers.specs.Faults.{firstFault};
-ghost use Rattle.mesh.specs.Mesh.{meshKinds};
+ghost use Rattle.mesh.specs.Mesh.{maxTriangles, meshKinds};
 ghost use Rattle.mesh.specs.Rows.{rowsMesh};
+ghost use Rattle.convex_regions.specs.Parts.{tiny, small};
 ghost use Rattle.split.specs.Splitting.{raised, splitContour, splitCounts, splitStarts, splitCorners};
 ghost use Rattle.convex_gather.specs.Gather.{Gathered, RoomFor, PartsAppended};
 ghost use Rattle.split_parts.specs.Parts.{partsIn, Splittable, splitEach, WorkRoom};
@@ -108,7 +109,7 @@ fn split_tiny(
     starts: &mut [u32],
     corners: &mut [i32],
 ) -> Counts
-    requires { ⌜ (length (now mesh) ≤ 16) × (firstFault (meshKinds (rowsMesh (now mesh))) ≡ 0) ⌝ }
+    requires { ⌜ (length (now mesh) ≤ tiny) × (firstFault (meshKinds (rowsMesh (now mesh))) ≡ 0) ⌝ }
     ensures counts { λ r. ⌜ r ≡ splitCounts strategy limit (rowsMesh (now (mesh .entry))) (now (starts .entry)) (now (corners .entry)) ⌝ }
     ensures starts { λ r. ⌜ now (starts .exit) ≡ splitStarts strategy limit (rowsMesh (now (mesh .entry))) (now (starts .entry)) (now (corners .entry)) ⌝ }
     ensures corners { λ r. ⌜ now (corners .exit) ≡ splitCorners strategy limit (rowsMesh (now (mesh .entry))) (now (starts .entry)) (now (corners .entry)) ⌝ }
@@ -138,7 +139,7 @@ fn split_small(
     starts: &mut [u32],
     corners: &mut [i32],
 ) -> Counts
-    requires { ⌜ (length (now mesh) ≤ 128) × (firstFault (meshKinds (rowsMesh (now mesh))) ≡ 0) ⌝ }
+    requires { ⌜ (length (now mesh) ≤ small) × (firstFault (meshKinds (rowsMesh (now mesh))) ≡ 0) ⌝ }
     ensures counts { λ r. ⌜ r ≡ splitCounts strategy limit (rowsMesh (now (mesh .entry))) (now (starts .entry)) (now (corners .entry)) ⌝ }
     ensures starts { λ r. ⌜ now (starts .exit) ≡ splitStarts strategy limit (rowsMesh (now (mesh .entry))) (now (starts .entry)) (now (corners .entry)) ⌝ }
     ensures corners { λ r. ⌜ now (corners .exit) ≡ splitCorners strategy limit (rowsMesh (now (mesh .entry))) (now (starts .entry)) (now (corners .entry)) ⌝ }
@@ -168,7 +169,7 @@ fn split_large(
     starts: &mut [u32],
     corners: &mut [i32],
 ) -> Counts
-    requires { ⌜ (length (now mesh) ≤ 1024) × (firstFault (meshKinds (rowsMesh (now mesh))) ≡ 0) ⌝ }
+    requires { ⌜ (length (now mesh) ≤ maxTriangles) × (firstFault (meshKinds (rowsMesh (now mesh))) ≡ 0) ⌝ }
     ensures counts { λ r. ⌜ r ≡ splitCounts strategy limit (rowsMesh (now (mesh .entry))) (now (starts .entry)) (now (corners .entry)) ⌝ }
     ensures starts { λ r. ⌜ now (starts .exit) ≡ splitStarts strategy limit (rowsMesh (now (mesh .entry))) (now (starts .entry)) (now (corners .entry)) ⌝ }
     ensures corners { λ r. ⌜ now (corners .exit) ≡ splitCorners strategy limit (rowsMesh (now (mesh .entry))) (now (starts .entry)) (now (corners .entry)) ⌝ }

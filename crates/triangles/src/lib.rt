@@ -3,6 +3,7 @@
 ghost use mathlib.Core.Path.{_≡_};
 ghost use Prim.Native.Nat.{_<_, _≤_};
 ghost use lib.ListN.{length, getD, take};
+ghost use Rattle.mesh.specs.Mesh.{maxTriangles};
 ghost use Rattle.mesh.specs.Rows.{rowTriangle, rowsMesh};
 ghost use Rattle.triangles.specs.Triangles.{noStruct, structTriangle, trianglesMesh};
 
@@ -38,13 +39,13 @@ pub fn triangle_at(mesh: &[IntTriangle], k: usize) -> IntTriangle
 }
 
 // Rows for a mesh of any size, before they are read.
-fn blank_large() -> [[i32; 9]; 1024] {
-    [[0i32; 9]; 1024]
+fn blank_large() -> [[i32; 9]; mesh::MAX_TRIANGLES] {
+    [[0i32; 9]; mesh::MAX_TRIANGLES]
 }
 
 // The rows of a mesh, on the front of the array.
-pub fn rows_large(mesh: &[IntTriangle]) -> [[i32; 9]; 1024]
-    requires { ⌜ length (now mesh) ≤ 1024 ⌝ }
+pub fn rows_large(mesh: &[IntTriangle]) -> [[i32; 9]; mesh::MAX_TRIANGLES]
+    requires { ⌜ length (now mesh) ≤ maxTriangles ⌝ }
     ensures { λ r. ⌜ rowsMesh (take (length (now (mesh .entry))) r) ≡ trianglesMesh (now (mesh .entry)) ⌝ }
 {
     let mut rows = blank_large();

@@ -4,14 +4,14 @@ ghost use mathlib.Core.Path.{_≡_};
 ghost use Prim.Native.Nat.{_≤_};
 ghost use lib.ListN.{length, take};
 ghost use Rattle.integers.specs.Faults.{firstFault};
-ghost use Rattle.mesh.specs.Mesh.{meshKinds};
+ghost use Rattle.mesh.specs.Mesh.{maxTriangles, meshKinds};
 ghost use Rattle.mesh.specs.Rows.{rowsMesh};
 ghost use Rattle.triangles.specs.Triangles.{trianglesMesh};
 use triangles::IntTriangle;
 
 // The first fault of the mesh on the front of the rows.
-fn fault_large(rows: [[i32; 9]; 1024], n: usize) -> u32
-    requires { ⌜ n ≤ 1024 ⌝ }
+fn fault_large(rows: [[i32; 9]; mesh::MAX_TRIANGLES], n: usize) -> u32
+    requires { ⌜ n ≤ maxTriangles ⌝ }
     ensures { λ r. ⌜ r ≡ firstFault (meshKinds (rowsMesh (take n rows))) ⌝ }
 {
     mesh_faults::mesh_fault(&rows[..n])

@@ -3,6 +3,7 @@
 ghost use mathlib.Core.Path.{_≡_};
 ghost use Prim.Native.Nat.{_≤_};
 ghost use lib.ListN.{length, take};
+ghost use Rattle.mesh.specs.Mesh.{maxTriangles};
 ghost use Rattle.mesh.specs.Rows.{rowsMesh};
 ghost use Rattle.convex.specs.Joining.{partsCounts, partsStarts, partsCorners};
 ghost use Rattle.triangles.specs.Triangles.{trianglesMesh};
@@ -10,8 +11,13 @@ use table::Counts;
 use triangles::IntTriangle;
 
 // The parts of the mesh on the front of the rows.
-fn join_large(rows: [[i32; 9]; 1024], n: usize, starts: &mut [u32], corners: &mut [i32]) -> Counts
-    requires { ⌜ n ≤ 1024 ⌝ }
+fn join_large(
+    rows: [[i32; 9]; mesh::MAX_TRIANGLES],
+    n: usize,
+    starts: &mut [u32],
+    corners: &mut [i32],
+) -> Counts
+    requires { ⌜ n ≤ maxTriangles ⌝ }
     ensures { λ r. ⌜ (r ≡ partsCounts (rowsMesh (take n rows)) (now (starts .entry)) (now (corners .entry))) × (now (starts .exit) ≡ partsStarts (rowsMesh (take n rows)) (now (starts .entry)) (now (corners .entry))) × (now (corners .exit) ≡ partsCorners (rowsMesh (take n rows)) (now (starts .entry)) (now (corners .entry))) ⌝ }
 {
     convex_join::to_convex_polygons(&rows[..n], starts, corners)
