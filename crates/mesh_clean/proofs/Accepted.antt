@@ -1,11 +1,11 @@
--- A clean mesh of at most 1,024 triangles has no fault (`clean-accepted`): its rows are clean and its areas fit (`clean-rows`), its edges are shared
--- (`shared-rows`), and each fault's test follows from Sides. Assumes nothing.
-use mathlib.Core.Path.{_≡_, refl, _∙_, subst}
+-- A clean mesh of at most 1,024 triangles has no fault (`clean-accepted`): its triangles are sound and its areas fit (`sound-rows`), its edges are shared
+-- (`linked-rows`), and each fault's test follows from Sides. Assumes nothing.
+use mathlib.Core.Path.{_≡_, refl, sym, _∙_, subst}
 use mathlib.Core.Bool.{Bool, true, false, cond}
 use mathlib.Core.List.{List, [], _∷_, map}
 use Prim.Native.Nat.{ℕ, zero, suc, _+_, _<_, _≤_}
 use native.Mathlib.Omega.{arith}
-use borrow.Author.Tests.{eqb-true, eqb-false, ne-eqb, leb-false, lt-leb, le-ltb}
+use borrow.Author.Tests.{eqb-true, eqb-false, ne-eqb, leb-false, lt-leb, le-ltb, not-true}
 use lib.Dec.{eqb, leb}
 use lib.ListN.{length}
 use lib.IntN.{ℤ, pos, _+ℤ_}
@@ -18,7 +18,7 @@ use Rattle.integers.proofs.Tests.{differ, ltZ-≤, leZ-<, ≤-ltZ}
 use Rattle.plane.specs.Plane.{Pt, eqPt}
 use Rattle.plane.proofs.Edges.{eqPt-true, eqPt-refl}
 use Rattle.mesh.specs.Mesh.{Mesh, Triangle, none, vertex, neighbour, after, before, triangleAt, triangleArea, triangleOff, someFrom, some, someSide, shared, maxTriangles, tooMany, offGrid, strays, strayNeighbour, misnames, misnamed, opposite, runsOppositely, mismatches, mismatched, flat, meshArea, tooLarge, meshKinds}
-use Rattle.mesh_clean.specs.Clean.{sameEdge, sharesBack, sharesEdge, sharesAll, rowClean, cleanFrom, clean}
+use Rattle.mesh_clean.specs.Clean.{sameEdge, sharesBack, sharesEdge, sharesAll, sound, soundFrom, linkedFrom, clean}
 use Rattle.mesh_clean.proofs.Sides.{Meets, Shared, named-once, named-back, not-self}
 
 -- ---- tests that hold
@@ -34,9 +34,9 @@ not-then false t h = (refl, h)
 -- ---- a side
 
 module _ (u : Triangle) (k : ℕ) (a b : Pt) where
-  edge : (p q : Pt) → sameEdge a b p q ≡ true → (a ≡ p) × (b ≡ q)
+  edge : (p q : Pt) → sameEdge p q b a ≡ true → (a ≡ q) × (b ≡ p)
   unfolding sameEdge
-  edge p q h = let e = both-true (eqPt a p) (eqPt b q) h in (eqPt-true a p (e .0), eqPt-true b q (e .1))
+  edge p q h = let e = both-true (eqPt p b) (eqPt q a) h in (sym (eqPt-true q a (e .1)), sym (eqPt-true p b (e .0)))
 
   abbrev At : ℕ → Type 0
   At j = (neighbour u j ≡ k) × ((a ≡ vertex u (before j)) × (b ≡ vertex u (after j)))
@@ -44,9 +44,9 @@ module _ (u : Triangle) (k : ℕ) (a b : Pt) where
   shares-back : sharesBack u k a b ≡ true → At (opposite u k)
   unfolding sharesBack opposite neighbour vertex after
   shares-back h =
-      by-test (eqb (u .n0) k) (λ x. rw x (eqb-true (u .n0) k x, edge (u .v2) (u .v1) (rw x at h)))
-      (λ x. rw x (by-test (eqb (u .n1) k) (λ y. rw y (eqb-true (u .n1) k y, edge (u .v0) (u .v2) (rw (x, y) at h)))
-      (λ y. rw y (by-test (eqb (u .n2) k) (λ z. (eqb-true (u .n2) k z, edge (u .v1) (u .v0) (rw (x, y, z) at h))) (λ z. differ (rw (x, y, z) at h))))))
+      by-test (eqb (u .n0) k) (λ x. rw x (eqb-true (u .n0) k x, edge (u .v1) (u .v2) (rw x at h)))
+      (λ x. rw x (by-test (eqb (u .n1) k) (λ y. rw y (eqb-true (u .n1) k y, edge (u .v2) (u .v0) (rw (x, y) at h)))
+      (λ y. rw y (by-test (eqb (u .n2) k) (λ z. (eqb-true (u .n2) k z, edge (u .v0) (u .v1) (rw (x, y, z) at h))) (λ z. differ (rw (x, y, z) at h))))))
 
 shares-side : (m : Mesh) (k : ℕ) (t : Triangle) (i : ℕ) → i < 3 → sharesAll m k t ≡ true → sharesEdge m k (neighbour t i) (vertex t (after i)) (vertex t (before i)) ≡ true
 unfolding sharesAll neighbour vertex after
@@ -58,34 +58,38 @@ shares-met : (m : Mesh) (k n : ℕ) (a b : Pt) → (n ≡ none → ⊥) → shar
 unfolding sharesEdge
 shares-met m k n a b d h = let e = not-then (leb (length m) n) (sharesBack (triangleAt m n) k a b) (rw (ne-eqb n none d) at h) in (leb-false (length m) n (e .0), e .1)
 
--- ---- a row, and all rows
+-- ---- a triangle, and all of them
 
-pub record Row (m : Mesh) (k : ℕ) (t : Triangle) : Type 0 where
+pub record Sound (t : Triangle) : Type 0 where
   pub on-grid : triangleOff t ≡ false
   pub above : leZ (triangleArea t) (pos 0) ≡ false
-  pub shares : sharesAll m k t ≡ true
 
-pub row : (m : Mesh) (k : ℕ) (t : Triangle) → rowClean m k t ≡ true → Row m k t
-unfolding rowClean
-row m k t h =
+pub sound-parts : (t : Triangle) → sound t ≡ true → Sound t
+unfolding sound
+sound-parts t h =
     let e = not-then (triangleOff t) _ h in
-    let f = not-then (leZ (triangleArea t) (pos 0)) (sharesAll m k t) (e .1) in
-    record { on-grid = e .0; above = f .0; shares = f .1 }
+    record { on-grid = e .0; above = not-true (leZ (triangleArea t) (pos 0)) (e .1) }
 
-clean-rows : (m : Mesh) (k : ℕ) (z : ℤ) (l : List Triangle) → z ≤ℤ pos 9223372036854775807 → cleanFrom m k z l ≡ true
-    → ((i : ℕ) → i < length l → Row m (k + i) (triangleAt l i)) × ((z +ℤ sumℤ (map triangleArea l)) ≤ℤ pos 9223372036854775807)
-unfolding cleanFrom sumℤ
-clean-rows m k z [] g h = ((λ i l. absurd (omega arith)), omega (zarith, add-parts z (pos 0)))
-clean-rows m k z (t ∷ l) g h =
+sound-rows : (z : ℤ) (l : List Triangle) → z ≤ℤ pos 9223372036854775807 → soundFrom z l ≡ true
+    → ((i : ℕ) → i < length l → Sound (triangleAt l i)) × ((z +ℤ sumℤ (map triangleArea l)) ≤ℤ pos 9223372036854775807)
+unfolding soundFrom sumℤ
+sound-rows z [] g h = ((λ i l. absurd (omega arith)), omega (zarith, add-parts z (pos 0)))
+sound-rows z (t ∷ l) g h =
     let s = sumℤ (map triangleArea l) in
-    let e = both-true (rowClean m k t) _ h in
-    let f = not-then (ltZ (pos 9223372036854775807) (z +ℤ triangleArea t)) (cleanFrom m (suc k) (z +ℤ triangleArea t) l) (e .1) in
-    let r = clean-rows m (suc k) (z +ℤ triangleArea t) l (ltZ-≤ _ _ (f .0)) (f .1) in
+    let e = both-true (sound t) _ h in
+    let f = not-then (ltZ (pos 9223372036854775807) (z +ℤ triangleArea t)) (soundFrom (z +ℤ triangleArea t) l) (e .1) in
+    let r = sound-rows (z +ℤ triangleArea t) l (ltZ-≤ _ _ (f .0)) (f .1) in
     (at (e .0) (r .0), omega (zarith, r .1, add-parts (z +ℤ triangleArea t) s, add-parts z (triangleArea t), add-parts z (triangleArea t +ℤ s), add-parts (triangleArea t) s))
   where
-    at : rowClean m k t ≡ true → ((i : ℕ) → i < length l → Row m (suc k + i) (triangleAt l i)) → (i : ℕ) → i < suc (length l) → Row m (k + i) (triangleAt (t ∷ l) i)
-    at e f zero h = subst (λ j. Row m j t) (omega arith) (row m k t e)
-    at e f (suc i) h = subst (λ j. Row m j (triangleAt l i)) (omega arith) (f i (omega arith))
+    at : sound t ≡ true → ((i : ℕ) → i < length l → Sound (triangleAt l i)) → (i : ℕ) → i < suc (length l) → Sound (triangleAt (t ∷ l) i)
+    at e f zero h = sound-parts t e
+    at e f (suc i) h = f i (omega arith)
+
+linked-rows : (m : Mesh) (k : ℕ) (l : List Triangle) → linkedFrom m k l ≡ true → (i : ℕ) → i < length l → sharesAll m (k + i) (triangleAt l i) ≡ true
+unfolding linkedFrom
+linked-rows m k [] h i g = absurd (omega arith)
+linked-rows m k (t ∷ l) h zero g = subst (λ j. sharesAll m j t ≡ true) (omega arith) (both-true (sharesAll m k t) _ h .0)
+linked-rows m k (t ∷ l) h (suc i) g = subst (λ j. sharesAll m j (triangleAt l i) ≡ true) (omega arith) (linked-rows m (suc k) l (both-true (sharesAll m k t) _ h .1) i (omega arith))
 
 -- ---- no triangle and no side passes a test
 
@@ -112,21 +116,27 @@ none-shared test m f = none-of (λ k t. someSide (shared t (test k t))) m (λ k 
 -- ---- a clean mesh
 
 module _ (m : Mesh) (c : clean m ≡ true) (few : length m ≤ maxTriangles) where
-  rows : (k : ℕ) → k < length m → Row m k (triangleAt m k)
-  rows k h = subst (λ j. Row m j (triangleAt m k)) (omega arith) (clean-rows m 0 (pos 0) m (omega zarith) c .0 k h)
+  passes : (soundFrom (pos 0) m ≡ true) × (linkedFrom m 0 m ≡ true)
+  passes = both-true (soundFrom (pos 0) m) (linkedFrom m 0 m) c
+
+  rows : ((k : ℕ) → k < length m → Sound (triangleAt m k)) × ((pos 0 +ℤ sumℤ (map triangleArea m)) ≤ℤ pos 9223372036854775807)
+  rows = sound-rows (pos 0) m (omega zarith) (passes .0)
+
+  links : (k : ℕ) → k < length m → sharesAll m k (triangleAt m k) ≡ true
+  links k h = subst (λ j. sharesAll m j (triangleAt m k) ≡ true) (omega arith) (linked-rows m 0 m (passes .1) k h)
 
   module _ (k i : ℕ) (l : k < length m) (h : i < 3) (d : neighbour (triangleAt m k) i ≡ none → ⊥) where
     met : (neighbour (triangleAt m k) i < length m) × Meets k (triangleAt m k) i (triangleAt m (neighbour (triangleAt m k) i))
     met =
         let t = triangleAt m k in
-        let e = shares-met m k (neighbour t i) (vertex t (after i)) (vertex t (before i)) d (shares-side m k t i h (rows k l .shares)) in
+        let e = shares-met m k (neighbour t i) (vertex t (after i)) (vertex t (before i)) d (shares-side m k t i h (links k l)) in
         let b = shares-back (triangleAt m (neighbour t i)) k (vertex t (after i)) (vertex t (before i)) (e .1) in
         (e .0, record { names = b .0; begins = b .1 .0; ends = b .1 .1 })
 
   sides : Shared m
   sides = record {
     few = few;
-    area = λ k l. leZ-< (triangleArea (triangleAt m k)) (pos 0) (rows k l .above);
+    area = λ k l. leZ-< (triangleArea (triangleAt m k)) (pos 0) (rows .0 k l .above);
     in-mesh = λ k i l h d. met k i l h d .0;
     meets = λ k i l h d. met k i l h d .1;
   }
@@ -137,7 +147,7 @@ module _ (m : Mesh) (c : clean m ≡ true) (few : length m ≤ maxTriangles) whe
 
   no-off : offGrid m ≡ false
   unfolding offGrid
-  no-off = none-of (λ k t. triangleOff t) m (λ k l. rows k l .on-grid)
+  no-off = none-of (λ k t. triangleOff t) m (λ k l. rows .0 k l .on-grid)
 
   no-stray : strayNeighbour m ≡ false
   unfolding strayNeighbour
@@ -155,11 +165,11 @@ module _ (m : Mesh) (c : clean m ≡ true) (few : length m ≤ maxTriangles) whe
 
   no-flat : flat m ≡ false
   unfolding flat
-  no-flat = none-of (λ k t. leZ (triangleArea t) (pos 0)) m (λ k l. rows k l .above)
+  no-flat = none-of (λ k t. leZ (triangleArea t) (pos 0)) m (λ k l. rows .0 k l .above)
 
   fits : tooLarge m ≡ false
   unfolding tooLarge meshArea
-  fits = ≤-ltZ {x = pos 9223372036854775807} {y = sumℤ (map triangleArea m)} (omega (zarith, clean-rows m 0 (pos 0) m (omega zarith) c .1, add-parts (pos 0) (sumℤ (map triangleArea m))))
+  fits = ≤-ltZ {x = pos 9223372036854775807} {y = sumℤ (map triangleArea m)} (omega (zarith, rows .1, add-parts (pos 0) (sumℤ (map triangleArea m))))
 
   pub clean-accepted : firstFault (meshKinds m) ≡ 0
   clean-accepted =

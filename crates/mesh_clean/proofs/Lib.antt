@@ -1,6 +1,7 @@
--- What a clean mesh has, and that it has no fault; the code's tests of a side and a row; the pass; a total's answers.
+-- What a clean mesh has, and that it has no fault; points as numbers; the code's tests of a side and a row; the two passes; a total's answers.
 pub mod Sides
 pub mod Accepted
+pub mod Packed
 pub mod Tests
-pub mod Pass
+pub mod Passes
 pub mod Totals

@@ -1,6 +1,6 @@
--- A clean mesh: what one pass over the rows asks before a mesh is accepted (`clean-accepted` in proofs/Accepted). It asks less of a side than
--- faults 3, 4 and 5 do: the rest follows where every doubled area is above 0. Assumes nothing.
-use mathlib.Core.Bool.{Bool, true, false, cond}
+-- A clean mesh: what two passes over the rows ask before a mesh is accepted (`clean-accepted` in proofs/Accepted), first of each triangle and the
+-- total, then of the sides. Of a side less is asked than faults 3, 4 and 5 do: the rest follows where every doubled area is above 0. Assumes nothing.
+use mathlib.Core.Bool.{Bool, true, false, not, cond}
 use mathlib.Core.List.{List, [], _∷_}
 use Prim.Native.Nat.{ℕ, suc}
 use lib.Dec.{eqb, leb}
@@ -17,27 +17,33 @@ sameEdge a b p q = cond (eqPt a p) (eqPt b q) false
 -- of triangle u, which triangle k names over the edge from a to b: the first side that names k back runs from b to a
 unfoldable pub sharesBack : Triangle → ℕ → Pt → Pt → Bool
 sharesBack u k a b =
-    cond (eqb (u .n0) k) (sameEdge a b (u .v2) (u .v1))
-    (cond (eqb (u .n1) k) (sameEdge a b (u .v0) (u .v2))
-    (cond (eqb (u .n2) k) (sameEdge a b (u .v1) (u .v0)) false))
+    cond (eqb (u .n0) k) (sameEdge (u .v1) (u .v2) b a)
+    (cond (eqb (u .n1) k) (sameEdge (u .v2) (u .v0) b a)
+    (cond (eqb (u .n2) k) (sameEdge (u .v0) (u .v1) b a) false))
 
--- of triangle k's side from a to b, across which it names n
+-- of triangle k's side from a to b, across which it names n: n is none, or a triangle of the mesh that shares the edge
 unfoldable pub sharesEdge : Mesh → ℕ → ℕ → Pt → Pt → Bool
 sharesEdge m k n a b = cond (eqb n none) true (cond (leb (length m) n) false (sharesBack (triangleAt m n) k a b))
 
+-- of triangle k, t: its three sides do
 unfoldable pub sharesAll : Mesh → ℕ → Triangle → Bool
 sharesAll m k t =
     cond (sharesEdge m k (t .n0) (t .v1) (t .v2)) (cond (sharesEdge m k (t .n1) (t .v2) (t .v0)) (sharesEdge m k (t .n2) (t .v0) (t .v1)) false) false
 
--- triangle k, t: on the grid, its doubled area above 0, its edges shared
-unfoldable pub rowClean : Mesh → ℕ → Triangle → Bool
-rowClean m k t = cond (triangleOff t) false (cond (leZ (triangleArea t) (pos 0)) false (sharesAll m k t))
+-- a triangle on the grid, its doubled area above 0
+unfoldable pub sound : Triangle → Bool
+sound t = cond (triangleOff t) false (not (leZ (triangleArea t) (pos 0)))
 
--- the triangles from k on, where the doubled areas before them add up to z
-unfoldable pub cleanFrom : Mesh → ℕ → ℤ → List Triangle → Bool
-cleanFrom m k z [] = true
-cleanFrom m k z (t ∷ l) =
-    cond (rowClean m k t) (cond (ltZ (pos 9223372036854775807) (z +ℤ triangleArea t)) false (cleanFrom m (suc k) (z +ℤ triangleArea t) l)) false
+-- every triangle is sound, and no sum of their doubled areas, onto z, is past 2^63 - 1
+unfoldable pub soundFrom : ℤ → List Triangle → Bool
+soundFrom z [] = true
+soundFrom z (t ∷ l) = cond (sound t) (cond (ltZ (pos 9223372036854775807) (z +ℤ triangleArea t)) false (soundFrom (z +ℤ triangleArea t) l)) false
 
+-- the triangles from k on share their edges
+unfoldable pub linkedFrom : Mesh → ℕ → List Triangle → Bool
+linkedFrom m k [] = true
+linkedFrom m k (t ∷ l) = cond (sharesAll m k t) (linkedFrom m (suc k) l) false
+
+-- both passes
 abbrev pub clean : Mesh → Bool
-clean m = cleanFrom m 0 (pos 0) m
+clean m = cond (soundFrom (pos 0) m) (linkedFrom m 0 m) false

@@ -1,17 +1,19 @@
-// Whether a mesh is clean: one pass over its rows that accepts most meshes at once (`is_clean`); where it does not, mesh_faults tells the number, by
-// the tests of a row that are here too. Leans on mesh.
+// Whether a mesh is clean (`is_clean`), which accepts most meshes at once; where it does not, mesh_faults tells the number, by the tests of a row that are
+// here too. Two passes: the first reads the rows in order (grid, areas, total), which brings a mesh that is not yet in the cache into it, so that the
+// second's jumps from neighbour to neighbour cost little. Leans on mesh.
 ghost use mathlib.Core.Path.{_≡_};
+ghost use mathlib.Core.Bool.{cond};
 ghost use Prim.Native.Nat.{_<_};
 ghost use lib.ListN.{length};
 ghost use lib.IntN.{pos, _+ℤ_};
 ghost use lib.Signed.{leZ, _≤ℤ_};
-ghost use Rattle.plane.specs.Machine.{point};
-ghost use Rattle.mesh.specs.Mesh.{triangleAt, triangleOff, triangleArea};
+ghost use Rattle.plane.specs.Plane.{Pt};
+ghost use Rattle.mesh.specs.Mesh.{vertex, triangleAt, triangleOff, triangleArea};
 ghost use Rattle.mesh.specs.Rows.{rowTriangle, rowsMesh, RowOnGrid};
 ghost use Rattle.mesh_clean.specs.Totals.{addedOf};
-ghost use Rattle.mesh_clean.specs.Clean.{sameEdge, sharesEdge, rowClean, clean};
+ghost use Rattle.mesh_clean.specs.Packed.{Packs};
+ghost use Rattle.mesh_clean.specs.Clean.{sharesBack, sharesEdge, sharesAll, sound, soundFrom, linkedFrom, clean};
 use mesh::NIL_INDEX;
-use plane::IntPoint;
 
 // Whether a coordinate of a row is off the grid.
 pub fn row_off(row: [i32; 9]) -> bool
@@ -51,72 +53,24 @@ pub fn add_area(total: i64, area: i64) -> Added
     Added::Total(total + area)
 }
 
-// Whether the edge from a to b is the one from p to q.
-fn same_edge(a: IntPoint, b: IntPoint, p: IntPoint, q: IntPoint) -> bool
-    ensures { λ r. ⌜ r ≡ sameEdge (point a) (point b) (point p) (point q) ⌝ }
+// Whether a row is on the grid and its doubled area above 0.
+fn row_sound(row: [i32; 9]) -> bool
+    ensures { λ r. ⌜ r ≡ sound (rowTriangle row) ⌝ }
 {
-    if plane::same_point(a, p) {
-        return plane::same_point(b, q);
-    }
-    false
-}
-
-// Whether n, the neighbour of triangle k across the edge from a to b, is none, or in the mesh with its first side that names k running from b to a.
-// That n is not k, and that each names the other once, is not asked: no two vertices of a row are one point, so it follows.
-fn shares_edge(mesh: &[[i32; 9]], k: usize, n: usize, a: IntPoint, b: IntPoint) -> bool
-    ensures { λ r. ⌜ r ≡ sharesEdge (rowsMesh (now (mesh .entry))) k n (point a) (point b) ⌝ }
-{
-    if n == NIL_INDEX {
-        return true;
-    }
-    if n >= mesh.len() {
-        return false;
-    }
-    let far = mesh[n];
-    if mesh::neighbor_of(far, 0) == k {
-        return same_edge(a, b, mesh::vertex_of(far, 2), mesh::vertex_of(far, 1));
-    }
-    if mesh::neighbor_of(far, 1) == k {
-        return same_edge(a, b, mesh::vertex_of(far, 0), mesh::vertex_of(far, 2));
-    }
-    if mesh::neighbor_of(far, 2) == k {
-        return same_edge(a, b, mesh::vertex_of(far, 1), mesh::vertex_of(far, 0));
-    }
-    false
-}
-
-// Whether triangle k is on the grid, its doubled area above 0 and its edges shared.
-fn row_clean(mesh: &[[i32; 9]], k: usize) -> bool
-    requires { ⌜ k < length (now mesh) ⌝ }
-    ensures { λ r. ⌜ r ≡ rowClean (rowsMesh (now (mesh .entry))) k (triangleAt (rowsMesh (now (mesh .entry))) k) ⌝ }
-{
-    let row = mesh[k];
     if row_off(row) {
         return false;
     }
-    if row_flat(row) {
-        return false;
-    }
-    let v0 = mesh::vertex_of(row, 0);
-    let v1 = mesh::vertex_of(row, 1);
-    let v2 = mesh::vertex_of(row, 2);
-    if !shares_edge(mesh, k, mesh::neighbor_of(row, 0), v1, v2) {
-        return false;
-    }
-    if !shares_edge(mesh, k, mesh::neighbor_of(row, 1), v2, v0) {
-        return false;
-    }
-    shares_edge(mesh, k, mesh::neighbor_of(row, 2), v0, v1)
+    !row_flat(row)
 }
 
-// Whether every triangle is clean and their doubled areas add up to at most 2^63 - 1. Then a mesh of at most 1,024 triangles has no fault.
-pub fn is_clean(mesh: &[[i32; 9]]) -> bool
-    ensures { λ r. ⌜ r ≡ clean (rowsMesh (now (mesh .entry))) ⌝ }
+// The first pass: whether every row is sound and the doubled areas add up to at most 2^63 - 1.
+fn all_sound(mesh: &[[i32; 9]]) -> bool
+    ensures { λ r. ⌜ r ≡ soundFrom (pos 0) (rowsMesh (now (mesh .entry))) ⌝ }
 {
     let mut total: i64 = 0;
     let mut k: usize = 0;
     while k < mesh.len() {
-        if !row_clean(mesh, k) {
+        if !row_sound(mesh[k]) {
             return false;
         }
         let sum = add_area(total, mesh::area_of(mesh[k]));
@@ -127,4 +81,101 @@ pub fn is_clean(mesh: &[[i32; 9]]) -> bool
         k += 1;
     }
     true
+}
+
+// Vertex i of a row as one number, its coordinates' 32 bits side by side, so that two points are compared at once.
+fn packed_of(row: [i32; 9], i: usize) -> u64
+    requires { ⌜ i < 3 ⌝ }
+    ensures { λ r. ⌜ Packs (vertex (rowTriangle row) i) r ⌝ }
+{
+    let p = mesh::vertex_of(row, i);
+    integers::unsigned(p.x) as u64 + integers::unsigned(p.y) as u64 * 4294967296
+}
+
+// One of two numbers, by a test.
+fn choose(test: bool, yes: u64, no: u64) -> u64
+    ensures { λ r. ⌜ r ≡ cond test yes no ⌝ }
+{
+    if test {
+        return yes;
+    }
+    no
+}
+
+// Of a row that triangle k names over the edge from a to b, points as numbers: whether its first side that names k runs from b to a. That side is chosen
+// (conditional moves) and not branched on: which it is cannot be foretold, and a branch that is foretold wrong costs more than all the rest. Where no side
+// names k, what is chosen begins at 2^64 - 1 - b, which is not b, since the two add up to an odd number.
+fn names_back(far: [i32; 9], k: usize, a: u64, b: u64) -> bool
+    ensures { λ r. ⌜ ((p q : Pt) → Packs p a → Packs q b → r ≡ sharesBack (rowTriangle far) k p q) ⌝ }
+{
+    let v0 = packed_of(far, 0);
+    let v1 = packed_of(far, 1);
+    let v2 = packed_of(far, 2);
+    let first = mesh::neighbor_of(far, 0) == k;
+    let second = mesh::neighbor_of(far, 1) == k;
+    let third = mesh::neighbor_of(far, 2) == k;
+    let last = choose(third, v0, 18446744073709551615 - b);
+    let from = choose(first, v1, choose(second, v2, last));
+    let to = choose(first, v2, choose(second, v0, v1));
+    if from != b {
+        return false;
+    }
+    to == a
+}
+
+// Whether n, the neighbour of triangle k across the edge from a to b, is none, or in the mesh with its first side that names k running from b to a.
+// That n is not k, and that each names the other once, is not asked: no two vertices of a row are one point, so it follows.
+fn shares_edge(mesh: &[[i32; 9]], k: usize, n: usize, a: u64, b: u64) -> bool
+    ensures { λ r. ⌜ ((p q : Pt) → Packs p a → Packs q b → r ≡ sharesEdge (rowsMesh (now (mesh .entry))) k n p q) ⌝ }
+{
+    if n == NIL_INDEX {
+        return true;
+    }
+    if n >= mesh.len() {
+        return false;
+    }
+    names_back(mesh[n], k, a, b)
+}
+
+// Whether the edges of triangle k are shared.
+fn row_linked(mesh: &[[i32; 9]], k: usize) -> bool
+    requires { ⌜ k < length (now mesh) ⌝ }
+    ensures { λ r. ⌜ r ≡ sharesAll (rowsMesh (now (mesh .entry))) k (triangleAt (rowsMesh (now (mesh .entry))) k) ⌝ }
+{
+    let row = mesh[k];
+    let v0 = packed_of(row, 0);
+    let v1 = packed_of(row, 1);
+    let v2 = packed_of(row, 2);
+    if !shares_edge(mesh, k, mesh::neighbor_of(row, 0), v1, v2) {
+        return false;
+    }
+    if !shares_edge(mesh, k, mesh::neighbor_of(row, 1), v2, v0) {
+        return false;
+    }
+    shares_edge(mesh, k, mesh::neighbor_of(row, 2), v0, v1)
+}
+
+// The second pass: whether every triangle's edges are shared.
+fn all_linked(mesh: &[[i32; 9]]) -> bool
+    ensures { λ r. ⌜ r ≡ linkedFrom (rowsMesh (now (mesh .entry))) 0 (rowsMesh (now (mesh .entry))) ⌝ }
+{
+    let mut k: usize = 0;
+    while k < mesh.len() {
+        if !row_linked(mesh, k) {
+            return false;
+        }
+        k += 1;
+    }
+    true
+}
+
+// Whether every triangle is sound, their doubled areas add up to at most 2^63 - 1, and every edge is shared. Then a mesh of at most 1,024 triangles has no
+// fault.
+pub fn is_clean(mesh: &[[i32; 9]]) -> bool
+    ensures { λ r. ⌜ r ≡ clean (rowsMesh (now (mesh .entry))) ⌝ }
+{
+    if !all_sound(mesh) {
+        return false;
+    }
+    all_linked(mesh)
 }
