@@ -1,31 +1,24 @@
 // A whole region's contour, from the last corner added and without corners of turn 0, appended to the points of the parts before it
-// (`append_contour`). Leans on convex_ring and plane.
+// (`append_contour`). It is run along once, in two stretches of the buffer, and each way from corner to corner is computed once. Leans on
+// convex_ring and plane.
 ghost use mathlib.Core.Path.{_≡_};
-ghost use mathlib.Core.Bool.{not};
 ghost use Prim.Native.Nat.{_+_, _<_, _≤_};
 ghost use lib.ListN.{length};
-ghost use lib.IntN.{pos};
-ghost use Rattle.integers.specs.Test.{eqZ};
-ghost use Rattle.plane.specs.Plane.{turn};
-ghost use Rattle.plane.specs.Machine.{point, OnGrid};
+ghost use Rattle.plane.specs.Machine.{point, vector, Short};
 ghost use Rattle.convex.specs.Joining.{withoutStraight};
-ghost use Rattle.convex_contour.specs.Contour.{contourAt, Whole, placeAfter, placeBefore, keptIf, Appended};
+ghost use Rattle.convex_contour.specs.Contour.{contourAt, Whole, placeBefore, Appended, keptIf, bends, between, Runnable, Ran};
 use convex_ring::Progress;
 use plane::IntPoint;
+use plane::IntVector;
 
-// The place after a place of a whole region's contour, which stands from `done` to the end of a buffer of `size` places; round it.
-fn place_after(size: usize, done: usize, place: usize) -> usize
-    requires { ⌜ place < size ⌝ }
-    ensures { λ r. ⌜ r ≡ placeAfter size done place ⌝ }
-{
-    let next = place + 1;
-    if next == size {
-        return done;
-    }
-    next
+// What a run along the contour carries on: the corner that is judged next, the way to it from the one before, and how many points there are.
+pub struct Run {
+    pub corner: IntPoint,
+    pub way: IntVector,
+    pub count: usize,
 }
 
-// The place before it.
+// The place before a place of a whole region's contour, which stands from `done` to the end of a buffer of `size` places; round it.
 fn place_before(size: usize, done: usize, place: usize) -> usize
     requires { ⌜ 0 < size ⌝ }
     ensures { λ r. ⌜ r ≡ placeBefore size done place ⌝ }
@@ -36,30 +29,52 @@ fn place_before(size: usize, done: usize, place: usize) -> usize
     size - 1
 }
 
-// Whether the turn at b, from a to c, is not 0.
-fn turns_at(a: IntPoint, b: IntPoint, c: IntPoint) -> bool
-    requires { ⌜ OnGrid a × OnGrid b × OnGrid c ⌝ }
-    ensures { λ r. ⌜ r ≡ not (eqZ (turn (point a) (point b) (point c)) (pos 0)) ⌝ }
+// Whether two ways, one after the other, do not go straight on.
+fn bends(d: IntVector, e: IntVector) -> bool
+    requires { ⌜ Short d × Short e ⌝ }
+    ensures { λ r. ⌜ r ≡ bends (vector d) (vector e) ⌝ }
 {
-    plane::cross_product(plane::subtract(b, a), plane::subtract(c, b)) != 0
+    plane::cross_product(d, e) != 0
 }
 
-// The point b is put after the first count points, unless the turn at b, from a to c, is 0; answers the new count.
+// The corner b, which is reached by the way d and left by the way e, is put after the first count points, unless it is straight on; answers the
+// new count.
 fn append_corner(
     points: &mut [[i32; 2]],
     count: usize,
-    a: IntPoint,
+    d: IntVector,
     b: IntPoint,
-    c: IntPoint,
+    e: IntVector,
 ) -> usize
-    requires { ⌜ (count < length (now points)) × OnGrid a × OnGrid b × OnGrid c ⌝ }
-    ensures { λ r. ⌜ Appended (keptIf (not (eqZ (turn (point a) (point b) (point c)) (pos 0))) (point b)) (now (points .entry)) count (now (points .exit)) r ⌝ }
+    requires { ⌜ (count < length (now points)) × Short d × Short e ⌝ }
+    ensures { λ r. ⌜ Appended (keptIf (bends (vector d) (vector e)) (point b)) (now (points .entry)) count (now (points .exit)) r ⌝ }
 {
-    if turns_at(a, b, c) {
+    if bends(d, e) {
         convex_ring::put_corner(points, count, b);
         return count + 1;
     }
     count
+}
+
+// The corners at the places from `from` to before `to` come after the run's corner: each is judged where the next one is read.
+fn append_run(corners: &[[i32; 2]], from: usize, to: usize, points: &mut [[i32; 2]], r: Run) -> Run
+    requires { ⌜ Runnable (now corners) from to (now points) r ⌝ }
+    ensures { λ t. ⌜ Ran (between (now (corners .entry)) from to) (now (points .entry)) r (now (points .exit)) t ⌝ }
+{
+    let mut t = r;
+    let mut i = from;
+    while i < to {
+        let c = convex_ring::corner_at(corners, i);
+        let way = plane::subtract(c, t.corner);
+        let count = append_corner(points, t.count, t.way, t.corner, way);
+        t = Run {
+            corner: c,
+            way: way,
+            count: count,
+        };
+        i += 1;
+    }
+    t
 }
 
 // A whole region's contour without corners of turn 0 is put after the first `from` points; answers the new count.
@@ -73,19 +88,15 @@ pub fn append_contour(
     ensures { λ r. ⌜ Appended (withoutStraight (contourAt (now (corners .entry)) p)) (now (points .entry)) from (now (points .exit)) r ⌝ }
 {
     let end = corners.len();
-    let size = end - p.done;
-    let mut place = p.last;
-    let mut a = convex_ring::corner_at(corners, place_before(end, p.done, place));
-    let mut b = convex_ring::corner_at(corners, place);
-    let mut count = from;
-    let mut i: usize = 0;
-    while i < size {
-        place = place_after(end, p.done, place);
-        let c = convex_ring::corner_at(corners, place);
-        count = append_corner(points, count, a, b, c);
-        a = b;
-        b = c;
-        i += 1;
-    }
-    count
+    let last = p.last - 1;
+    let a = convex_ring::corner_at(corners, place_before(end, p.done, last));
+    let b = convex_ring::corner_at(corners, last);
+    let r = Run {
+        corner: b,
+        way: plane::subtract(b, a),
+        count: from,
+    };
+    let t = append_run(corners, p.last, end, points, r);
+    let u = append_run(corners, p.done, p.last, points, t);
+    u.count
 }

@@ -52,7 +52,7 @@ module _ (size : ℕ) (m : Mesh) (cs : List (List ℤ)) (es : List (List ℕ)) (
   es′ = set (set (set es 0 (e 0)) 1 (e 1)) 2 (e 2)
 
   abbrev p : Progress
-  p = record { pending = 3; done = size; last = size; fresh = true }
+  p = record { pending = 3; done = size; last = size }
 
   less : suc (free (set flags k true)) ≡ free flags
   less = free-set flags k (omega (arith, s .marks)) f
@@ -83,7 +83,6 @@ module _ (size : ℕ) (m : Mesh) (cs : List (List ℤ)) (es : List (List ℕ)) (
     three = omega arith;
     placed = omega arith;
     ended = omega arith;
-    settled = λ e. differ (sym e);
     rested = λ e. absurd (omega (arith, e));
   }
 
@@ -102,8 +101,8 @@ module _ (size : ℕ) (m : Mesh) (cs : List (List ℤ)) (es : List (List ℕ)) (
   holds seen h = record {
     pending = slots;
     done = ap (map cornerOf) (sym (drop-of-length-le cs′ {i = size} (omega (arith, length-three cs (c 0) (c 1) (c 2), s .corners))));
-    fresh = refl;
-    last = omega arith;
+    fresh = λ e. refl;
+    last = λ e. differ (sym e);
     taken = marked-set flags seen k (omega (arith, s .marks)) h;
   }
 

@@ -101,24 +101,10 @@ found false true t3 a h = absurd (h refl)
 found false false false a h = absurd (h refl)
 found false false true a h = (refl, (refl, refl))
 
--- the place of the last corner added
-last-moved : (t s : Bool) (size n zl d pl : ℕ) → t ≡ s → suc n + d ≡ size → zl + pl ≡ size → cond t (suc n) zl + cond s d pl ≡ size
-last-moved true true size n zl d pl e h k = h
-last-moved true false size n zl d pl e h k = differ (sym e)
-last-moved false true size n zl d pl e h k = differ e
-last-moved false false size n zl d pl e h k = k
-
-place-moved : (t : Bool) (d l : ℕ) → d ≤ l → d - 1 ≤ cond t (d - 1) l
-place-moved true d l h = omega arith
-place-moved false d l h = omega arith
-
-end-moved : (t : Bool) (size d l : ℕ) → d ≤ size → l ≤ size → cond t (d - 1) l ≤ size
-end-moved true size d l h k = omega arith
-end-moved false size d l h k = k
-
-settle-moved : (t : Bool) (size d l : ℕ) → 0 < d → d ≤ size → (t ≡ false → l < size) → cond t (d - 1) l < size
-settle-moved true size d l g h k = omega arith
-settle-moved false size d l g h k = k refl
+-- the place of the last corner added, of n done from d on: right before l, whether it is done now or was before
+last-moved : (t : Bool) (size n zl d l : ℕ) → n + d ≡ size → (t ≡ true → l ≡ d) → (t ≡ false → zl + l ≡ size + 1) → cond t (suc n) zl + l ≡ size + 1
+last-moved true size n zl d l h f g = omega (arith, f refl)
+last-moved false size n zl d l h f g = g refl
 
 -- ---- a step
 
@@ -186,10 +172,9 @@ module _ (size : ℕ) (m : Mesh) (cs : List (List ℤ)) (es : List (List ℕ)) (
     room = omega (arith, s .room);
     whole = omega (arith, s .whole);
     three = omega (arith, s .three, s .room);
-    placed = place-moved (p .fresh) (p .done) (p .last) (s .placed);
-    ended = end-moved (p .fresh) size (p .done) (p .last) (s .whole) (s .ended);
-    settled = λ e. settle-moved (p .fresh) size (p .done) (p .last) (omega (arith, s .room)) (s .whole) (s .settled);
-    rested = λ e. refl;
+    placed = omega (arith, s .placed);
+    ended = s .ended;
+    rested = λ e. omega (arith, s .room, s .placed);
   }
 
   move-holds : (seen : List ℕ) (z : Zipper) → Holds size cs es flags p seen z → Holds size (set cs (p .done - 1) top) es flags (movedBy p) seen (moved x rest z)
@@ -197,8 +182,8 @@ module _ (size : ℕ) (m : Mesh) (cs : List (List ℤ)) (es : List (List ℕ)) (
   move-holds seen z h = record {
     pending = sym (pending-set-corner cs es (p .pending - 1) (p .done - 1) top (omega (arith, s .room)));
     done = ap (λ l. x .corner ∷ l) (h .done) ∙ sym (done-move cs (p .done) top (omega (arith, s .room)) (omega (arith, s .whole, s .ready .corners)));
-    fresh = refl;
-    last = last-moved (z .fresh) (p .fresh) size (length (z .done)) (z .last) (p .done - 1) (p .last) (h .fresh) (omega (arith, ap length (h .done), length-done cs (p .done), s .ready .corners, s .whole, s .room)) (h .last);
+    fresh = λ e. differ e;
+    last = λ e. last-moved (z .fresh) size (length (z .done)) (z .last) (p .done) (p .last) (omega (arith, ap length (h .done), length-done cs (p .done), s .ready .corners, s .whole)) (h .fresh) (h .last);
     taken = h .taken;
   }
 
@@ -257,9 +242,8 @@ module _ (size : ℕ) (m : Mesh) (cs : List (List ℤ)) (es : List (List ℕ)) (
           room = omega (arith, s .room, free-less);
           whole = s .whole;
           three = omega (arith, s .three);
-          placed = s .placed;
-          ended = s .ended;
-          settled = λ e. differ (sym e);
+          placed = omega arith;
+          ended = s .whole;
           rested = λ e. absurd (omega (arith, e));
         }
 
@@ -283,8 +267,8 @@ module _ (size : ℕ) (m : Mesh) (cs : List (List ℤ)) (es : List (List ℕ)) (
     push-holds seen z h = record {
       pending = sym push-pending;
       done = h .done ∙ sym (done-set cs (p .done) (p .pending) (pairOf (vertex u v)) (omega (arith, s .room, free-less)));
-      fresh = refl;
-      last = h .last;
+      fresh = λ e. refl;
+      last = λ e. differ (sym e);
       taken = subst (Marked (set flags (x .across) true)) (append-assoc seen (z .taken) (x .across ∷ [])) (marked-set flags (seen ++ z .taken) (x .across) (in-mesh across-some) (h .taken));
     }
 

@@ -1,7 +1,7 @@
 -- What growing a region leaves in its buffers: after one step (`Stepped`), and after all (`Grown`), the buffers hold the zipper of convex/specs/Zipper.antt; so after
 -- the first triangle (`Started`) and after the loop (`Ran`). Assumes nothing.
 use mathlib.Core.Path.{_≡_}
-use mathlib.Core.Bool.{Bool, true, false, cond}
+use mathlib.Core.Bool.{Bool}
 use mathlib.Core.List.{List}
 use Prim.Native.Nat.{ℕ, _+_, _*_, _-_, _≤_, _<_}
 use lib.ListN.{length}
@@ -15,11 +15,11 @@ use Rattle.convex_ring.specs.Buffers.{slotAt, pendingOf, free, Marked, Holds, S
 
 -- the counts after the top corner was done
 abbrev pub movedBy : Progress → Progress
-movedBy p = record { pending = p .pending - 1; done = p .done - 1; last = cond (p .fresh) (p .done - 1) (p .last); fresh = false }
+movedBy p = record { pending = p .pending - 1; done = p .done - 1; last = p .last }
 
 -- the counts after a corner was put on top
 abbrev pub pushedBy : Progress → Progress
-pushedBy p = record { pending = p .pending + 1; done = p .done; last = p .last; fresh = true }
+pushedBy p = record { pending = p .pending + 1; done = p .done; last = p .done }
 
 pub record Stepped (size : ℕ) (m : Mesh) (cs : List (List ℤ)) (es : List (List ℕ)) (flags : List Bool) (p : Progress) (cs′ : List (List ℤ)) (es′ : List (List ℕ)) (flags′ : List Bool) (p′ : Progress) : Type 0 where
   pub sound : Sound size m cs′ es′ flags′ p′

@@ -22,21 +22,11 @@ fn move_top(corners: &mut [[i32; 2]], p: Progress) -> Progress
 {
     let top = p.pending - 1;
     let first = p.done - 1;
-    let c = corners[top];
-    corners[first] = c;
-    if p.fresh {
-        return Progress {
-            pending: top,
-            done: first,
-            last: first,
-            fresh: false,
-        };
-    }
+    corners[first] = corners[top];
     Progress {
         pending: top,
         done: first,
         last: p.last,
-        fresh: false,
     }
 }
 
@@ -62,15 +52,13 @@ fn push(
     ensures counts { λ r. ⌜ r ≡ pushedBy p ⌝ }
 {
     let top = p.pending;
-    let vertex = far.vertex;
     put_edge(edges, top - 1, k, far.first);
     put_edge(edges, top, k, far.second);
-    convex_ring::put_corner(corners, top, vertex);
+    convex_ring::put_corner(corners, top, far.vertex);
     Progress {
         pending: top + 1,
         done: p.done,
-        last: p.last,
-        fresh: true,
+        last: p.done,
     }
 }
 
@@ -140,7 +128,6 @@ fn start_region(
         pending: 3,
         done: size,
         last: size,
-        fresh: true,
     }
 }
 

@@ -44,9 +44,8 @@ module _ (size : ℕ) (m : Mesh) (k : ℕ) (flags : List Bool) (starts : List �
 
   pub contour-whole : Whole cs′ p
   contour-whole = record {
-    placed = g .sound .placed;
-    ended = omega (arith, g .sound .ready .corners, g .sound .settled (g .sound .rested (g .empty)));
-    some = omega (arith, g .sound .ready .corners, g .empty, g .sound .three);
+    placed = g .sound .rested (g .empty);
+    ended = omega (arith, g .sound .ready .corners, g .sound .ended);
     grid = g .sound .ready .grid;
   }
 
@@ -80,7 +79,7 @@ module _ (size : ℕ) (m : Mesh) (k : ℕ) (flags : List Bool) (starts : List �
       where
         gathered : (seen : List ℕ) (ps : List (List Pt)) → Marked flags seen → Gathered starts points t ps → Gathered starts′ points′ (record { parts = t .parts + 1; corners = n }) (ps ++ (contourZ (zipped m seen k) ∷ []))
         gathered seen ps h q =
-            let new : withoutStraight (contourAt cs′ p) ≡ contourZ (zipped m seen k) = ap withoutStraight (sym (contour-zipper cs′ es′ flags′ p seen (zipped m seen k) (g .sound .ready .corners) (g .sound .placed) (g .holds seen h))) in
+            let new : withoutStraight (contourAt cs′ p) ≡ contourZ (zipped m seen k) = ap withoutStraight (sym (contour-zipper cs′ es′ flags′ p seen (zipped m seen k) (g .sound .ready .corners) (contour-whole .placed) (g .holds seen h))) in
             subst (λ l. Gathered starts′ points′ (record { parts = t .parts + 1; corners = n }) (ps ++ (l ∷ []))) new (part-appended (withoutStraight (contourAt cs′ p)) starts points t start-room a e .gathered ps q)
 
 -- ---- a triangle visited

@@ -68,8 +68,8 @@ pub record Around (cs : List (List ℤ)) (n d : ℕ) : Type 0 where
 pub record Holds (size : ℕ) (cs : List (List ℤ)) (es : List (List ℕ)) (flags : List Bool) (p : Progress) (seen : List ℕ) (z : Zipper) : Type 0 where
   pub pending : z .pending ≡ pendingOf cs es (p .pending)
   pub done : z .done ≡ doneOf cs (p .done)
-  pub fresh : z .fresh ≡ p .fresh
-  pub last : z .last + p .last ≡ size
+  pub fresh : z .fresh ≡ true → p .last ≡ p .done
+  pub last : z .fresh ≡ false → z .last + p .last ≡ size + 1
   pub taken : Marked flags (seen ++ z .taken)
 
 -- what a region's work asks of the buffers: an accepted mesh and two places more than it has triangles, for a region has at most two corners more than
@@ -83,8 +83,7 @@ pub record Ready (size : ℕ) (m : Mesh) (cs : List (List ℤ)) (es : List (List
   pub grid : Grid cs
   pub across : (i : ℕ) → i < size → 0 < length m → (acrossAt es i ≡ none → ⊥) → acrossAt es i < length m
 
--- and of the counts: each triangle not taken has a place between those pending and those done; the last corner added, once done, has its own, and is
--- done where nothing is pending
+-- and of the counts: each triangle not taken has a place between those pending and those done; the last corner added is done, or will be, right before `last`, and is done where nothing is pending
 pub record Sound (size : ℕ) (m : Mesh) (cs : List (List ℤ)) (es : List (List ℕ)) (flags : List Bool) (p : Progress) : Type 0 where
   pub ready : Ready size m cs es flags
   pub meshed : 0 < length m
@@ -93,8 +92,7 @@ pub record Sound (size : ℕ) (m : Mesh) (cs : List (List ℤ)) (es : List (List
   pub three : 3 + p .done ≤ p .pending + size
   pub placed : p .done ≤ p .last
   pub ended : p .last ≤ size
-  pub settled : p .fresh ≡ false → p .last < size
-  pub rested : p .pending ≡ 0 → p .fresh ≡ false
+  pub rested : p .pending ≡ 0 → p .done < p .last
 
 -- ---- round the contour
 

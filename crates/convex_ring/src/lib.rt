@@ -10,13 +10,11 @@ ghost use Rattle.convex.specs.Joining.{joins};
 ghost use Rattle.convex_ring.specs.Buffers.{cornerAt, pairOf, Grid, Around, around};
 use plane::IntPoint;
 
-// Where a region stands: how many corners are pending, where the done ones begin, where the last corner added stands among them, and whether
-// it is still pending.
+// Where a region stands: how many corners are pending, where the done ones begin, and where they began when the last corner was put: that corner is done right before that place.
 pub struct Progress {
     pub pending: usize,
     pub done: usize,
     pub last: usize,
-    pub fresh: bool,
 }
 
 // The corner at i.

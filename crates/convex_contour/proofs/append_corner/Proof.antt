@@ -6,8 +6,8 @@ use Rattle.convex_contour.proofs.Contours.{kept-yes, kept-no}
 use Rattle.convex_contour.proofs.append_corner.Statement.{statement}
 use Rattle.convex_contour.proofs.append_corner.Tie as tie
 
-turns-at-requires : tie.Need-turns-at-requires
-turns-at-requires c κs = search needs
+bends-requires : tie.Need-bends-requires
+bends-requires c κs = search needs
 
 put-corner-requires : tie.Need-put-corner-requires
 put-corner-requires c κs = search needs
@@ -20,15 +20,20 @@ same-length c = search needs
 
 returns : tie.Need-returns
 returns c =
-    let g = c .before .before .before .before .before .args in
-    kept-yes (g .points .now) (g .count) (point (g .b)) (sym (c .before .before .before .before .turns-at .ensures) ∙ c .before .before .before .if1 .taken) (c .before .before .before .before .before .pre .0) (c .before .put-corner .ensures)
+    let put = c .before in
+    let test = put .before .before in
+    let judged = test .before in
+    let s = judged .before in
+    let g = s .args in
+    kept-yes (g .points .now) (g .count) (point (g .b)) (sym (judged .bends .ensures) ∙ test .if1 .taken) (s .pre .0) (put .put-corner .ensures)
 
 returns-2 : tie.Need-returns-2
 returns-2 c =
-    let g = c .before .before .args in
-    kept-no (g .points .now) (g .count) (point (g .b)) (sym (c .before .turns-at .ensures) ∙ c .if1 .left)
+    let judged = c .before in
+    let g = judged .before .args in
+    kept-no (g .points .now) (g .count) (point (g .b)) (sym (judged .bends .ensures) ∙ c .if1 .left)
 
 pub append-corner-spec : {M : Type 1} → statement M
 append-corner-spec =
     tie.close
-    (tie.spec turns-at-requires put-corner-requires add-result same-length returns returns-2)
+    (tie.spec bends-requires put-corner-requires add-result same-length returns returns-2)

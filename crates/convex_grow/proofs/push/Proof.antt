@@ -18,8 +18,8 @@ put-edge-requires-2 c κs = search needs
 put-corner-requires : tie.Need-put-corner-requires
 put-corner-requires c κs = search needs
 
-add-t11 : tie.Need-add-t11
-add-t11 c = search needs
+add-t10 : tie.Need-add-t10
+add-t10 c = search needs
 
 same-length : tie.Need-same-length
 same-length c = search needs
@@ -30,7 +30,7 @@ same-length-2 c = search needs
 returns : tie.Need-returns
 returns c =
     let below = c .before .before .before .before .before .before .before in
-    let g = below .before .before .before .args in
+    let g = below .before .before .args in
     (c .before .put-corner .ensures, (c .before .before .before .before .put-edge2 .ensures ∙ ap (λ e. set e (g .p .pending) (g .k ∷ g .far .second ∷ [])) (below .put-edge .ensures), refl))
 
 pub push-spec : {M : Type 1} → statement M
@@ -41,7 +41,7 @@ push-spec =
     put-edge-requires
     put-edge-requires-2
     put-corner-requires
-    add-t11
+    add-t10
     same-length
     same-length-2
     returns)
