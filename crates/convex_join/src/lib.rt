@@ -2,7 +2,7 @@
 // equal `partsCounts`, `partsStarts` and `partsCorners` of convex/specs/Joining.antt. The parts are gathered in local buffers, of one of three sizes by the
 // mesh's, and handed out once there is room. Leans on mesh_faults, convex_regions and convex_gather.
 ghost use mathlib.Core.Path.{_≡_};
-ghost use Prim.Native.Nat.{_≤_};
+ghost use Prim.Native.Nat.{_*_, _^_, _<_, _≤_};
 ghost use lib.ListN.{length};
 ghost use Rattle.integers.specs.Faults.{firstFault};
 ghost use Rattle.mesh.specs.Mesh.{maxTriangles, meshKinds};
@@ -13,6 +13,23 @@ use convex_regions::SMALL;
 use convex_regions::TINY;
 use table::Counts;
 
+// The parts of an accepted mesh, by way of lent buffers that hold those of any mesh of so many triangles.
+fn join_within(
+    mesh: &[[i32; 9]],
+    begins: &mut [u32],
+    points: &mut [[i32; 2]],
+    starts: &mut [u32],
+    corners: &mut [i32],
+) -> Counts
+    requires { ⌜ (firstFault (meshKinds (rowsMesh (now mesh))) ≡ 0) × (length (now mesh) < length (now begins)) × (3 * length (now mesh) ≤ length (now points)) × (length (now begins) < 2 ^ 32) × (length (now points) < 2 ^ 32) ⌝ }
+    ensures counts { λ r. ⌜ r ≡ partsCounts (rowsMesh (now (mesh .entry))) (now (starts .entry)) (now (corners .entry)) ⌝ }
+    ensures starts { λ r. ⌜ now (starts .exit) ≡ partsStarts (rowsMesh (now (mesh .entry))) (now (starts .entry)) (now (corners .entry)) ⌝ }
+    ensures corners { λ r. ⌜ now (corners .exit) ≡ partsCorners (rowsMesh (now (mesh .entry))) (now (starts .entry)) (now (corners .entry)) ⌝ }
+{
+    let t = convex_regions::gather(mesh, begins, points);
+    convex_gather::hand_out(begins, points, t, starts, corners)
+}
+
 // The parts of a tiny mesh that is accepted.
 fn join_tiny(mesh: &[[i32; 9]], starts: &mut [u32], corners: &mut [i32]) -> Counts
     requires { ⌜ (length (now mesh) ≤ tiny) × (firstFault (meshKinds (rowsMesh (now mesh))) ≡ 0) ⌝ }
@@ -22,8 +39,7 @@ fn join_tiny(mesh: &[[i32; 9]], starts: &mut [u32], corners: &mut [i32]) -> Coun
 {
     let mut begins = [0u32; TINY + 1];
     let mut points = [[0i32; 2]; 3 * TINY];
-    let t = convex_regions::gather(mesh, &mut begins, &mut points);
-    convex_gather::hand_out(&begins, &points, t, starts, corners)
+    join_within(mesh, &mut begins, &mut points, starts, corners)
 }
 
 // The parts of a small mesh that is accepted.
@@ -35,8 +51,7 @@ fn join_small(mesh: &[[i32; 9]], starts: &mut [u32], corners: &mut [i32]) -> Cou
 {
     let mut begins = [0u32; SMALL + 1];
     let mut points = [[0i32; 2]; 3 * SMALL];
-    let t = convex_regions::gather(mesh, &mut begins, &mut points);
-    convex_gather::hand_out(&begins, &points, t, starts, corners)
+    join_within(mesh, &mut begins, &mut points, starts, corners)
 }
 
 // The parts of any mesh that is accepted.
@@ -48,8 +63,7 @@ fn join_large(mesh: &[[i32; 9]], starts: &mut [u32], corners: &mut [i32]) -> Cou
 {
     let mut begins = [0u32; mesh::MAX_TRIANGLES + 1];
     let mut points = [[0i32; 2]; 3 * mesh::MAX_TRIANGLES];
-    let t = convex_regions::gather(mesh, &mut begins, &mut points);
-    convex_gather::hand_out(&begins, &points, t, starts, corners)
+    join_within(mesh, &mut begins, &mut points, starts, corners)
 }
 
 // The convex parts of a mesh, joined from its triangles: starts and corners (x, y in turn) on the front of the lent buffers. A refusal (1, 2, 3, 4, 5,

@@ -6,9 +6,9 @@ use mathlib.Core.List.{List, [], _∷_, _++_, map, flatten, append-assoc, append
 use Prim.Native.Nat.{ℕ, zero, suc, _+_, _*_, _-_, _≤_, _<_}
 use native.Mathlib.Numerals.{add-one}
 use native.Mathlib.Omega.{arith}
-use lib.ListN.{length, getD, set, take, drop, length-append, length-set, drop-of-length-le, replicate, length-replicate, getD-replicate}
-use lib.Seq.{drop-cons, take-suc-set, length-take-le}
-use lib.IntN.{ℤ, pos}
+use lib.ListN.{length, getD, set, take, drop, length-append, length-set, drop-of-length-le}
+use lib.Seq.{drop-cons, take-suc-set, length-take-le, getD-take}
+use lib.IntN.{ℤ, pos, negsuc, natAbs}
 use Rattle.integers.specs.Lists.{upTo}
 use Rattle.integers.proofs.Counting.{length-upTo, getD-upTo}
 use Rattle.integers.specs.Faults.{firstFault}
@@ -26,10 +26,10 @@ use Rattle.convex_ring.specs.declared.Progress.{Progress}
 use Rattle.convex_gather.specs.declared.Tally.{Tally}
 use Rattle.convex_gather.specs.Gather.{Gathered}
 use Rattle.convex_gather.proofs.Gathering.{part-appended}
-use Rattle.convex_ring.specs.Buffers.{cornerOf, free, Marked, Ready}
+use Rattle.convex_ring.specs.Buffers.{cornerAt, free, Marked, Ready}
 use Rattle.convex_grow.specs.Growing.{Grown}
 use Rattle.convex_contour.specs.Contour.{contourAt, Whole, Appended}
-use Rattle.convex_regions.specs.Parts.{Room, seenNext, partsNext, Joined, Visited}
+use Rattle.convex_regions.specs.Parts.{total, inCorner, inEdge, inFlag, Fresh, Room, seenNext, partsNext, Joined, Visited}
 use Rattle.convex_grow.proofs.Growth.{free-le}
 use Rattle.convex_contour.proofs.Contours.{contour-zipper, length-contour}
 
@@ -184,35 +184,43 @@ module _ (size starts-size points-size : ℕ) (m : Mesh) where
 
 -- ---- the buffers at first: no corner, no edge, no flag
 
-replicate-all : {A : Type 0} (P : A → Type 0) (n : ℕ) (a d : A) → P a → P d → (i : ℕ) → P (getD (replicate n a) i d)
-replicate-all P zero a d h k i = k
-replicate-all P (suc n) a d h k zero = h
-replicate-all P (suc n) a d h k (suc i) = replicate-all P n a d h k i
+-- numbers that sum to 0 are each 0
+total-none : {A : Type 0} (f : A → ℕ) (d : A) → f d ≡ 0 → (l : List A) → total f l ≡ 0 → (i : ℕ) → f (getD l i d) ≡ 0
+total-none f d h [] e i = h
+total-none f d h (a ∷ l) e zero = omega arith
+total-none f d h (a ∷ l) e (suc i) = total-none f d h l (omega arith) i
 
-origin-on-grid : onGrid (cornerOf (pos 0 ∷ pos 0 ∷ [])) ≡ true
+-- a corner with nothing in it is the origin
+at-origin : (x y : ℤ) → natAbs x + natAbs y ≡ 0 → onGrid (record { x = x; y = y }) ≡ true
 unfolding onGrid inRange
-origin-on-grid = refl
+at-origin (pos zero) (pos zero) e = refl
+at-origin (pos zero) (pos (suc n)) e = absurd (omega arith)
+at-origin (pos zero) (negsuc n) e = absurd (omega arith)
+at-origin (pos (suc n)) y e = absurd (omega arith)
+at-origin (negsuc n) y e = absurd (omega arith)
 
-pub first-ready : (size : ℕ) (m : Mesh) (flags : List Bool) → length m + 2 ≤ size → firstFault (meshKinds m) ≡ 0 → length flags ≡ length m → Ready size m (replicate size (pos 0 ∷ pos 0 ∷ [])) (replicate size (0 ∷ 0 ∷ [])) flags
-first-ready size m flags e a l = record {
-  accepted = a;
-  enough = e;
-  corners = length-replicate size (pos 0 ∷ pos 0 ∷ []);
-  edges = length-replicate size (0 ∷ 0 ∷ []);
-  marks = l;
-  grid = record { at = replicate-all (λ c. onGrid (cornerOf c) ≡ true) size (pos 0 ∷ pos 0 ∷ []) [] origin-on-grid origin-on-grid };
-  across = λ i h some d. omega (arith, ap {B = ℕ} (λ r. getD r 1 0) (getD-replicate size i (0 ∷ 0 ∷ []) [] h));
-}
+not-marked : (b : Bool) → inFlag b ≡ 0 → b ≡ false
+not-marked true e = absurd (omega arith)
+not-marked false e = refl
 
-no-flag : (n j k : ℕ) → getD (take n (replicate j false)) k false ≡ false
-no-flag zero j k = refl
-no-flag (suc n) zero k = refl
-no-flag (suc n) (suc j) zero = refl
-no-flag (suc n) (suc j) (suc k) = no-flag n j k
+module _ (rows : List (List ℤ)) {cs : List (List ℤ)} {es : List (List ℕ)} {flags : List Bool} (u : Fresh (length rows) cs es flags) where
+  pub first-flags : length (take (length rows) flags) ≡ length rows
+  first-flags = length-take-le (length rows) flags (u .for-flags)
 
-pub first-marked : (n j : ℕ) → Marked (take n (replicate j false)) []
-unfolding isIn
-first-marked n j = record { at = λ k h. no-flag n j k }
+  pub first-ready : firstFault (meshKinds (rowsMesh rows)) ≡ 0 → Ready (length cs) (rowsMesh rows) cs es (take (length rows) flags)
+  first-ready a = record {
+    accepted = a;
+    enough = omega (arith, u .for-corners, length-rows rows);
+    corners = refl;
+    edges = u .for-edges;
+    marks = first-flags ∙ sym (length-rows rows);
+    grid = record { at = λ i. at-origin (cornerAt cs i .x) (cornerAt cs i .y) (total-none inCorner [] refl cs (u .no-corners) i) };
+    across = λ i h some d. omega (arith, total-none inEdge [] refl es (u .no-edges) i);
+  }
+
+  pub first-marked : Marked (take (length rows) flags) []
+  unfolding isIn
+  first-marked = record { at = λ k h. getD-take (length rows) flags k false (omega (arith, first-flags)) ∙ not-marked (getD flags k false) (total-none inFlag false refl flags (u .no-flags) k) }
 
 pub few-rows : (rows : List (List ℤ)) → firstFault (meshKinds (rowsMesh rows)) ≡ 0 → length rows ≤ 1024
 few-rows rows h = omega (arith, accepted (rowsMesh rows) h .few, length-rows rows)
@@ -220,6 +228,3 @@ few-rows rows h = omega (arith, accepted (rowsMesh rows) h .few, length-rows row
 -- lent rows have as many places as the mesh that they are
 pub visited-rows : (rows : List (List ℤ)) {starts : List ℕ} {points : List (List ℤ)} {t : Tally} → Gathered starts points t (parts (rowsMesh rows)) × (t .parts ≤ length (rowsMesh rows)) × (t .corners ≤ 3 * length (rowsMesh rows)) → Gathered starts points t (parts (rowsMesh rows)) × (t .parts ≤ length rows) × (t .corners ≤ 3 * length rows)
 visited-rows rows h = (h .0, omega (arith, h .1, length-rows rows), omega (arith, h .2, length-rows rows))
-
-pub first-flags : (rows : List (List ℤ)) (j : ℕ) → length rows ≤ j → length (take (length rows) (replicate j false)) ≡ length (rowsMesh rows)
-first-flags rows j h = length-take-le (length rows) (replicate j false) (omega (arith, length-replicate j false)) ∙ sym (length-rows rows)

@@ -3,10 +3,11 @@ use mathlib.Core.Path.{_≡_}
 use mathlib.Core.Bool.{Bool, cond}
 use mathlib.Core.List.{List, [], _∷_, _++_, flatten}
 use Prim.Native.Nat.{ℕ, _+_, _*_, _≤_, _<_}
-use lib.ListN.{length, take}
-use lib.IntN.{ℤ}
+use lib.ListN.{length, getD, take}
+use lib.IntN.{ℤ, natAbs}
 use Rattle.plane.specs.Plane.{Pt}
 use Rattle.mesh.specs.Mesh.{Mesh}
+use Rattle.mesh.specs.Rows.{number}
 use Rattle.table.specs.Table.{startsOf}
 use Rattle.convex.specs.Joining.{isIn}
 use Rattle.convex.specs.Zipper.{zipped, contourZ}
@@ -21,6 +22,31 @@ tiny = 16
 
 abbrev pub small : ℕ
 small = 128
+
+-- the sum of a number of each element
+abbrev pub total : {A : Type 0} → (A → ℕ) → List A → ℕ
+total f [] = 0
+total f (a ∷ l) = f a + total f l
+
+-- what stands in a corner, in an edge across, in a flag: 0 where nothing was put in yet
+abbrev pub inCorner : List ℤ → ℕ
+inCorner r = natAbs (number r 0) + natAbs (number r 1)
+
+abbrev pub inEdge : List ℕ → ℕ
+inEdge r = getD r 1 0
+
+abbrev pub inFlag : Bool → ℕ
+inFlag b = cond b 1 0
+
+-- work arrays that serve any mesh of n triangles, with nothing put in yet: two places more than triangles for a region's corners and edges, and a flag for each
+-- triangle
+pub record Fresh (n : ℕ) (cs : List (List ℤ)) (es : List (List ℕ)) (flags : List Bool) : Type 0 where
+  pub for-corners : n + 2 ≤ length cs
+  pub for-edges : length es ≡ length cs
+  pub for-flags : n ≤ length flags
+  pub no-corners : total inCorner cs ≡ 0
+  pub no-edges : total inEdge es ≡ 0
+  pub no-flags : total inFlag flags ≡ 0
 
 -- there is a place for each triangle's start and one more, and three for its corners; each triangle not taken has its own
 pub record Room (m : Mesh) (flags : List Bool) (starts : List ℕ) (points : List (List ℤ)) (t : Tally) : Type 0 where

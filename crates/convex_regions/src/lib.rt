@@ -12,7 +12,7 @@ ghost use Rattle.mesh.specs.Rows.{rowsMesh};
 ghost use Rattle.convex.specs.Joining.{parts};
 ghost use Rattle.convex_ring.specs.Buffers.{Marked, Ready};
 ghost use Rattle.convex_gather.specs.Gather.{Gathered};
-ghost use Rattle.convex_regions.specs.Parts.{tiny, small, Room, Joined, Visited};
+ghost use Rattle.convex_regions.specs.Parts.{tiny, small, Fresh, Room, Joined, Visited};
 use convex_gather::Tally;
 
 // A mesh of at most so many triangles is tiny, or small; `large` is any that is accepted.
@@ -88,7 +88,24 @@ fn visit_all(
     t
 }
 
-// The parts of a tiny mesh.
+// The parts of an accepted mesh, by way of lent work arrays that serve any mesh of so many triangles.
+fn gather_within(
+    mesh: &[[i32; 9]],
+    corners: &mut [[i32; 2]],
+    edges: &mut [[usize; 2]],
+    taken: &mut [bool],
+    starts: &mut [u32],
+    points: &mut [[i32; 2]],
+) -> Tally
+    requires { ⌜ (firstFault (meshKinds (rowsMesh (now mesh))) ≡ 0) × Fresh (length (now mesh)) (now corners) (now edges) (now taken) × (length (now mesh) < length (now starts)) × (3 * length (now mesh) ≤ length (now points)) ⌝ }
+    ensures { λ r. ⌜ Gathered (now (starts .exit)) (now (points .exit)) r (parts (rowsMesh (now (mesh .entry)))) × (r .parts ≤ length (now (mesh .entry))) × (r .corners ≤ 3 * length (now (mesh .entry))) ⌝ }
+{
+    let n = mesh.len();
+    convex_gather::put_start(starts, 0, 0);
+    visit_all(mesh, corners, edges, &mut taken[..n], starts, points)
+}
+
+// The parts of a tiny mesh that is accepted.
 fn gather_tiny(mesh: &[[i32; 9]], starts: &mut [u32], points: &mut [[i32; 2]]) -> Tally
     requires { ⌜ (length (now mesh) ≤ tiny) × (firstFault (meshKinds (rowsMesh (now mesh))) ≡ 0) × (length (now mesh) < length (now starts)) × (3 * length (now mesh) ≤ length (now points)) ⌝ }
     ensures { λ r. ⌜ Gathered (now (starts .exit)) (now (points .exit)) r (parts (rowsMesh (now (mesh .entry)))) × (r .parts ≤ length (now (mesh .entry))) × (r .corners ≤ 3 * length (now (mesh .entry))) ⌝ }
@@ -96,19 +113,10 @@ fn gather_tiny(mesh: &[[i32; 9]], starts: &mut [u32], points: &mut [[i32; 2]]) -
     let mut corners = [[0i32; 2]; TINY + 2];
     let mut edges = [[0usize; 2]; TINY + 2];
     let mut taken = [false; TINY];
-    let n = mesh.len();
-    convex_gather::put_start(starts, 0, 0);
-    visit_all(
-        mesh,
-        &mut corners,
-        &mut edges,
-        &mut taken[..n],
-        starts,
-        points,
-    )
+    gather_within(mesh, &mut corners, &mut edges, &mut taken, starts, points)
 }
 
-// The parts of a small mesh.
+// The parts of a small mesh that is accepted.
 fn gather_small(mesh: &[[i32; 9]], starts: &mut [u32], points: &mut [[i32; 2]]) -> Tally
     requires { ⌜ (length (now mesh) ≤ small) × (firstFault (meshKinds (rowsMesh (now mesh))) ≡ 0) × (length (now mesh) < length (now starts)) × (3 * length (now mesh) ≤ length (now points)) ⌝ }
     ensures { λ r. ⌜ Gathered (now (starts .exit)) (now (points .exit)) r (parts (rowsMesh (now (mesh .entry)))) × (r .parts ≤ length (now (mesh .entry))) × (r .corners ≤ 3 * length (now (mesh .entry))) ⌝ }
@@ -116,19 +124,10 @@ fn gather_small(mesh: &[[i32; 9]], starts: &mut [u32], points: &mut [[i32; 2]]) 
     let mut corners = [[0i32; 2]; SMALL + 2];
     let mut edges = [[0usize; 2]; SMALL + 2];
     let mut taken = [false; SMALL];
-    let n = mesh.len();
-    convex_gather::put_start(starts, 0, 0);
-    visit_all(
-        mesh,
-        &mut corners,
-        &mut edges,
-        &mut taken[..n],
-        starts,
-        points,
-    )
+    gather_within(mesh, &mut corners, &mut edges, &mut taken, starts, points)
 }
 
-// The parts of any accepted mesh: document 01 has at most 1,024 triangles.
+// The parts of any mesh that is accepted: document 01 has at most 1,024 triangles.
 fn gather_large(mesh: &[[i32; 9]], starts: &mut [u32], points: &mut [[i32; 2]]) -> Tally
     requires { ⌜ (length (now mesh) ≤ maxTriangles) × (firstFault (meshKinds (rowsMesh (now mesh))) ≡ 0) × (length (now mesh) < length (now starts)) × (3 * length (now mesh) ≤ length (now points)) ⌝ }
     ensures { λ r. ⌜ Gathered (now (starts .exit)) (now (points .exit)) r (parts (rowsMesh (now (mesh .entry)))) × (r .parts ≤ length (now (mesh .entry))) × (r .corners ≤ 3 * length (now (mesh .entry))) ⌝ }
@@ -136,21 +135,12 @@ fn gather_large(mesh: &[[i32; 9]], starts: &mut [u32], points: &mut [[i32; 2]]) 
     let mut corners = [[0i32; 2]; mesh::MAX_TRIANGLES + 2];
     let mut edges = [[0usize; 2]; mesh::MAX_TRIANGLES + 2];
     let mut taken = [false; mesh::MAX_TRIANGLES];
-    let n = mesh.len();
-    convex_gather::put_start(starts, 0, 0);
-    visit_all(
-        mesh,
-        &mut corners,
-        &mut edges,
-        &mut taken[..n],
-        starts,
-        points,
-    )
+    gather_within(mesh, &mut corners, &mut edges, &mut taken, starts, points)
 }
 
 // The parts of an accepted mesh, in buffers with a place for a start more than it has triangles, and three times as many for corners.
 pub fn gather(mesh: &[[i32; 9]], starts: &mut [u32], points: &mut [[i32; 2]]) -> Tally
-    requires { ⌜ (firstFault (meshKinds (rowsMesh (now mesh))) ≡ 0) × (length (now mesh) < length (now starts)) × (3 * length (now mesh) ≤ length (now points)) ⌝ }
+    requires { ⌜ (length (now mesh) ≤ maxTriangles) × (firstFault (meshKinds (rowsMesh (now mesh))) ≡ 0) × (length (now mesh) < length (now starts)) × (3 * length (now mesh) ≤ length (now points)) ⌝ }
     ensures { λ r. ⌜ Gathered (now (starts .exit)) (now (points .exit)) r (parts (rowsMesh (now (mesh .entry)))) × (r .parts ≤ length (now (mesh .entry))) × (r .corners ≤ 3 * length (now (mesh .entry))) ⌝ }
 {
     let n = mesh.len();

@@ -4,13 +4,17 @@ use native.Mathlib.Omega.{arith}
 use Rattle.mesh.specs.Rows.{rowsMesh}
 use Rattle.split.specs.Splitting.{splitParts, splitFault}
 use Rattle.convex_gather.proofs.Answer.{mesh-answered}
+use Rattle.convex_regions.proofs.Regions.{few-rows}
 use Rattle.split_parts.proofs.Each.{splittable, room-all, holds-all, gathered-in}
 use borrow.Author.Needs.{needs}
 use Rattle.split_parts.proofs.split_within.Statement.{statement}
 use Rattle.split_parts.proofs.split_within.Tie as tie
 
 gather-requires : tie.Need-gather-requires
-gather-requires c κs = search needs
+gather-requires c κs =
+    let s = c .before .before .before .before .before in
+    let few = few-rows (s .args .mesh .now) (s .pre .0) in
+    search needs
 
 raised-requires : tie.Need-raised-requires
 raised-requires c κs = search needs
