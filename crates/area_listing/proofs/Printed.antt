@@ -19,7 +19,7 @@ use Rattle.integers.proofs.Faults.{first-none, first-next, first-empty, append-
 use Rattle.integers.proofs.Tests.{either-false}
 use Rattle.integers.proofs.Overlay.{overlay-eq, take-overlay, length-overlay}
 use Rattle.plane.specs.Plane.{Pt}
-use Rattle.mesh.specs.Mesh.{Mesh, meshKinds}
+use Rattle.mesh.specs.Mesh.{maxTriangles, Mesh, meshKinds}
 use Rattle.mesh.specs.Rows.{rowsMesh}
 use Rattle.table.specs.Stored.{wordsOf}
 use Rattle.table.specs.Table.{startsOf, cornersOf, tableParts, countsOf, written, roomKinds}
@@ -65,7 +65,7 @@ module _ (bytes : List ℕ) where
 -- a sound header: its length and its count
 pub record Sound (bytes : List ℕ) : Type 0 where
   pub enough : 20 ≤ length bytes
-  pub few : triangleCount bytes ≤ 1024
+  pub few : triangleCount bytes ≤ maxTriangles
   pub whole : length bytes ≡ 20 + 36 * triangleCount bytes
 
 pub unbroken : (bytes : List ℕ) → headerBroken bytes ≡ false → length bytes ≡ 20 + 36 * triangleCount bytes
@@ -81,7 +81,7 @@ sound bytes e =
     let a = first-none 13 _ _ (omega arith) e in
     let b = first-none 1 _ _ (omega arith) (a .1) in
     let c = first-none 13 _ _ (omega arith) (b .1) in
-    record { enough = ltb-false (length bytes) 20 (a .0); few = ltb-false 1024 (triangleCount bytes) (b .0); whole = unbroken bytes (c .0) }
+    record { enough = ltb-false (length bytes) 20 (a .0); few = ltb-false maxTriangles (triangleCount bytes) (b .0); whole = unbroken bytes (c .0) }
 
 -- ---- the mesh
 
