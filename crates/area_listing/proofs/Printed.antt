@@ -39,6 +39,7 @@ use Rattle.listing.specs.Listing.{listingOf, areasOf}
 use Rattle.listing_areas.specs.Areas.{Listable}
 use Rattle.listing_fits.proofs.Files.{split-listable, listing-fits}
 use Rattle.mesh_file.proofs.Records.{mesh-records}
+use Rattle.listing_fits.specs.Fits.{listingRoom}
 use Rattle.area_listing.specs.Printed.{meshListing, MeshRoom, FileRoom}
 
 -- ---- the header
@@ -206,7 +207,7 @@ module _ (bytes : List ℕ) (rows : List (List ℤ)) (starts : List ℕ) (corner
 -- ---- any file
 
 -- a header's refusal fits where any answer does
-pub header-room : (bytes : List ℕ) {f : ℕ} → f ≡ firstFault (headerKinds bytes) → (f ≡ 0 → ⊥) → length (refusal f) ≤ 233522
+pub header-room : (bytes : List ℕ) {f : ℕ} → f ≡ firstFault (headerKinds bytes) → (f ≡ 0 → ⊥) → length (refusal f) ≤ listingRoom
 header-room bytes e h = omega (arith, listing-fits bytes, ap length (header-refused bytes e h))
 
 -- the first k of n equal rows

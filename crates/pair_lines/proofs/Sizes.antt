@@ -11,6 +11,7 @@ use Rattle.plane.specs.Plane.{Pt}
 use Rattle.table.specs.declared.IntRect.{IntRect}
 use Rattle.text.proofs.Sizes.{decimal-size, decimal-below, signed-size, Word32s, corners-size}
 use Rattle.table.specs.Table.{maxContour}
+use Rattle.pair_lines.specs.Putting.{lineRoom}
 use Rattle.pair_lines.specs.Lines.{pairsHead, pairLine}
 use Rattle.pair_lines.proofs.Pieces.{bounds-length, head-length, line-length}
 
@@ -29,5 +30,5 @@ head-size n k b e f g h =
     )
 
 -- 20 + 1 + 20 + 1 + 4 + 26 · 2,052 + 1
-pub line-size : (i j : ℕ) (ps : List Pt) → All Word32s ps → length ps ≤ 2 * maxContour → length (pairLine i j ps) ≤ 53399
+pub line-size : (i j : ℕ) (ps : List Pt) → All Word32s ps → length ps ≤ 2 * maxContour → length (pairLine i j ps) ≤ lineRoom
 line-size i j ps w h = omega (arith, line-length i j ps, decimal-size i, decimal-size j, decimal-below 3 (length ps) (omega arith), corners-size ps w)
