@@ -76,10 +76,11 @@ def mesh(rows, limit=0, split=0):
 
 
 def start():
-    # Chromium leaves a few files in its home and among temporary ones
+    # Chromium leaves a few files in its home and among temporary ones; a socket is among these, whose path may have 107 bytes, so that it is told from here
     for folder in ["home", "saved"]:
         (TEMP / folder).mkdir(exist_ok=True)
-    os.environ.update({name: str(TEMP / "home") for name in ["HOME", "TMPDIR", "XDG_CONFIG_HOME", "XDG_CACHE_HOME"]})
+    os.environ.update({name: str(TEMP / "home") for name in ["HOME", "XDG_CONFIG_HOME", "XDG_CACHE_HOME"]}, TMPDIR=".")
+    os.chdir(TEMP / "home")
     options = Options()
     options.binary_location = shutil.which("chromium")
     flags = ["--headless=new", "--disable-gpu", "--window-size=1280,860", "--force-device-scale-factor=1", "--hide-scrollbars", "--disable-dev-shm-usage", f"--user-data-dir={TEMP}/profile"]
@@ -811,7 +812,7 @@ def screenshots(folder):
 def main():
     if sys.argv[1:2] == ["--screenshots"]:
         try:
-            screenshots(pathlib.Path(sys.argv[2]))
+            screenshots(pathlib.Path(sys.argv[2]).resolve())
         finally:
             shutil.rmtree(TEMP, ignore_errors=True)
         return

@@ -9,6 +9,7 @@ use lib.Dec.{ltb}
 use lib.ListN.{length, getD, length-append, List·getD-append}
 use Rattle.integers.specs.Faults.{firstFault}
 use Rattle.integers.proofs.Faults.{first-this, first-next}
+use Rattle.mesh.specs.Mesh.{maxTriangles}
 use Rattle.table.specs.Stored.{wordOf, wordAt}
 use Rattle.table.proofs.Words.{words-at}
 use Rattle.text.specs.Text.{refusal}
@@ -23,19 +24,19 @@ holds true h = refl
 holds false h = absurd (h refl)
 
 -- 1 or 13, by the count alone: 20 + 36 · 1,024 < 36,885
-module _ (l : List ℕ) (h : 36885 ≤ length l) where
-  by-count : (t : Bool) → t ≡ ltb 1024 (triangleCount l) → firstFault (headerKinds l) ≡ cond t 1 13
+module _ (l : List ℕ) (h : 20 + 36 * maxTriangles + 1 ≤ length l) where
+  by-count : (t : Bool) → t ≡ ltb maxTriangles (triangleCount l) → firstFault (headerKinds l) ≡ cond t 1 13
   by-count true e = first-next 13 _ _ (le-ltb (length l) 20 (omega arith)) ∙ first-this 1 _ _ (sym e)
   by-count false e =
       first-next 13 _ _ (le-ltb (length l) 20 (omega arith)) ∙ first-next 1 _ _ (sym e)
-      ∙ first-this 13 _ _ (holds (headerBroken l) (λ f. omega (arith, unbroken l f, ltb-false 1024 (triangleCount l) (sym e))))
+      ∙ first-this 13 _ _ (holds (headerBroken l) (λ f. omega (arith, unbroken l f, ltb-false maxTriangles (triangleCount l) (sym e))))
 
   not-accepted : (t : Bool) → _≡_ {A = ℕ} (cond t 1 13) 0 → ⊥
   not-accepted true e = omega arith
   not-accepted false e = omega arith
 
-  too-long : areasOf l ≡ refusal (cond (ltb 1024 (triangleCount l)) 1 13)
-  too-long = header-refused l (sym (by-count (ltb 1024 (triangleCount l)) refl)) (not-accepted (ltb 1024 (triangleCount l)))
+  too-long : areasOf l ≡ refusal (cond (ltb maxTriangles (triangleCount l)) 1 13)
+  too-long = header-refused l (sym (by-count (ltb maxTriangles (triangleCount l)) refl)) (not-accepted (ltb maxTriangles (triangleCount l)))
 
 -- a word that lies before more bytes
 word-kept : (bytes more : List ℕ) (k : ℕ) → 4 * k + 4 ≤ length bytes → wordAt (bytes ++ more) k ≡ wordAt bytes k
@@ -48,5 +49,5 @@ word-kept bytes more k h =
 pub more-input : MoreInput
 more-input bytes more e =
     too-long (bytes ++ more) (omega (arith, length-append bytes more))
-    ∙ ap (λ n. refusal (cond (ltb 1024 n) 1 13)) (word-kept bytes more 1 (omega arith))
+    ∙ ap (λ n. refusal (cond (ltb maxTriangles n) 1 13)) (word-kept bytes more 1 (omega arith))
     ∙ sym (too-long bytes (omega arith))

@@ -19,7 +19,7 @@ use Rattle.integers.proofs.Faults.{first-none, first-next, first-empty, append-
 use Rattle.integers.proofs.Tests.{either-false}
 use Rattle.integers.proofs.Overlay.{overlay-eq, take-overlay, length-overlay}
 use Rattle.plane.specs.Plane.{Pt}
-use Rattle.mesh.specs.Mesh.{Mesh, meshKinds}
+use Rattle.mesh.specs.Mesh.{maxTriangles, Mesh, meshKinds}
 use Rattle.mesh.specs.Rows.{rowsMesh}
 use Rattle.table.specs.Stored.{wordsOf}
 use Rattle.table.specs.Table.{startsOf, cornersOf, tableParts, countsOf, written, roomKinds}
@@ -39,6 +39,7 @@ use Rattle.listing.specs.Listing.{listingOf, areasOf}
 use Rattle.listing_areas.specs.Areas.{Listable}
 use Rattle.listing_fits.proofs.Files.{split-listable, listing-fits}
 use Rattle.mesh_file.proofs.Records.{mesh-records}
+use Rattle.listing_fits.specs.Fits.{listingRoom}
 use Rattle.area_listing.specs.Printed.{meshListing, MeshRoom, FileRoom}
 
 -- ---- the header
@@ -65,7 +66,7 @@ module _ (bytes : List ℕ) where
 -- a sound header: its length and its count
 pub record Sound (bytes : List ℕ) : Type 0 where
   pub enough : 20 ≤ length bytes
-  pub few : triangleCount bytes ≤ 1024
+  pub few : triangleCount bytes ≤ maxTriangles
   pub whole : length bytes ≡ 20 + 36 * triangleCount bytes
 
 pub unbroken : (bytes : List ℕ) → headerBroken bytes ≡ false → length bytes ≡ 20 + 36 * triangleCount bytes
@@ -81,7 +82,7 @@ sound bytes e =
     let a = first-none 13 _ _ (omega arith) e in
     let b = first-none 1 _ _ (omega arith) (a .1) in
     let c = first-none 13 _ _ (omega arith) (b .1) in
-    record { enough = ltb-false (length bytes) 20 (a .0); few = ltb-false 1024 (triangleCount bytes) (b .0); whole = unbroken bytes (c .0) }
+    record { enough = ltb-false (length bytes) 20 (a .0); few = ltb-false maxTriangles (triangleCount bytes) (b .0); whole = unbroken bytes (c .0) }
 
 -- ---- the mesh
 
@@ -206,7 +207,7 @@ module _ (bytes : List ℕ) (rows : List (List ℤ)) (starts : List ℕ) (corner
 -- ---- any file
 
 -- a header's refusal fits where any answer does
-pub header-room : (bytes : List ℕ) {f : ℕ} → f ≡ firstFault (headerKinds bytes) → (f ≡ 0 → ⊥) → length (refusal f) ≤ 233522
+pub header-room : (bytes : List ℕ) {f : ℕ} → f ≡ firstFault (headerKinds bytes) → (f ≡ 0 → ⊥) → length (refusal f) ≤ listingRoom
 header-room bytes e h = omega (arith, listing-fits bytes, ap length (header-refused bytes e h))
 
 -- the first k of n equal rows

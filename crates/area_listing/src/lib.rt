@@ -15,8 +15,8 @@ use split::ConvexSplitStrategy;
 // The longest good file and one byte more, so that a longer one is seen to be too long.
 pub const INPUT: usize = mesh_file::HEADER + mesh_file::RECORD * mesh::MAX_TRIANGLES + 1;
 
-// As many bytes as the longest listing has.
-pub const LISTING: usize = 233522;
+// As many bytes as the longest listing has: 50 of the first line, 36 of each part's line beside its corners, 26 of each corner, of which a triangle has at most six.
+pub const LISTING: usize = 50 + 36 * table::MAX_PARTS + 26 * (6 * mesh::MAX_TRIANGLES);
 
 // As many starts and corners' numbers as the split parts of any mesh have (at most six corners for each triangle), so that 22 and 21 cannot be.
 const STARTS: usize = table::MAX_PARTS + 1;

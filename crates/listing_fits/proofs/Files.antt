@@ -35,7 +35,7 @@ use Rattle.split_pairs.proofs.Theorem.{split-polygons, split-on-grid}
 use Rattle.split_operand.proofs.Operand.{numbers-range}
 use Rattle.split_operand.proofs.Total.{listing-total}
 use Rattle.listing_areas.specs.Areas.{Listable}
-use Rattle.listing_fits.specs.Fits.{ListingFits, FileListable, fileParts}
+use Rattle.listing_fits.specs.Fits.{listingRoom, ListingFits, FileListable, fileParts}
 use Rattle.listing_fits.proofs.Sizes.{Plain, refusal-size, listing-size}
 
 -- ---- the mesh of an accepted file
@@ -59,7 +59,7 @@ module _ (how : ConvexSplitStrategy) (m : ℕ) (mesh : Mesh) (h : firstFault (me
       word : (p : Pt) → onGrid p ≡ true → Word32s p
       word p g = let b = on-grid-both p g in record { x-fits = coordinate-fits (b .0); y-fits = coordinate-fits (b .1) }
 
-  split-fits : length (listingOf ps) ≤ 233522
+  split-fits : length (listingOf ps) ≤ listingRoom
   split-fits = let t = split-table how m mesh h in listing-size ps (t .few-parts) (t .few-corners) (listing-total how m mesh h .fits) split-plain
 
   pub split-listable : Listable (startsOf ps) (cornersOf ps)

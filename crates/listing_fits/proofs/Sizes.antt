@@ -8,14 +8,17 @@ use Rattle.integers.specs.Lists.{All}
 use Rattle.plane.specs.Plane.{Pt}
 use Rattle.text.specs.Text.{refusal}
 use Rattle.text.proofs.Sizes.{Word32s, decimal-size, decimal-below, corners-size}
+use Rattle.mesh.specs.Mesh.{maxTriangles}
+use Rattle.table.specs.Table.{maxParts}
 use Rattle.listing.specs.Listing.{areaOf, totalArea, shareOf, headLine, partLine, partLines, listingOf}
+use Rattle.listing_fits.specs.Fits.{listingRoom}
 
 pub refusal-size : (f : ℕ) → length (refusal f) ≤ 29
 unfolding refusal
 refusal-size f = simp length-append (omega (arith, decimal-size f))
 
 -- "parts ", 4 digits, " corners ", 4, " area2 ", 19 and the end of the line
-pub head-size : (ps : List (List Pt)) → length ps ≤ 2048 → length (flatten ps) ≤ 6144 → totalArea ps < 2 ^ 63 → length (headLine ps) ≤ 50
+pub head-size : (ps : List (List Pt)) → length ps ≤ maxParts → length (flatten ps) ≤ 6 * maxTriangles → totalArea ps < 2 ^ 63 → length (headLine ps) ≤ 50
 unfolding headLine
 head-size ps h k l = simp length-append (omega (arith, decimal-below 3 (length ps) (omega arith), decimal-below 3 (length (flatten ps)) (omega arith), decimal-below 18 (totalArea ps) (omega arith)))
 
@@ -24,7 +27,7 @@ share-most : (total a : ℕ) → a ≤ total → 0 < total → shareOf total a <
 share-most total a h k = div-lt-iff-lt-mul {k = total} {x = a * 10000} {y = 100000} k .1 (omega arith)
 
 -- 4 digits, 4, 19 and 5, three spaces, the corners and the end of the line
-pub part-size : (total k : ℕ) (p : List Pt) → k ≤ 2048 → length p ≤ 6144 → areaOf p ≤ total → total < 2 ^ 63 → 0 < total → All Word32s p → length (partLine total k p) ≤ 36 + 26 * length p
+pub part-size : (total k : ℕ) (p : List Pt) → k ≤ maxParts → length p ≤ 6 * maxTriangles → areaOf p ≤ total → total < 2 ^ 63 → 0 < total → All Word32s p → length (partLine total k p) ≤ 36 + 26 * length p
 unfolding partLine
 part-size total k p h l a t z w =
     simp length-append
@@ -42,7 +45,7 @@ pub record Plain (p : List Pt) : Type 0 where
   pub some : 0 < areaOf p
   pub words : All Word32s p
 
-pub lines-size : (total k : ℕ) (ps : List (List Pt)) → k + length ps ≤ 2048 → length (flatten ps) ≤ 6144 → totalArea ps ≤ total → total < 2 ^ 63 → All Plain ps → length (partLines total k ps) ≤ 36 * length ps + 26 * length (flatten ps)
+pub lines-size : (total k : ℕ) (ps : List (List Pt)) → k + length ps ≤ maxParts → length (flatten ps) ≤ 6 * maxTriangles → totalArea ps ≤ total → total < 2 ^ 63 → All Plain ps → length (partLines total k ps) ≤ 36 * length ps + 26 * length (flatten ps)
 unfolding partLines totalArea flatten
 lines-size total k [] h l a t w = omega arith
 lines-size total k (p ∷ ps) h l a t w =
@@ -50,7 +53,7 @@ lines-size total k (p ∷ ps) h l a t w =
     let one = part-size total k p (omega arith) (omega (arith, n)) (omega (arith, a)) t (omega (arith, a, w .0 .some)) (w .0 .words) in
     omega (arith, n, one, length-append (partLine total k p) (partLines total (suc k) ps), lines-size total (suc k) ps (omega arith) (omega (arith, n)) (omega (arith, a)) t (w .1))
 
-pub listing-size : (ps : List (List Pt)) → length ps ≤ 2048 → length (flatten ps) ≤ 6144 → totalArea ps < 2 ^ 63 → All Plain ps → length (listingOf ps) ≤ 233522
+pub listing-size : (ps : List (List Pt)) → length ps ≤ maxParts → length (flatten ps) ≤ 6 * maxTriangles → totalArea ps < 2 ^ 63 → All Plain ps → length (listingOf ps) ≤ listingRoom
 unfolding listingOf
 listing-size ps h k l w =
     omega (arith, length-append (headLine ps) (partLines (totalArea ps) 0 ps), head-size ps h k l, lines-size (totalArea ps) 0 ps (omega arith) k (omega arith) l w)

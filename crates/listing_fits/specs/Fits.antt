@@ -1,18 +1,22 @@
 -- The listing of any file: how long it is at the most, and that its parts can be listed (document 01, "The file and its listing"). Assumes nothing.
 use mathlib.Core.Path.{_≡_}
 use mathlib.Core.List.{List}
-use Prim.Native.Nat.{ℕ, _≤_}
+use Prim.Native.Nat.{ℕ, _+_, _*_, _≤_}
 use lib.ListN.{length}
 use Rattle.plane.specs.Plane.{Pt}
-use Rattle.table.specs.Table.{startsOf, cornersOf, tableParts}
+use Rattle.mesh.specs.Mesh.{maxTriangles}
+use Rattle.table.specs.Table.{maxParts, startsOf, cornersOf, tableParts}
 use Rattle.split.specs.Splitting.{splitParts}
 use Rattle.listing.specs.File.{fileFault, meshOf, cornerLimit, splitNumber, strategyOf}
 use Rattle.listing.specs.Listing.{listingOf, areasOf}
 use Rattle.listing_areas.specs.Areas.{Listable}
 
--- the first line has at most 50 bytes, each of at most 2,048 part lines 36 beside its corners, and each of at most 6,144 corners 26
+-- the bytes of the longest listing: 50 of the first line, 36 of each part's line beside its corners, 26 of each corner, of which a triangle has at most six
+abbrev pub listingRoom : ℕ
+listingRoom = 50 + 36 * maxParts + 26 * (6 * maxTriangles)
+
 abbrev pub ListingFits : Type 0
-ListingFits = (bytes : List ℕ) → length (areasOf bytes) ≤ 233522
+ListingFits = (bytes : List ℕ) → length (areasOf bytes) ≤ listingRoom
 
 -- the split parts of a file
 abbrev pub fileParts : List ℕ → List (List Pt)

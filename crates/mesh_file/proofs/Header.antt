@@ -8,6 +8,7 @@ use lib.Dec.{eqb, ltb}
 use lib.ListN.{length}
 use Rattle.integers.specs.Faults.{firstFault}
 use Rattle.integers.proofs.Faults.{first-this, first-next, first-empty}
+use Rattle.mesh.specs.Mesh.{maxTriangles}
 use Rattle.table.specs.Stored.{wordAt}
 use Rattle.listing.specs.File.{headerBroken, headerKinds}
 
@@ -34,15 +35,15 @@ module _ (bytes : List ℕ) where
   no-header h = sym (first-this 13 _ _ (lt-ltb (length bytes) 20 h))
 
   module _ (h : 20 ≤ length bytes) {n : ℕ} (u : n ≡ wordAt bytes 1) where
-    past-length : firstFault (headerKinds bytes) ≡ firstFault ((1, ltb 1024 n) ∷ (13, headerBroken bytes) ∷ [])
-    past-length = first-next 13 _ _ (le-ltb (length bytes) 20 h) ∙ ap (λ m. firstFault ((1, ltb 1024 m) ∷ (13, headerBroken bytes) ∷ [])) (sym u)
+    past-length : firstFault (headerKinds bytes) ≡ firstFault ((1, ltb maxTriangles n) ∷ (13, headerBroken bytes) ∷ [])
+    past-length = first-next 13 _ _ (le-ltb (length bytes) 20 h) ∙ ap (λ m. firstFault ((1, ltb maxTriangles m) ∷ (13, headerBroken bytes) ∷ [])) (sym u)
 
-    pub too-many : 1024 < n → 1 ≡ firstFault (headerKinds bytes)
-    too-many k = sym (past-length ∙ first-this 1 _ _ (lt-ltb 1024 n k))
+    pub too-many : maxTriangles < n → 1 ≡ firstFault (headerKinds bytes)
+    too-many k = sym (past-length ∙ first-this 1 _ _ (lt-ltb maxTriangles n k))
 
-    module _ (k : n ≤ 1024) {b : Bool} (e : b ≡ headerBroken bytes) where
+    module _ (k : n ≤ maxTriangles) {b : Bool} (e : b ≡ headerBroken bytes) where
       past-count : firstFault (headerKinds bytes) ≡ firstFault ((13, b) ∷ [])
-      past-count = past-length ∙ first-next 1 _ _ (le-ltb 1024 n k) ∙ ap (λ t. firstFault ((13, t) ∷ [])) (sym e)
+      past-count = past-length ∙ first-next 1 _ _ (le-ltb maxTriangles n k) ∙ ap (λ t. firstFault ((13, t) ∷ [])) (sym e)
 
       pub broken-header : b ≡ true → 13 ≡ firstFault (headerKinds bytes)
       broken-header t = sym (past-count ∙ first-this 13 b _ t)

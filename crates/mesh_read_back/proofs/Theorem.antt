@@ -19,7 +19,7 @@ use Rattle.table.proofs.Words.{Word, words-wordBytes}
 use Rattle.fields.specs.Fields.{linesOf, fieldOf}
 use Rattle.listing.specs.File.{recordOf, recordsOf, meshOf, triangleCount, cornerLimit, splitNumber, totalBytes, recordOffset, headerBroken}
 use Rattle.mesh_lines.specs.Lines.{isTriangle, triangleOf, triangleWords}
-use Rattle.mesh_text.specs.Text.{wrongLine, telling, firstLine, limitOf, splitNumberOf, trianglesOf, fileOf, fileOfText}
+use Rattle.mesh_text.specs.Text.{maxWritten, wrongLine, telling, firstLine, limitOf, splitNumberOf, trianglesOf, fileOf, fileOfText}
 use Rattle.mesh_text.proofs.Writing.{length-file}
 use Rattle.mesh_text.proofs.Accepted.{few-triangles, right-text}
 use Rattle.mesh_read_back.specs.ReadBack.{ReadBack}
@@ -54,7 +54,7 @@ rows-small (t ∷ m) h =
     let u = unsigned-small in
     (u (t .v0 .x) (f .first .x-fits), (u (t .v0 .y) (f .first .y-fits), (u (t .v1 .x) (f .next .x-fits), (u (t .v1 .y) (f .next .y-fits), (u (t .v2 .x) (f .last .x-fits), (u (t .v2 .y) (f .last .y-fits), (f .side-0, (f .side-1, (f .side-2, rows-small m (h .1))))))))))
 
-module _ (limit split : ℕ) (m : Mesh) (l : Word limit) (s : split ≤ 2) (n : length m ≤ 1025) (h : All TriangleFits m) where
+module _ (limit split : ℕ) (m : Mesh) (l : Word limit) (s : split ≤ 2) (n : length m ≤ maxWritten) (h : All TriangleFits m) where
   file-words : wordsOf (fileOf limit split m) ≡ (20 + 36 * length m) ∷ length m ∷ 20 ∷ limit ∷ split ∷ flatten (map triangleWords m)
   unfolding fileOf
   file-words = words-wordBytes _ (omega arith, (omega arith, (omega arith, (l, (omega arith, rows-small m h)))))

@@ -14,7 +14,7 @@ use Rattle.fields.specs.Fields.{linesOf}
 use Rattle.mesh_lines.specs.Lines.{isPassedOver, isHead, isTriangle}
 use Rattle.mesh_text.specs.declared.Converted.{Converted}
 use Rattle.mesh_text.specs.declared.Converted.the-variants as converted
-use Rattle.mesh_text.specs.Text.{fits, wrongFrom, wrongLine, telling, limitOf, splitNumberOf, trianglesOf, fileOfText}
+use Rattle.mesh_text.specs.Text.{maxWritten, maxTelling, fileRoom, fits, wrongFrom, wrongLine, telling, limitOf, splitNumberOf, trianglesOf, fileOfText}
 use Rattle.mesh_text.specs.Conversion.{tooLong, conversion, bytesConverted}
 use Rattle.mesh_text.proofs.Gatherings.{telling-passed, telling-more, wrong-passed, wrong-more, fits-few, fits-head, fits-triangle, true-false}
 use Rattle.mesh_text.proofs.Writing.{length-mesh, length-file}
@@ -38,7 +38,7 @@ right-more k n l ls e w =
 
 -- ---- how many
 
-few-lines : (k n : ℕ) (ls : List (List ℕ)) → k ≤ 1026 → wrongFrom k n ls ≡ 0 → (k + length (telling ls) ≤ 1026) × (1 ≤ k + length (telling ls))
+few-lines : (k n : ℕ) (ls : List (List ℕ)) → k ≤ maxTelling → wrongFrom k n ls ≡ 0 → (k + length (telling ls) ≤ maxTelling) × (1 ≤ k + length (telling ls))
 unfolding telling
 few-lines k n [] h w = (omega arith, omega (arith, wrong-none k n w))
 few-lines k n (l ∷ ls) h w =
@@ -49,7 +49,7 @@ few-lines k n (l ∷ ls) h w =
     let f = few-lines (k + 1) (n + 1) ls (omega (arith, fits-few k l (m .0))) (m .1) in
     (omega (arith, ap length (telling-more l ls e)), omega (arith, ap length (telling-more l ls e))))
 
-pub few-triangles : (text : List ℕ) → wrongLine text ≡ 0 → length (trianglesOf text) ≤ 1025
+pub few-triangles : (text : List ℕ) → wrongLine text ≡ 0 → length (trianglesOf text) ≤ maxWritten
 few-triangles text e = omega (arith, length-mesh text, few-lines 0 0 (linesOf text) (omega arith) e)
 
 -- ---- what they are
@@ -89,7 +89,7 @@ length-told (converted.Written n) = n
 length-told (converted.Wrong n) = 0
 length-told converted.TooLong = 0
 
-pub file-fits : (text : List ℕ) {m : ℕ} → conversion text ≡ converted.Written m → m ≤ 36920
+pub file-fits : (text : List ℕ) {m : ℕ} → conversion text ≡ converted.Written m → m ≤ fileRoom
 unfolding conversion is-written length-told
 file-fits text e =
     by-test (tooLong text)
@@ -100,7 +100,7 @@ file-fits text e =
     (λ w. absurd (true-false (sym (ap is-written (rw (t, w) at e))))))
 
 -- the lent bytes stay as many
-pub length-converted : (text old : List ℕ) → 36920 ≤ length old → length (bytesConverted text old) ≡ length old
+pub length-converted : (text old : List ℕ) → fileRoom ≤ length old → length (bytesConverted text old) ≡ length old
 unfolding bytesConverted
 length-converted text old h =
     by-test (tooLong text)
@@ -113,5 +113,5 @@ length-converted text old h =
     (λ w. rw (t, w)))
 
 -- what was written stands in the lent bytes
-pub written-within : (text old : List ℕ) {m : ℕ} {out : List ℕ} {r : Converted} → length old ≡ 36920 → r ≡ conversion text → out ≡ bytesConverted text old → r ≡ converted.Written m → m ≤ length out
+pub written-within : (text old : List ℕ) {m : ℕ} {out : List ℕ} {r : Converted} → length old ≡ fileRoom → r ≡ conversion text → out ≡ bytesConverted text old → r ≡ converted.Written m → m ≤ length out
 written-within text old h e q w = omega (arith, file-fits text (sym e ∙ w), ap length q, length-converted text old (omega arith))

@@ -18,7 +18,7 @@ use Rattle.mesh_fields.specs.Put.{Put}
 use Rattle.mesh_lines.specs.Lines.{isPassedOver, isHead, headWords, isTriangle, triangleOf, triangleWords}
 use Rattle.mesh_text.specs.declared.Step.{Step}
 use Rattle.mesh_text.specs.declared.Reading.{Reading}
-use Rattle.mesh_text.specs.Text.{fits, wrongFrom, wrongLine, telling, lineWords}
+use Rattle.mesh_text.specs.Text.{maxWritten, maxTelling, fits, wrongFrom, wrongLine, telling, lineWords}
 use Rattle.mesh_text.specs.Gathering.{wordsFrom, Taken, Gathered}
 
 pub true-false : true ≡ false → ⊥
@@ -55,24 +55,24 @@ module _ (l : List ℕ) (ls : List (List ℕ)) where
 
 -- ---- a line's words
 
-pub fits-many : (k : ℕ) (l : List ℕ) → (k ≡ 0 → ⊥) → 1025 < k → fits k l ≡ false
+pub fits-many : (k : ℕ) (l : List ℕ) → (k ≡ 0 → ⊥) → maxWritten < k → fits k l ≡ false
 unfolding fits
-fits-many k l h g = rw (ne-eqb k 0 h, lt-ltb 1025 k g)
+fits-many k l h g = rw (ne-eqb k 0 h, lt-ltb maxWritten k g)
 
-pub fits-few : (k : ℕ) (l : List ℕ) → fits k l ≡ true → k ≤ 1025
+pub fits-few : (k : ℕ) (l : List ℕ) → fits k l ≡ true → k ≤ maxWritten
 fits-few k l e =
     by-test (eqb k 0)
     (λ z. omega (arith, eqb-true k 0 z))
-    (λ z. by-test (ltb 1025 k) (λ g. absurd (true-false (sym e ∙ fits-many k l (eqb-false k 0 z) (ltb-true 1025 k g)))) (λ g. ltb-false 1025 k g))
+    (λ z. by-test (ltb maxWritten k) (λ g. absurd (true-false (sym e ∙ fits-many k l (eqb-false k 0 z) (ltb-true maxWritten k g)))) (λ g. ltb-false maxWritten k g))
 
 pub put-first : (k : ℕ) (l : List ℕ) {old new : List ℕ} {r : Bool} → k ≡ 0 → Put (isHead l) (headWords l) 0 old new r → Put (fits k l) (lineWords k l) (9 * k - 7) old new r
 unfolding fits lineWords
 put-first k l {old} {new} {r} e p = subst (λ j. Put (fits j l) (lineWords j l) (9 * j - 7) old new r) (sym e) p
 
-pub put-next : (k : ℕ) (l : List ℕ) {old new : List ℕ} {r : Bool} → (k ≡ 0 → ⊥) → k ≤ 1025 → Put (isTriangle l) (triangleWords (triangleOf l)) (9 * k - 7) old new r
+pub put-next : (k : ℕ) (l : List ℕ) {old new : List ℕ} {r : Bool} → (k ≡ 0 → ⊥) → k ≤ maxWritten → Put (isTriangle l) (triangleWords (triangleOf l)) (9 * k - 7) old new r
     → Put (fits k l) (lineWords k l) (9 * k - 7) old new r
 unfolding fits lineWords
-put-next k l h g p = rw (ne-eqb k 0 h, le-ltb 1025 k g) p
+put-next k l h g p = rw (ne-eqb k 0 h, le-ltb maxWritten k g) p
 
 pub fits-head : (l : List ℕ) → fits 0 l ≡ true → isHead l ≡ true
 unfolding fits
@@ -80,7 +80,7 @@ fits-head l e = e
 
 pub fits-triangle : (k : ℕ) (l : List ℕ) → fits (k + 1) l ≡ true → isTriangle l ≡ true
 unfolding fits
-fits-triangle k l e = rw (ne-eqb (k + 1) 0 (λ z. omega arith), le-ltb 1025 (k + 1) (fits-few (k + 1) l e)) at e
+fits-triangle k l e = rw (ne-eqb (k + 1) 0 (λ z. omega arith), le-ltb maxWritten (k + 1) (fits-few (k + 1) l e)) at e
 
 -- behind k lines 9 k - 7 words are gathered: none, 2, 11, ..
 line-size : (k : ℕ) (l : List ℕ) → 9 * k - 7 + length (lineWords k l) ≡ 9 * (k + 1) - 7
@@ -93,7 +93,7 @@ line-size k l =
 -- ---- a line taken
 
 module _ (l : List ℕ) (k : ℕ) (old : List ℕ) where
-  pub taken-passed : isPassedOver l ≡ true → k ≤ 1026 → Taken l k old old (record { right = true; count = k })
+  pub taken-passed : isPassedOver l ≡ true → k ≤ maxTelling → Taken l k old old (record { right = true; count = k })
   taken-passed e h =
       record {
         judged = λ n ls. wrong-passed l ls e k n;
@@ -148,7 +148,7 @@ pub record Going (text old : List ℕ) (at line count : ℕ) (words : List ℕ) 
   pub judged : wrongLine text ≡ wrongFrom count line (linesOf (drop at text))
   pub gathered : wordsFrom 0 (linesOf text) ≡ take (9 * count - 7) words ++ wordsFrom count (linesOf (drop at text))
   pub lines : length (telling (linesOf text)) ≡ count + length (telling (linesOf (drop at text)))
-  pub few : count ≤ 1026
+  pub few : count ≤ maxTelling
   pub near : line ≤ at
   pub within : at ≤ length text + 1
   pub as-many : length words ≡ length old

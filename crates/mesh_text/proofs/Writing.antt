@@ -21,8 +21,8 @@ use Rattle.mesh_lines.specs.Lines.{isPassedOver, headWords, triangleOf, triangl
 use Rattle.mesh_text.specs.declared.Reading.{Reading}
 use Rattle.mesh_text.specs.declared.Converted.the-variants as converted
 use Rattle.mesh_text.specs.Text.{wrongLine, telling, lineWords, trianglesOf, fileOf, fileOfText}
-use Rattle.mesh_text.specs.Gathering.{wordsFrom, Gathered}
-use Rattle.mesh_text.specs.Conversion.{tooLong, conversion, bytesConverted}
+use Rattle.mesh_text.specs.Gathering.{gatherRoom, wordsFrom, Gathered}
+use Rattle.mesh_text.specs.Conversion.{maxText, tooLong, conversion, bytesConverted}
 use Rattle.mesh_text.proofs.Gatherings.{telling-passed, telling-more, words-passed, words-more}
 
 -- ---- one after another
@@ -104,10 +104,10 @@ length-file limit split m =
 
 module _ {text old words : List ℕ} {r : Reading} (g : Gathered text old words r) (z : r .wrong ≡ 0) where
   -- the gathered words are there
-  pub gathered-room : length old ≡ 9227 → 9 * (r .count - 1) + 2 ≤ length words
+  pub gathered-room : length old ≡ gatherRoom → 9 * (r .count - 1) + 2 ≤ length words
   gathered-room e = omega (arith, g .few z, g .as-many)
 
-  pub gathered-length : length old ≡ 9227 → length (take (9 * (r .count - 1) + 2) words) ≡ 9 * (r .count - 1) + 2
+  pub gathered-length : length old ≡ gatherRoom → length (take (9 * (r .count - 1) + 2) words) ≡ 9 * (r .count - 1) + 2
   gathered-length e = length-take-le (9 * (r .count - 1) + 2) words (gathered-room e)
 
   many : r .count - 1 ≡ length (trianglesOf text)
@@ -123,17 +123,17 @@ module _ {text old words : List ℕ} {r : Reading} (g : Gathered text old words 
 -- ---- the answer
 
 module _ (text out : List ℕ) where
-  pub refused-length : 262144 < length text → (converted.TooLong ≡ conversion text) × (out ≡ bytesConverted text out)
+  pub refused-length : maxText < length text → (converted.TooLong ≡ conversion text) × (out ≡ bytesConverted text out)
   unfolding conversion bytesConverted
-  refused-length h = (rw (lt-ltb 262144 (length text) h), rw (lt-ltb 262144 (length text) h))
+  refused-length h = (rw (lt-ltb maxText (length text) h), rw (lt-ltb maxText (length text) h))
 
-  module _ (h : length text ≤ 262144) {old words : List ℕ} {r : Reading} (g : Gathered text old words r) where
+  module _ (h : length text ≤ maxText) {old words : List ℕ} {r : Reading} (g : Gathered text old words r) where
     pub refused-line : (r .wrong ≡ 0 → ⊥) → (converted.Wrong (r .wrong) ≡ conversion text) × (out ≡ bytesConverted text out)
     unfolding conversion bytesConverted
     refused-line z =
         let n : wrongLine text ≡ 0 → ⊥ = λ q. z (g .judged ∙ q) in (
-          rw (le-ltb 262144 (length text) h, ne-eqb (wrongLine text) 0 n) (ap converted.Wrong (g .judged)),
-          rw (le-ltb 262144 (length text) h, ne-eqb (wrongLine text) 0 n),
+          rw (le-ltb maxText (length text) h, ne-eqb (wrongLine text) 0 n) (ap converted.Wrong (g .judged)),
+          rw (le-ltb maxText (length text) h, ne-eqb (wrongLine text) 0 n),
         )
 
     pub converted-text : r .wrong ≡ 0 → {m : ℕ} {b : List ℕ} → m ≡ 20 + 36 * (r .count - 1)
@@ -143,6 +143,6 @@ module _ (text out : List ℕ) where
     converted-text z e q =
         let n : wrongLine text ≡ 0 = sym (g .judged) ∙ z in
         let s = e ∙ ap (λ k. 20 + 36 * k) (many g z) ∙ sym (length-file _ _ (trianglesOf text)) in (
-          rw (le-ltb 262144 (length text) h, eq-eqb (wrongLine text) 0 n) (ap converted.Written s),
-          rw (le-ltb 262144 (length text) h, eq-eqb (wrongLine text) 0 n) (q ∙ ap (λ f. overlay f out) (file-words g z)),
+          rw (le-ltb maxText (length text) h, eq-eqb (wrongLine text) 0 n) (ap converted.Written s),
+          rw (le-ltb maxText (length text) h, eq-eqb (wrongLine text) 0 n) (q ∙ ap (λ f. overlay f out) (file-words g z)),
         )

@@ -9,9 +9,12 @@ use Rattle.mesh_text.specs.declared.Converted.{Converted}
 use Rattle.mesh_text.specs.declared.Converted.the-variants as converted
 use Rattle.mesh_text.specs.Text.{wrongLine, fileOfText}
 
--- a text longer than 262,144 bytes is not read
+-- a text of more bytes is not read; the longest lines that can be written take less than half of it
+abbrev pub maxText : ℕ
+maxText = 262144
+
 abbrev pub tooLong : List ℕ → Bool
-tooLong text = ltb 262144 (length text)
+tooLong text = ltb maxText (length text)
 
 unfoldable pub conversion : List ℕ → Converted
 conversion text =

@@ -8,7 +8,11 @@ use Rattle.fields.specs.Fields.{linesOf}
 use Rattle.mesh_lines.specs.Lines.{isPassedOver}
 use Rattle.mesh_text.specs.declared.Step.{Step}
 use Rattle.mesh_text.specs.declared.Reading.{Reading}
-use Rattle.mesh_text.specs.Text.{wrongFrom, wrongLine, telling, lineWords}
+use Rattle.mesh_text.specs.Text.{maxWritten, maxTelling, wrongFrom, wrongLine, telling, lineWords}
+
+-- the words of the longest text: two of the first line and nine a triangle
+abbrev pub gatherRoom : ℕ
+gatherRoom = 9 * maxWritten + 2
 
 -- the words of lines behind k that said something
 unfoldable pub wordsFrom : ℕ → List (List ℕ) → List ℕ
@@ -20,7 +24,7 @@ pub record Taken (l : List ℕ) (k : ℕ) (old new : List ℕ) (r : Step) : Type
   pub judged : (n : ℕ) (ls : List (List ℕ)) → wrongFrom k n (l ∷ ls) ≡ cond (r .right) (wrongFrom (r .count) (n + 1) ls) (n + 1)
   pub words : r .right ≡ true → (ls : List (List ℕ)) → take (9 * k - 7) old ++ wordsFrom k (l ∷ ls) ≡ take (9 * r .count - 7) new ++ wordsFrom (r .count) ls
   pub lines : r .right ≡ true → (ls : List (List ℕ)) → k + length (telling (l ∷ ls)) ≡ r .count + length (telling ls)
-  pub few : r .right ≡ true → r .count ≤ 1026
+  pub few : r .right ≡ true → r .count ≤ maxTelling
   pub as-many : length new ≡ length old
 
 -- what is gathered of a whole text
@@ -29,5 +33,5 @@ pub record Gathered (text old new : List ℕ) (r : Reading) : Type 0 where
   pub lines : r .wrong ≡ 0 → r .count ≡ length (telling (linesOf text))
   pub words : r .wrong ≡ 0 → take (9 * r .count - 7) new ≡ wordsFrom 0 (linesOf text)
   pub some : r .wrong ≡ 0 → 1 ≤ r .count
-  pub few : r .wrong ≡ 0 → r .count ≤ 1026
+  pub few : r .wrong ≡ 0 → r .count ≤ maxTelling
   pub as-many : length new ≡ length old

@@ -5,7 +5,7 @@ use mathlib.Core.List.{List, [], _∷_, _++_, map, flatten}
 use Prim.Native.Nat.{ℕ, _+_, _*_}
 use lib.Dec.{eqb, ltb}
 use lib.ListN.{length, getD, drop}
-use Rattle.mesh.specs.Mesh.{Mesh}
+use Rattle.mesh.specs.Mesh.{Mesh, maxTriangles}
 use Rattle.table.specs.Stored.{wordBytes}
 use Rattle.fields.specs.Fields.{linesOf, fieldOf}
 use Rattle.field_numbers.specs.Numbers.{valueOf}
@@ -14,9 +14,17 @@ use Rattle.mesh_lines.specs.Lines.{isPassedOver, isHead, headWords, isTriangle,
 
 -- ---- the wrong line
 
--- whether a line may stand behind k that say something: the first line behind none, then at most 1,025 triangles
+-- a text may have one triangle more than a mesh: its file is refused with 1, so that this fault can be written by hand too
+abbrev pub maxWritten : ℕ
+maxWritten = maxTriangles + 1
+
+-- the lines that say something: the first, and one a triangle
+abbrev pub maxTelling : ℕ
+maxTelling = maxWritten + 1
+
+-- whether a line may stand behind k that say something: the first line behind none, then so many triangles
 unfoldable pub fits : ℕ → List ℕ → Bool
-fits k l = cond (eqb k 0) (isHead l) (cond (ltb 1025 k) false (isTriangle l))
+fits k l = cond (eqb k 0) (isHead l) (cond (ltb maxWritten k) false (isTriangle l))
 
 -- the number of the first line that is wrong, 0 for none, of lines behind n others of which k said something; without a first line it is the one
 -- behind the last
@@ -47,6 +55,10 @@ abbrev pub trianglesOf : List ℕ → Mesh
 trianglesOf text = map triangleOf (drop 1 (telling (linesOf text)))
 
 -- ---- the file
+
+-- the bytes of the longest file, a header and the records
+abbrev pub fileRoom : ℕ
+fileRoom = 20 + 36 * maxWritten
 
 -- "a header of five little-endian u32 (total bytes, triangle count, offset of records, corner limit, split ..), then records of six i32 .. and three u32"
 unfoldable pub fileOf : ℕ → ℕ → Mesh → List ℕ

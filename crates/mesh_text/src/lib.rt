@@ -8,26 +8,26 @@ ghost use lib.ListN.{length};
 ghost use Rattle.integers.specs.Lists.{overlay};
 ghost use Rattle.table.specs.Stored.{wordBytes};
 ghost use Rattle.mesh_fields.specs.Put.{Put};
-ghost use Rattle.mesh_text.specs.Text.{fits, lineWords};
-ghost use Rattle.mesh_text.specs.Gathering.{Taken, Gathered};
-ghost use Rattle.mesh_text.specs.Conversion.{conversion, bytesConverted};
+ghost use Rattle.mesh_text.specs.Text.{maxWritten, maxTelling, fileRoom, fits, lineWords};
+ghost use Rattle.mesh_text.specs.Gathering.{gatherRoom, Taken, Gathered};
+ghost use Rattle.mesh_text.specs.Conversion.{maxText, conversion, bytesConverted};
 use fields::Run;
 
-// The longest text that is read: 1,025 of the longest lines take less than half of it.
+// The longest text that is read: as many of the longest lines as may be take less than half of it.
 pub const MAX_TEXT: usize = 262144;
 
 // One triangle more than a mesh may have, so that fault 1 can be written.
-const MAX_TRIANGLES: usize = 1025;
-
-// The bytes of the longest file, 20 + 36 for each triangle, and the words of it that are gathered: two of the first line, nine of each triangle.
-pub const FILE_ROOM: usize = 36920;
-
-const GATHER_ROOM: usize = 9227;
+const MAX_WRITTEN: usize = mesh::MAX_TRIANGLES + 1;
 
 // The bytes of the header, behind which the records begin, and of a record (document 01).
 const HEADER: usize = 20;
 
 const RECORD: usize = 36;
+
+// The bytes of the longest file, and the words of it that are gathered: two of the first line, nine of each triangle.
+pub const FILE_ROOM: usize = HEADER + RECORD * MAX_WRITTEN;
+
+const GATHER_ROOM: usize = 9 * MAX_WRITTEN + 2;
 
 // What a text was turned into: a file of so many bytes; or what it was refused by: its first wrong line, counted from 1, or its length.
 pub enum Converted {
@@ -50,13 +50,13 @@ pub struct Reading {
 
 // Puts the words of line number `count` of those that say something: the first line's, or a triangle's.
 fn put_line(line: &[u8], count: usize, words: &mut [u32]) -> bool
-    requires { ⌜ 9227 ≤ length (now words) ⌝ }
+    requires { ⌜ gatherRoom ≤ length (now words) ⌝ }
     ensures { λ r. ⌜ Put (fits count (now (line .entry))) (lineWords count (now (line .entry))) (9 * count - 7) (now (words .entry)) (now (words .exit)) r ⌝ }
 {
     if count == 0 {
         return mesh_lines::put_head(line, words);
     }
-    if count > MAX_TRIANGLES {
+    if count > MAX_WRITTEN {
         return false;
     }
     mesh_lines::put_triangle(line, 9 * count - 7, words)
@@ -64,7 +64,7 @@ fn put_line(line: &[u8], count: usize, words: &mut [u32]) -> bool
 
 // Takes a line, behind `count` that say something.
 fn take_line(line: &[u8], count: usize, words: &mut [u32]) -> Step
-    requires { ⌜ (9227 ≤ length (now words)) × (count ≤ 1026) ⌝ }
+    requires { ⌜ (gatherRoom ≤ length (now words)) × (count ≤ maxTelling) ⌝ }
     ensures { λ r. ⌜ Taken (now (line .entry)) count (now (words .entry)) (now (words .exit)) r ⌝ }
 {
     if mesh_lines::passed_over(line) {
@@ -87,7 +87,7 @@ fn take_line(line: &[u8], count: usize, words: &mut [u32]) -> Step
 
 // Gathers the words of every line, up to the first that is wrong.
 fn gather(text: &[u8], words: &mut [u32]) -> Reading
-    requires { ⌜ (9227 ≤ length (now words)) × (length (now text) ≤ 262144) ⌝ }
+    requires { ⌜ (gatherRoom ≤ length (now words)) × (length (now text) ≤ maxText) ⌝ }
     ensures { λ r. ⌜ Gathered (now (text .entry)) (now (words .entry)) (now (words .exit)) r ⌝ }
 {
     let mut at = 0;
@@ -121,7 +121,7 @@ fn gather(text: &[u8], words: &mut [u32]) -> Reading
 
 // Writes the file of so many triangles whose words from the corner limit on are gathered; answers how many bytes it has.
 fn write_file(count: usize, gathered: &[u32], out: &mut [u8]) -> usize
-    requires { ⌜ (count ≤ 1025) × (length (now gathered) ≡ 9 * count + 2) × (36920 ≤ length (now out)) ⌝ }
+    requires { ⌜ (count ≤ maxWritten) × (length (now gathered) ≡ 9 * count + 2) × (fileRoom ≤ length (now out)) ⌝ }
     ensures told { λ r. ⌜ r ≡ 20 + 36 * count ⌝ }
     ensures bytes { λ r. ⌜ now (out .exit) ≡ overlay (wordBytes ((20 + 36 * count) ∷ count ∷ 20 ∷ now (gathered .entry))) (now (out .entry)) ⌝ }
 {

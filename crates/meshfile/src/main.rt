@@ -4,7 +4,7 @@ use mesh_text::Converted;
 use mesh_text::FILE_ROOM;
 
 // One byte more than the longest text, so that a longer one is told from it.
-const INPUT: usize = 262145;
+const INPUT: usize = mesh_text::MAX_TEXT + 1;
 
 // Tells on standard error which line is wrong, and what a line looks like.
 fn tell_line(line: usize) {

@@ -12,6 +12,7 @@ use Rattle.plane.specs.Plane.{Pt}
 use Rattle.table.proofs.Rules.{Limits}
 use Rattle.pair.specs.Pair.{pairContour}
 use Rattle.pair.proofs.FewCorners.{few-corners}
+use Rattle.table.specs.Table.{maxParts, maxCorners}
 use Rattle.minkowski.specs.Pairs.{pairsOf}
 
 -- of one left part: (R + 1) a + (b + rest) = (R a + rest) + (a + b)
@@ -42,6 +43,6 @@ pairs-small reflected ls rs l r =
     omega (
       arith,
       pairs-few reflected ls rs,
-      mul-le-mul {n₁ = length rs} {m₁ = length (flatten ls)} {n₂ = 2048} {m₂ = 8192} (r .parts) (l .corners),
-      mul-le-mul {n₁ = length ls} {m₁ = length (flatten rs)} {n₂ = 2048} {m₂ = 8192} (l .parts) (r .corners),
+      mul-le-mul {n₁ = length rs} {m₁ = length (flatten ls)} {n₂ = maxParts} {m₂ = maxCorners} (r .parts) (l .corners),
+      mul-le-mul {n₁ = length ls} {m₁ = length (flatten rs)} {n₂ = maxParts} {m₂ = maxCorners} (l .parts) (r .corners),
     )

@@ -9,6 +9,7 @@ ghost use Rattle.integers.specs.Faults.{firstFault};
 ghost use Rattle.minkowski.specs.Pairs.{pairsCounts, pairsStarts, pairsCorners};
 ghost use Rattle.minkowski_faults.specs.Kinds.{operand, operandKinds};
 ghost use Rattle.minkowski_work.specs.Scratch.{Answers};
+ghost use Rattle.minkowski_parts.specs.Sizes.{tinyPlaces, smallPlaces};
 use minkowski::PairCounts;
 use table::IntRect;
 
@@ -75,13 +76,13 @@ fn pairs_small(
     starts: &mut [u32],
     corners: &mut [i32],
 ) -> PairCounts
-    requires { ⌜ (firstFault (operandKinds (operand (now «left_starts») (now «left_corners») «left_bounds») (operand (now «right_starts») (now «right_corners») «right_bounds»)) ≡ 0) × (length (now «left_starts») + length (now «left_corners») / 2 ≤ 256) × (length (now «right_starts») + length (now «right_corners») / 2 ≤ 256) ⌝ }
+    requires { ⌜ (firstFault (operandKinds (operand (now «left_starts») (now «left_corners») «left_bounds») (operand (now «right_starts») (now «right_corners») «right_bounds»)) ≡ 0) × (length (now «left_starts») + length (now «left_corners») / 2 ≤ smallPlaces) × (length (now «right_starts») + length (now «right_corners») / 2 ≤ smallPlaces) ⌝ }
     ensures { λ r. ⌜ Answers reflected (operand (now («left_starts» .entry)) (now («left_corners» .entry)) «left_bounds») (operand (now («right_starts» .entry)) (now («right_corners» .entry)) «right_bounds») (now (starts .entry)) (now (corners .entry)) r (now (starts .exit)) (now (corners .exit)) ⌝ }
 {
-    let mut left_points = [[0i32; 2]; 256];
-    let mut left_firsts = [0u32; 256];
-    let mut right_points = [[0i32; 2]; 256];
-    let mut right_firsts = [0u32; 256];
+    let mut left_points = [[0i32; 2]; SMALL];
+    let mut left_firsts = [0u32; SMALL];
+    let mut right_points = [[0i32; 2]; SMALL];
+    let mut right_firsts = [0u32; SMALL];
     minkowski_work::pairs_over(
         reflected,
         left_starts,
@@ -111,7 +112,7 @@ fn tiny_pairs(
     starts: &mut [u32],
     corners: &mut [i32],
 ) -> PairCounts
-    requires { ⌜ (length (now «left_starts») + length (now «left_corners») / 2 ≤ 16) × (length (now «right_starts») + length (now «right_corners») / 2 ≤ 16) ⌝ }
+    requires { ⌜ (length (now «left_starts») + length (now «left_corners») / 2 ≤ tinyPlaces) × (length (now «right_starts») + length (now «right_corners») / 2 ≤ tinyPlaces) ⌝ }
     ensures { λ r. ⌜ Answers reflected (operand (now («left_starts» .entry)) (now («left_corners» .entry)) «left_bounds») (operand (now («right_starts» .entry)) (now («right_corners» .entry)) «right_bounds») (now (starts .entry)) (now (corners .entry)) r (now (starts .exit)) (now (corners .exit)) ⌝ }
 {
     let fault = minkowski_faults::operands_fault(
@@ -125,10 +126,10 @@ fn tiny_pairs(
     if fault != 0 {
         return minkowski_answer::refusal(fault);
     }
-    let mut left_points = [[0i32; 2]; 16];
-    let mut left_firsts = [0u32; 16];
-    let mut right_points = [[0i32; 2]; 16];
-    let mut right_firsts = [0u32; 16];
+    let mut left_points = [[0i32; 2]; TINY];
+    let mut left_firsts = [0u32; TINY];
+    let mut right_points = [[0i32; 2]; TINY];
+    let mut right_firsts = [0u32; TINY];
     minkowski_work::pairs_over(
         reflected,
         left_starts,

@@ -13,7 +13,7 @@ use Rattle.integers.proofs.Overlay.{overlay-nil, take-overlay}
 use Rattle.plane.specs.Plane.{Pt, _+ᵖ_, onGrid}
 use Rattle.plane.specs.Machine.{Coordinate}
 use Rattle.plane.proofs.Size.{on-grid-both}
-use Rattle.table.specs.Table.{pointsOf, numbersOf}
+use Rattle.table.specs.Table.{maxContour, pointsOf, numbersOf}
 use Rattle.table.proofs.Corners.{length-numbers, points-numbers}
 use Rattle.text.proofs.Sizes.{Word32s}
 use Rattle.pair.specs.Pair.{pairContour}
@@ -54,7 +54,7 @@ module _ (lf : List ℕ) (lp : List (List ℤ)) (left p : ℕ) (rf : List ℕ) (
       merged-sums Word32s (getD (walksIn lf lp left) p []) (getD (walksIn rf rp right) q [])
       (all-map (getD (walksIn lf lp left) p []) (λ x g. all-map (getD (walksIn rf rp right) q []) (λ y k. sum-words x y (on-grid-both x g) (on-grid-both y k)) on-right) on-left)
 
-  pub pair-few : length (pairOf lf lp left p rf rp right q) ≤ 2052
+  pub pair-few : length (pairOf lf lp left p rf rp right q) ≤ 2 * maxContour
   pair-few =
       omega (
         arith,
@@ -68,7 +68,7 @@ module _ (lf : List ℕ) (lp : List (List ℤ)) (left p : ℕ) (rf : List ℕ) (
 
   -- merged into a buffer as long as the work buffer, w being the left walk as its slice has it
   module _ {w : List Pt} (e : w ≡ getD (walksIn lf lp left) p []) {o o′ : List ℤ} {k : ℕ} (m : Put (mergedOf w (getD (walksIn rf rp right) q [])) o 0 o′ k) where
-    pub pair-count : k ≤ 2052
+    pub pair-count : k ≤ 2 * maxContour
     pair-count = omega (arith, m .count, ap (λ l. length (mergedOf l (getD (walksIn rf rp right) q []))) e, pair-few)
 
     pub pair-inside : length work ≡ length o → 2 * k ≤ length o′

@@ -2,7 +2,7 @@
 // it prints is `pairsText` of pairs_job/specs/Job.antt; by the law `MoreInput` there no byte past those that it reads changes that. Leans on input and pairs_print.
 
 // One byte more than the longest good job has.
-const JOB: usize = 147517;
+const JOB: usize = pairs_job::LONGEST + 1;
 
 fn main() {
     let mut bytes = [0u8; JOB];

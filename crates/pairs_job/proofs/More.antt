@@ -13,7 +13,7 @@ use Rattle.integers.proofs.Order.{by-test}
 use Rattle.text.specs.Text.{refusal}
 use Rattle.table.specs.Stored.{wordsOf}
 use Rattle.table.specs.Table.{tableBroken}
-use Rattle.pairs_job.specs.Job.{operation, rightPlace, leftOf, rightOf, jobLengthBroken, jobFault, pairsText, MoreInput}
+use Rattle.pairs_job.specs.Job.{longestJob, operation, rightPlace, leftOf, rightOf, jobLengthBroken, jobFault, pairsText, MoreInput}
 use Rattle.pairs_job.proofs.Sizes.{sized, place, limits}
 use Rattle.pairs_job.proofs.Shape.{left-inside, right-inside, job-operation, job-length, to-operands}
 
@@ -35,7 +35,7 @@ is-refusal : (t : Bool) → byOperation t ≡ 0 → ⊥
 is-refusal true e = omega (arith, e)
 is-refusal false e = omega (arith, e)
 
-module _ (bytes : List ℕ) (h : 147516 < length bytes) where
+module _ (bytes : List ℕ) (h : longestJob < length bytes) where
   -- of the right length, some table has a count past its limit
   some-broken : jobLengthBroken bytes ≡ false → tableBroken (leftOf bytes .starts) (leftOf bytes .corners) ≡ false → tableBroken (rightOf bytes .starts) (rightOf bytes .corners) ≡ false → ⊥
   unfolding leftOf rightOf
@@ -56,7 +56,7 @@ module _ (bytes : List ℕ) (h : 147516 < length bytes) where
       (λ e. first-next 7 _ _ e ∙ by-test (tableBroken (rightOf bytes .starts) (rightOf bytes .corners)) (λ f. first-this 7 _ _ f) (λ f. absurd (some-broken l e f)))
       ∙ sym (ap byOperation b)))
 
-long-text : (bytes : List ℕ) → 147516 < length bytes → pairsText bytes ≡ refusal (byOperation (ltb 1 (operation bytes)))
+long-text : (bytes : List ℕ) → longestJob < length bytes → pairsText bytes ≡ refusal (byOperation (ltb 1 (operation bytes)))
 unfolding pairsText
 long-text bytes h =
     let e = long-fault bytes h in

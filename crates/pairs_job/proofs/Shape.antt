@@ -13,7 +13,7 @@ use Rattle.integers.proofs.Faults.{first-this, first-next, first-none, first-em
 use Rattle.integers.proofs.Order.{by-test}
 use Rattle.integers.proofs.Tests.{either-false}
 use Rattle.table.specs.Stored.{wordAt}
-use Rattle.table.specs.Table.{tableBroken}
+use Rattle.table.specs.Table.{maxParts, maxCorners, tableBroken}
 use Rattle.minkowski.specs.Pairs.{pairKinds}
 use Rattle.pairs_job.specs.Job.{tableWords, operation, reflectedOf, rightPlace, leftOf, rightOf, jobLengthBroken, jobFault, countsBroken, shapeFault}
 use Rattle.pairs_job.proofs.Sizes.{sized, place, counts-rules}
@@ -72,10 +72,10 @@ module _ (bytes : List ℕ) where
     pub long : 4 ≤ length bytes
     pub known : operation bytes ≤ 1
     pub right-length : jobLengthBroken bytes ≡ false
-    pub left-parts : wordAt bytes 5 ≤ 2048
-    pub left-corners : wordAt bytes 6 ≤ 8192
-    pub right-parts : wordAt bytes (rightPlace bytes) ≤ 2048
-    pub right-corners : wordAt bytes (rightPlace bytes + 1) ≤ 8192
+    pub left-parts : wordAt bytes 5 ≤ maxParts
+    pub left-corners : wordAt bytes 6 ≤ maxCorners
+    pub right-parts : wordAt bytes (rightPlace bytes) ≤ maxParts
+    pub right-corners : wordAt bytes (rightPlace bytes + 1) ≤ maxCorners
 
   pub shaped : shapeFault bytes ≡ 0 → Shaped
   unfolding shapeFault
@@ -85,16 +85,16 @@ module _ (bytes : List ℕ) where
       let c = first-none 7 (jobLengthBroken bytes) _ (omega arith) (b .1) in
       let d = first-none 7 (countsBroken bytes 5) _ (omega arith) (c .1) in
       let f = first-none 7 (countsBroken bytes (rightPlace bytes)) _ (omega arith) (d .1) in
-      let x = either-false (ltb 2048 (wordAt bytes 5)) _ (d .0) in
-      let y = either-false (ltb 2048 (wordAt bytes (rightPlace bytes))) _ (f .0) in
+      let x = either-false (ltb maxParts (wordAt bytes 5)) _ (d .0) in
+      let y = either-false (ltb maxParts (wordAt bytes (rightPlace bytes))) _ (f .0) in
       record {
         long = ltb-false _ 4 (a .0);
         known = ltb-false 1 _ (b .0);
         right-length = c .0;
-        left-parts = ltb-false 2048 _ (x .0);
-        left-corners = ltb-false 8192 _ (x .1);
-        right-parts = ltb-false 2048 _ (y .0);
-        right-corners = ltb-false 8192 _ (y .1);
+        left-parts = ltb-false maxParts _ (x .0);
+        left-corners = ltb-false maxCorners _ (x .1);
+        right-parts = ltb-false maxParts _ (y .0);
+        right-corners = ltb-false maxCorners _ (y .1);
       }
 
   -- ---- the job's fault

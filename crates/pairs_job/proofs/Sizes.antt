@@ -13,7 +13,7 @@ use lib.Seq.{length-take-le}
 use lib.IntN.{ℤ}
 use Rattle.integers.proofs.Order.{by-test}
 use Rattle.table.specs.Stored.{wordsOf, wordAt, signed}
-use Rattle.table.specs.Table.{tableBroken}
+use Rattle.table.specs.Table.{maxParts, maxCorners, tableBroken}
 use Rattle.table.proofs.Rules.{tests}
 use Rattle.table.proofs.Words.{length-words}
 use Rattle.pairs_job.specs.Job.{startsAt, cornersAt, tableWords, rightPlace, jobLengthBroken, countsBroken}
@@ -54,7 +54,7 @@ module _ (bytes : List ℕ) where
         ∙ length-take-le (2 * wordAt bytes (k + 1)) (drop (k + 3 + wordAt bytes k) (wordsOf bytes)) (omega (arith, length-drop (k + 3 + wordAt bytes k) (wordsOf bytes), length-words bytes))
 
     -- a table that is not broken has counts within the limits
-    pub limits : tableBroken (startsAt bytes k) (cornersAt bytes k) ≡ false → (wordAt bytes k ≤ 2048) × (wordAt bytes (k + 1) ≤ 8192)
+    pub limits : tableBroken (startsAt bytes k) (cornersAt bytes k) ≡ false → (wordAt bytes k ≤ maxParts) × (wordAt bytes (k + 1) ≤ maxCorners)
     limits e =
         let t = tests (startsAt bytes k) (cornersAt bytes k) e in
         (omega (arith, t .few-parts, count-starts), omega (arith, t .few-corners, count-numbers))
@@ -64,14 +64,14 @@ module _ (bytes : List ℕ) where
         by-test (tableBroken (startsAt bytes k) (cornersAt bytes k)) (λ t. t)
         (λ f. absurd (either-over e (limits f)))
       where
-        either-over : countsBroken bytes k ≡ true → (wordAt bytes k ≤ 2048) × (wordAt bytes (k + 1) ≤ 8192) → ⊥
-        either-over e l = omega (arith, ltb-true 8192 (wordAt bytes (k + 1)) (rw (le-ltb 2048 (wordAt bytes k) (l .0)) at e), l .1)
+        either-over : countsBroken bytes k ≡ true → (wordAt bytes k ≤ maxParts) × (wordAt bytes (k + 1) ≤ maxCorners) → ⊥
+        either-over e l = omega (arith, ltb-true maxCorners (wordAt bytes (k + 1)) (rw (le-ltb maxParts (wordAt bytes k) (l .0)) at e), l .1)
 
   -- ---- the counts, as code tests them
 
   module _ (k : ℕ) where
-    pub many-parts : {w : ℕ} → w ≡ wordAt bytes k → 2048 < w → true ≡ countsBroken bytes k
-    many-parts e h = rw (lt-ltb 2048 (wordAt bytes k) (omega (arith, e, h)))
+    pub many-parts : {w : ℕ} → w ≡ wordAt bytes k → maxParts < w → true ≡ countsBroken bytes k
+    many-parts e h = rw (lt-ltb maxParts (wordAt bytes k) (omega (arith, e, h)))
 
-    pub many-corners : {w n : ℕ} → w ≡ wordAt bytes k → w ≤ 2048 → n ≡ wordAt bytes (k + 1) → ltb 8192 n ≡ countsBroken bytes k
-    many-corners e h d = rw (le-ltb 2048 (wordAt bytes k) (omega (arith, e, h))) (ap (ltb 8192) d)
+    pub many-corners : {w n : ℕ} → w ≡ wordAt bytes k → w ≤ maxParts → n ≡ wordAt bytes (k + 1) → ltb maxCorners n ≡ countsBroken bytes k
+    many-corners e h d = rw (le-ltb maxParts (wordAt bytes k) (omega (arith, e, h))) (ap (ltb maxCorners) d)

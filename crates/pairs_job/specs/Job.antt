@@ -92,9 +92,13 @@ pairsText bytes =
     ++ pairLines (reflectedOf bytes) (operandParts (leftOf bytes)) (operandParts (rightOf bytes)))
     (refusal (jobFault bytes))
 
+-- the bytes of the longest good job: an operation, and of either operand four bounds, two counts, the starts and the corners
+abbrev pub longestJob : ℕ
+longestJob = 4 * (1 + 2 * (4 + 2 + (maxParts + 1) + 2 * maxCorners))
+
 -- "at most 147,517 bytes are read, one more than the longest good job": what comes after them changes nothing (proofs/More.antt)
 abbrev pub MoreInput : Type 0
-MoreInput = (bytes more : List ℕ) → length bytes ≡ 147517 → pairsText (bytes ++ more) ≡ pairsText bytes
+MoreInput = (bytes more : List ℕ) → length bytes ≡ longestJob + 1 → pairsText (bytes ++ more) ≡ pairsText bytes
 
 -- ---- what of it is told before the operands are read
 

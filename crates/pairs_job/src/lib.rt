@@ -19,6 +19,10 @@ pub const LEFT: usize = 5;
 // A sum is operation 0, a difference 1.
 pub const DIFFERENCE: u32 = 1;
 
+// The bytes of the longest good job: an operation, and of either operand four bounds, two counts, the starts and the corners.
+pub const LONGEST: usize = WORD
+    * (1 + 2 * (4 + 2 + (table::MAX_PARTS + 1) + 2 * table::MAX_CORNERS));
+
 // How many words the table at word k has, as its counts say.
 fn table_size(bytes: &[u8], k: usize) -> usize
     requires { ⌜ 4 * (k + 2) ≤ length (now bytes) ⌝ }

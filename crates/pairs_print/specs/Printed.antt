@@ -11,6 +11,7 @@ use Rattle.text.specs.Text.{refusal}
 use Rattle.minkowski.specs.Pairs.{operandParts, resultBounds}
 use Rattle.minkowski_count.specs.Counting.{Countable}
 use Rattle.pair_lines.specs.Lines.{pairsHead, pairLines}
+use Rattle.pair_lines.specs.Putting.{lineRoom}
 use Rattle.pairs_work.specs.declared.Begun.{Begun}
 use Rattle.pairs_job.specs.Job.{reflectedOf, leftOf, rightOf, jobFault, contoursOf, pairsText}
 
@@ -38,7 +39,7 @@ pub record Printable (lf : List ℕ) (lp : List (List ℤ)) (left : ℕ) (rf : L
   pub lefts : Countable lf lp left
   pub rights : Countable rf rp right
   pub for-corners : 4 * maxContour ≤ length work
-  pub for-line : 53399 ≤ length out
+  pub for-line : lineRoom ≤ length out
 
 -- what a job answered before its lines: as many pairs as a head line can tell and, where it is not refused, the walks of both operands
 pub record Started (x : Begun) (lf : List ℕ) (lp : List (List ℤ)) (rf : List ℕ) (rp : List (List ℤ)) : Type 0 where

@@ -11,8 +11,8 @@ use pairs_work::Begun;
 use pairs_work::FIRSTS;
 use pairs_work::POINTS;
 
-// Room for any line.
-const LINE: usize = 53399;
+// Room for any line: 47 bytes, and 26 for each corner of a pair.
+const LINE: usize = 47 + 26 * (2 * table::MAX_CONTOUR);
 
 // Room for any head line.
 const FIRST: usize = 154;

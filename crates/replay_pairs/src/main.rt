@@ -3,7 +3,7 @@
 use records::HEAD;
 
 // A head, and one byte more than the longest good job has.
-const RECORD: usize = HEAD + 147517;
+const RECORD: usize = HEAD + pairs_job::LONGEST + 1;
 
 fn main() {
     let mut k: u64 = 0;

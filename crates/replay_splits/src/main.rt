@@ -3,8 +3,8 @@
 // (vectors/README.md). Leans on boundary_split, records, part_lines and lines.
 use records::HEAD;
 
-// As many triangles, lent starts and lent numbers as a record may have.
-const TRIANGLES: usize = 1025;
+// As many triangles, lent starts and lent numbers as a record may have: one triangle more than a mesh, for fault 1.
+const TRIANGLES: usize = mesh::MAX_TRIANGLES + 1;
 
 const STARTS: usize = 64;
 

@@ -14,7 +14,7 @@ use lib.Seq.{drop-cons, getD-take, getD-drop}
 use lib.IntN.{ℤ}
 use Rattle.integers.specs.Lists.{overlay}
 use Rattle.plane.specs.Plane.{inRange}
-use Rattle.table.specs.Table.{stepsBroken, startsBroken, offRange, tableBroken}
+use Rattle.table.specs.Table.{maxParts, maxCorners, maxContour, stepsBroken, startsBroken, offRange, tableBroken}
 use Rattle.table.specs.Stored.{wordsOf, wordAt, signed, storedStarts, storedCorners, lengthBroken, storedBroken, storedParts, readFault}
 use Rattle.integers.proofs.Faults.{first-this, first-next, first-empty}
 use Rattle.table.proofs.Rules.{not-from-0, steps-begin, step-broken, step-passed, steps-end}
@@ -41,39 +41,39 @@ module _ (bytes : List ℕ) where
   broken-length e = rw e
 
   module _ (e : lengthBroken bytes ≡ false) where
-    pub many-parts : 2048 < wordAt bytes 0 → storedBroken bytes ≡ true
+    pub many-parts : maxParts < wordAt bytes 0 → storedBroken bytes ≡ true
     unfolding storedBroken tableBroken
     many-parts h =
         rw (
           e,
           eq-eqb (length (storedCorners bytes) % 2) 0 (omega (arith, count-numbers bytes (sized bytes e))),
-          lt-ltb 2048 (length (storedStarts bytes) - 1) (omega (arith, count-starts bytes (sized bytes e))),
+          lt-ltb maxParts (length (storedStarts bytes) - 1) (omega (arith, count-starts bytes (sized bytes e))),
         )
 
-    module _ (h : wordAt bytes 0 ≤ 2048) where
-      pub many-corners : 8192 < wordAt bytes 1 → storedBroken bytes ≡ true
+    module _ (h : wordAt bytes 0 ≤ maxParts) where
+      pub many-corners : maxCorners < wordAt bytes 1 → storedBroken bytes ≡ true
       unfolding storedBroken tableBroken
       many-corners k =
           rw (
             e,
             eq-eqb (length (storedCorners bytes) % 2) 0 (omega (arith, count-numbers bytes (sized bytes e))),
-            le-ltb 2048 (length (storedStarts bytes) - 1) (omega (arith, count-starts bytes (sized bytes e))),
-            lt-ltb 8192 (length (storedCorners bytes) / 2) (omega (arith, count-numbers bytes (sized bytes e))),
+            le-ltb maxParts (length (storedStarts bytes) - 1) (omega (arith, count-starts bytes (sized bytes e))),
+            lt-ltb maxCorners (length (storedCorners bytes) / 2) (omega (arith, count-numbers bytes (sized bytes e))),
           )
 
-      by-starts : wordAt bytes 1 ≤ 8192 → storedBroken bytes ≡ startsBroken (wordAt bytes 1) (storedStarts bytes)
+      by-starts : wordAt bytes 1 ≤ maxCorners → storedBroken bytes ≡ startsBroken (wordAt bytes 1) (storedStarts bytes)
       unfolding storedBroken tableBroken
       by-starts k =
           let half : length (storedCorners bytes) / 2 ≡ wordAt bytes 1 = omega (arith, count-numbers bytes (sized bytes e)) in
           rw (
             e,
             eq-eqb (length (storedCorners bytes) % 2) 0 (omega (arith, count-numbers bytes (sized bytes e))),
-            le-ltb 2048 (length (storedStarts bytes) - 1) (omega (arith, count-starts bytes (sized bytes e))),
-            le-ltb 8192 (length (storedCorners bytes) / 2) (omega (arith, count-numbers bytes (sized bytes e))),
+            le-ltb maxParts (length (storedStarts bytes) - 1) (omega (arith, count-starts bytes (sized bytes e))),
+            le-ltb maxCorners (length (storedCorners bytes) / 2) (omega (arith, count-numbers bytes (sized bytes e))),
             half,
           )
 
-      pub from-starts : wordAt bytes 1 ≤ 8192 → {n : ℕ} {r : Bool} → n ≡ wordAt bytes 1 → r ≡ startsBroken n (storedStarts bytes) → r ≡ storedBroken bytes
+      pub from-starts : wordAt bytes 1 ≤ maxCorners → {n : ℕ} {r : Bool} → n ≡ wordAt bytes 1 → r ≡ startsBroken n (storedStarts bytes) → r ≡ storedBroken bytes
       from-starts k p q = q ∙ ap (λ m. startsBroken m (storedStarts bytes)) p ∙ sym (by-starts k)
 
 -- ---- start i is word i + 2
@@ -94,7 +94,7 @@ module _ (bytes : List ℕ) (e : lengthBroken bytes ≡ false) (count : ℕ) whe
   starts-at-0 p h = steps-begin count (storedStarts bytes) (λ z. omega (arith, many)) (sym (p ∙ start-at bytes 0 (omega arith)) ∙ h)
 
   -- start i comes after `last`; r is whether it may not
-  module _ (last next i : ℕ) (h : i < wordAt bytes 0 + 1) (p : next ≡ wordAt bytes (i + 2)) {r : Bool} (f : r ≡ cond (ltb next last) true (ltb (last + 1026) next)) where
+  module _ (last next i : ℕ) (h : i < wordAt bytes 0 + 1) (p : next ≡ wordAt bytes (i + 2)) {r : Bool} (f : r ≡ cond (ltb next last) true (ltb (last + maxContour) next)) where
     pub next-broken : r ≡ true → stepsBroken count last (drop i (storedStarts bytes)) ≡ true
     next-broken k = step-broken count last next (storedStarts bytes) i (omega (arith, many)) (p ∙ start-at bytes i h) f k
 

@@ -400,6 +400,8 @@ fn difference_parts(
     all_pairs(Operation::Difference, operands, starts, corners)
 }
 
-fn listing(bytes: &[u8], out: &mut [u8; TEXT]) -> usize {
-    unsafe { archive::bezinkwolu_listing(bytes.as_ptr(), bytes.len(), out) }
+// Safe: the lent text is as long as the function's array.
+fn listing(bytes: Handed<u8>, out: Handed<u8>) -> usize {
+    assert_eq!(out.length, TEXT);
+    unsafe { archive::bezinkwolu_listing(bytes.at, bytes.length, out.at.cast()) }
 }

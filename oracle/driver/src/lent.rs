@@ -4,6 +4,7 @@
 
 use crate::mesh::Row;
 use std::fmt::{self, Debug};
+use std::ops::Range;
 
 /// How many places on either side are not lent.
 const UNLENT: usize = 2;
@@ -74,8 +75,26 @@ impl<T: Place> Lent<T> {
 
     /// Whether it is this list still, and nothing about it has changed.
     pub fn holds(&self, list: &[T]) -> bool {
-        let ends = (0..UNLENT).chain(self.0.len() - UNLENT..self.0.len());
-        self.slice() == list && ends.into_iter().all(|i| self.0[i] == T::mark(i))
+        let ends = [0..UNLENT, self.0.len() - UNLENT..self.0.len()];
+        self.slice() == list && ends.into_iter().all(|end| self.marked(end))
+    }
+
+    fn marked(&self, places: Range<usize>) -> bool {
+        places.into_iter().all(|i| self.0[i] == T::mark(i))
+    }
+
+    /// Whether nothing but the first `count` lent places has changed; each place then
+    /// has its mark again.
+    pub fn begun_anew(&mut self, count: usize) -> bool {
+        let kept = self.marked(0..UNLENT) && self.marked(UNLENT + count..self.0.len());
+        let changed = match kept {
+            true => UNLENT..UNLENT + count,
+            false => 0..self.0.len(),
+        };
+        for i in changed {
+            self.0[i] = T::mark(i);
+        }
+        kept
     }
 }
 
@@ -208,6 +227,24 @@ pub mod overruns {
                 assert_eq!(changed.holds(&list), at == At::First && length == 0);
                 assert_eq!(changed == lent, at == At::First && length == 0);
             }
+        }
+    }
+
+    #[test]
+    fn places_begin_anew() {
+        for count in 0..=3 {
+            let first = Lent::<u8>::places(3);
+            for at in ENDS {
+                let mut lent = first.clone();
+                plant(lent.handed(), at);
+                assert!(!lent.begun_anew(count));
+                assert_eq!(lent, first);
+            }
+            let mut lent = first.clone();
+            lent.slice_mut()[..count].fill(0);
+            assert!(count == 0 || !lent.clone().begun_anew(count - 1));
+            assert!(lent.begun_anew(count));
+            assert_eq!(lent, first);
         }
     }
 }

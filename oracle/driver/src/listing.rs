@@ -3,7 +3,7 @@
 //! Rust's (`cli`'s answers, as the oracle's own `areas` prints them).
 
 use crate::entry::EntryPoint;
-use crate::lent::Lent;
+use crate::lent::{Handed, Lent};
 use crate::mesh::{any, SHARE};
 use cli::answers::parts_of_file;
 use inputs::mesh_damage::damaged;
@@ -19,15 +19,16 @@ use std::cell::RefCell;
 /// How long the lent text is: as long as any answer (area_listing's `LISTING`).
 pub const TEXT: usize = 233_522;
 
-pub type WritesListing = fn(&[u8], &mut [u8; TEXT]) -> usize;
-
 /// It is given the Rattle function that it asks.
-pub fn listing_beside(rattle: WritesListing) -> Listing {
+pub fn listing_beside<F>(rattle: F) -> Listing<F>
+where
+    F: Fn(Handed<u8>, Handed<u8>) -> usize,
+{
     Listing { rattle }
 }
 
-pub struct Listing {
-    rattle: WritesListing,
+pub struct Listing<F> {
+    rattle: F,
 }
 
 /// What is printed, how long it is said to be, and whether the text past it, the
@@ -64,32 +65,21 @@ pub fn printed(bytes: &[u8]) -> Printed {
     })
 }
 
-// ---- the memory about the lent text
-
-/// What it holds before a call, and how many places on either side are not lent.
-const HELD: u8 = 0xa5;
-const NOT_LENT: usize = 64;
+// ---- the lent text
 
 thread_local! {
-    /// Filled once; after each call it is made as it was.
-    static MEMORY: RefCell<Vec<u8>> = RefCell::new(vec![HELD; TEXT + 2 * NOT_LENT]);
+    /// It is long, and therefore made once: after each call it begins anew.
+    static LENT: RefCell<Lent<u8>> = RefCell::new(Lent::places(TEXT));
 }
 
 /// The Rattle function's answer. The file's bytes are lent as every list is.
-fn asked(rattle: WritesListing, bytes: &[u8]) -> Printed {
-    let lent = Lent::list(bytes);
-    MEMORY.with_borrow_mut(|memory| {
-        let text = &mut memory[NOT_LENT..NOT_LENT + TEXT];
-        let length = rattle(lent.slice(), text.try_into().expect("as long as the text"));
-        let end = NOT_LENT + length.min(TEXT);
-        let held = |place: &[u8]| place.iter().all(|&b| b == HELD);
-        let kept = held(&memory[..NOT_LENT]) && held(&memory[end..]) && lent.holds(bytes);
-        let front = String::from_utf8_lossy(&memory[NOT_LENT..end]).into_owned();
-        if kept {
-            memory[NOT_LENT..end].fill(HELD);
-        } else {
-            memory.fill(HELD);
-        }
+fn asked(rattle: impl Fn(Handed<u8>, Handed<u8>) -> usize, bytes: &[u8]) -> Printed {
+    let mut list = Lent::list(bytes);
+    LENT.with_borrow_mut(|text| {
+        let length = rattle(list.handed(), text.handed());
+        let written = length.min(TEXT);
+        let front = String::from_utf8_lossy(&text.slice()[..written]).into_owned();
+        let kept = text.begun_anew(written) && list.holds(bytes);
         Printed {
             length,
             front,
@@ -211,7 +201,10 @@ fn any_file(rng: &mut Rng) -> Vec<u8> {
 
 // ---- the entry point
 
-impl EntryPoint for Listing {
+impl<F> EntryPoint for Listing<F>
+where
+    F: Fn(Handed<u8>, Handed<u8>) -> usize,
+{
     type Input = Vec<u8>;
     type Answer = Printed;
 
@@ -231,7 +224,7 @@ impl EntryPoint for Listing {
     }
 
     fn rattle(&self, bytes: &Vec<u8>) -> Printed {
-        asked(self.rattle, bytes)
+        asked(&self.rattle, bytes)
     }
 
     fn rust(&self, bytes: &Vec<u8>) -> Printed {
@@ -277,27 +270,55 @@ impl EntryPoint for Listing {
 mod tests {
     use super::*;
     use crate::entry::{run, Report};
+    use crate::lent::overruns::{self, plant, seen};
 
     const COUNT: u64 = 100_000;
 
-    fn put(text: &str, out: &mut [u8; TEXT]) -> usize {
+    type WritesListing = fn(&[u8], &mut [u8]) -> usize;
+
+    /// A function on slices as the entry point asks it. Safe: the memory is lent.
+    fn asked(f: WritesListing) -> impl Fn(Handed<u8>, Handed<u8>) -> usize {
+        move |bytes, out| unsafe { f(bytes.slice(), out.slice()) }
+    }
+
+    fn put(text: &str, out: &mut [u8]) -> usize {
         out[..text.len()].copy_from_slice(text.as_bytes());
         text.len()
     }
 
-    fn right(bytes: &[u8], out: &mut [u8; TEXT]) -> usize {
+    fn right(bytes: &[u8], out: &mut [u8]) -> usize {
         put(&printed(bytes).front, out)
     }
 
     #[test]
     fn a_right_function_passes() {
-        let report = run(&listing_beside(right), 1, COUNT);
+        let report = run(&listing_beside(asked(right)), 1, COUNT);
         assert!(report.passed(), "{report}");
         assert!(report.faults.values().all(|&times| times > 20), "{report}");
     }
 
+    #[test]
+    fn overruns_are_caught() {
+        for at in overruns::ALL {
+            let entry = listing_beside(move |bytes, out| {
+                let told = asked(right)(bytes, out);
+                plant(bytes, at);
+                told
+            });
+            seen(&entry, at);
+        }
+        for at in overruns::ENDS {
+            let entry = listing_beside(move |bytes, out| {
+                let told = asked(right)(bytes, out);
+                plant(out, at);
+                told
+            });
+            seen(&entry, at);
+        }
+    }
+
     fn caught(wrong: WritesListing) -> String {
-        let report: Report = run(&listing_beside(wrong), 1, COUNT);
+        let report: Report = run(&listing_beside(asked(wrong)), 1, COUNT);
         assert!(report.differ > 0 && !report.passed());
         report.smallest.expect("a difference is shown")
     }

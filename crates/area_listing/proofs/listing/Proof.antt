@@ -1,6 +1,7 @@
 -- `area_listing::listing` meets its contract: a refusal of the header, or what is printed for a sound one; any answer fits. Assumes nothing.
 use mathlib.Core.Path.{refl, sym, _∙_}
 use native.Mathlib.Omega.{arith}
+use Rattle.mesh.specs.Mesh.{maxTriangles}
 use Rattle.text.proofs.Puts.{put-as}
 use Rattle.listing_fits.proofs.Files.{listing-fits}
 use Rattle.area_listing.proofs.Printed.{sound, header-refused, header-room, length-first, answered}
@@ -32,7 +33,7 @@ slice-aggregate-list-file : tie.Need-slice-aggregate-list-file
 slice-aggregate-list-file c =
     let n = c .before .triangle-count in
     let z = c .before .before in
-    sym (length-first (n .result) 1024 _ (omega (arith, n .ensures, sound (z .before .before .before .args .bytes .now) (sym (z .before .header-fault .ensures) ∙ z .if1 .left) .few)))
+    sym (length-first (n .result) maxTriangles _ (omega (arith, n .ensures, sound (z .before .before .before .args .bytes .now) (sym (z .before .header-fault .ensures) ∙ z .if1 .left) .few)))
 
 slice-aggregate-list-file-2 : tie.Need-slice-aggregate-list-file-2
 slice-aggregate-list-file-2 c = search needs
@@ -47,7 +48,7 @@ list-file-requires c κs =
     let e = sym (z .before .header-fault .ensures) ∙ z .if1 .left in
     record {
       header = e;
-      for-rows = length-first (n .result) 1024 _ (omega (arith, n .ensures, sound (z .before .before .before .args .bytes .now) e .few)) ∙ n .ensures;
+      for-rows = length-first (n .result) maxTriangles _ (omega (arith, n .ensures, sound (z .before .before .before .args .bytes .now) e .few)) ∙ n .ensures;
       for-starts = refl;
       for-corners = refl;
       for-text = omega (arith, listing-fits (z .before .before .before .args .bytes .now));

@@ -3,6 +3,7 @@ use mathlib.Core.Path.{refl}
 use Rattle.minkowski_faults.specs.Kinds.{operand}
 use Rattle.minkowski_work.proofs.Faults.{judged}
 use Rattle.minkowski_work.proofs.Walked.{small}
+use Rattle.minkowski_parts.specs.Sizes.{smallPlaces}
 use borrow.Author.Needs.{needs}
 use Rattle.minkowski_parts.proofs.pairs_small.Statement.{statement}
 use Rattle.minkowski_parts.proofs.pairs_small.Tie as tie
@@ -28,8 +29,8 @@ pairs-over-requires c κs =
     let j = judged l r (s .pre .0) in
     record {
       accepted = s .pre .0;
-      left = small l (j .0) 256 (s .pre .1) refl refl;
-      right = small r (j .1) 256 (s .pre .2) refl refl;
+      left = small l (j .0) smallPlaces (s .pre .1) refl refl;
+      right = small r (j .1) smallPlaces (s .pre .2) refl refl;
     }
 
 same-length : tie.Need-same-length

@@ -6,6 +6,7 @@ use Rattle.minkowski_faults.specs.Kinds.{operand}
 use Rattle.minkowski_answer.proofs.Answer.{refused}
 use Rattle.minkowski_work.proofs.Faults.{judged, operands-refused}
 use Rattle.minkowski_work.proofs.Walked.{small}
+use Rattle.minkowski_parts.specs.Sizes.{tinyPlaces}
 use borrow.Author.Needs.{needs}
 use Rattle.minkowski_parts.proofs.tiny_pairs.Statement.{statement}
 use Rattle.minkowski_parts.proofs.tiny_pairs.Tie as tie
@@ -48,8 +49,8 @@ pairs-over-requires c κs =
     let j = judged l r e in
     record {
       accepted = e;
-      left = small l (j .0) 16 (q .pre .0) refl refl;
-      right = small r (j .1) 16 (q .pre .1) refl refl;
+      left = small l (j .0) tinyPlaces (q .pre .0) refl refl;
+      right = small r (j .1) tinyPlaces (q .pre .1) refl refl;
     }
 
 same-length : tie.Need-same-length
