@@ -6,15 +6,42 @@ ghost use lib.ListN.{length, take};
 ghost use Rattle.integers.specs.Faults.{firstFault};
 ghost use Rattle.mesh.specs.Mesh.{maxTriangles, meshKinds};
 ghost use Rattle.mesh.specs.Rows.{rowsMesh};
+ghost use Rattle.convex_regions.specs.Parts.{tiny, small};
 ghost use Rattle.triangles.specs.Triangles.{trianglesMesh};
+use convex_regions::SMALL;
+use convex_regions::TINY;
 use triangles::IntTriangle;
 
 // The first fault of the mesh on the front of the rows.
+fn fault_front(rows: &[[i32; 9]], n: usize) -> u32
+    requires { ⌜ n ≤ length (now rows) ⌝ }
+    ensures { λ r. ⌜ r ≡ firstFault (meshKinds (rowsMesh (take n (now (rows .entry))))) ⌝ }
+{
+    mesh_faults::mesh_fault(&rows[..n])
+}
+
+// The same of the rows of a tiny mesh.
+fn fault_tiny(rows: [[i32; 9]; TINY], n: usize) -> u32
+    requires { ⌜ n ≤ tiny ⌝ }
+    ensures { λ r. ⌜ r ≡ firstFault (meshKinds (rowsMesh (take n rows))) ⌝ }
+{
+    fault_front(&rows, n)
+}
+
+// The same of the rows of a small mesh.
+fn fault_small(rows: [[i32; 9]; SMALL], n: usize) -> u32
+    requires { ⌜ n ≤ small ⌝ }
+    ensures { λ r. ⌜ r ≡ firstFault (meshKinds (rowsMesh (take n rows))) ⌝ }
+{
+    fault_front(&rows, n)
+}
+
+// The same of the rows of any mesh.
 fn fault_large(rows: [[i32; 9]; mesh::MAX_TRIANGLES], n: usize) -> u32
     requires { ⌜ n ≤ maxTriangles ⌝ }
     ensures { λ r. ⌜ r ≡ firstFault (meshKinds (rowsMesh (take n rows))) ⌝ }
 {
-    mesh_faults::mesh_fault(&rows[..n])
+    fault_front(&rows, n)
 }
 
 // The first fault of a mesh, as document 01 orders them; 0 for none.
@@ -22,9 +49,17 @@ pub fn mesh_fault(mesh: &[IntTriangle]) -> u32
     ensures { λ r. ⌜ r ≡ firstFault (meshKinds (trianglesMesh (now (mesh .entry)))) ⌝ }
 {
     let n = mesh.len();
-    if n > mesh::MAX_TRIANGLES {
-        return integers::fault::TRIANGLES;
+    if n <= TINY {
+        let rows = triangles::rows_tiny(mesh);
+        return fault_tiny(rows, n);
     }
-    let rows = triangles::rows_large(mesh);
-    fault_large(rows, n)
+    if n <= SMALL {
+        let rows = triangles::rows_small(mesh);
+        return fault_small(rows, n);
+    }
+    if n <= mesh::MAX_TRIANGLES {
+        let rows = triangles::rows_large(mesh);
+        return fault_large(rows, n);
+    }
+    integers::fault::TRIANGLES
 }
