@@ -12,6 +12,7 @@ use convex_regions::SMALL;
 use convex_regions::TINY;
 
 // A triangle: x and y of its three points, and the three neighbours across from them. None is 4,294,967,295.
+#[repr(C)]
 pub struct IntTriangle {
     pub vertices: [i32; 6],
     pub neighbors: [u32; 3],

@@ -45,7 +45,8 @@ fn fault_large(rows: [[i32; 9]; mesh::MAX_TRIANGLES], n: usize) -> u32
 }
 
 // The first fault of a mesh, as document 01 orders them; 0 for none.
-pub fn mesh_fault(mesh: &[IntTriangle]) -> u32
+#[no_mangle]
+pub extern "C" fn mesh_fault(mesh: &[IntTriangle]) -> u32
     ensures { λ r. ⌜ r ≡ firstFault (meshKinds (trianglesMesh (now (mesh .entry)))) ⌝ }
 {
     let n = mesh.len();

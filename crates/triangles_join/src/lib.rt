@@ -52,7 +52,12 @@ fn join_large(
 
 // The convex parts of a mesh, joined from its triangles: starts and corners (x, y in turn) on the front of the lent buffers. A refusal (1, 2, 3, 4, 5,
 // 6, 11, 22 or 21) gives zero counts and changes nothing.
-pub fn to_convex_polygons(mesh: &[IntTriangle], starts: &mut [u32], corners: &mut [i32]) -> Counts
+#[no_mangle]
+pub extern "C" fn to_convex_polygons(
+    mesh: &[IntTriangle],
+    starts: &mut [u32],
+    corners: &mut [i32],
+) -> Counts
     ensures { λ r. ⌜ (r ≡ partsCounts (trianglesMesh (now (mesh .entry))) (now (starts .entry)) (now (corners .entry))) × (now (starts .exit) ≡ partsStarts (trianglesMesh (now (mesh .entry))) (now (starts .entry)) (now (corners .entry))) × (now (corners .exit) ≡ partsCorners (trianglesMesh (now (mesh .entry))) (now (starts .entry)) (now (corners .entry))) ⌝ }
 {
     let n = mesh.len();

@@ -67,6 +67,26 @@ mod archive {
             corners: *mut i32,
             corners_lent: usize,
         ) -> Counts;
+        // of libforms.a: over slices of triangle structs, each as many bytes as a row
+        pub fn mesh_fault(mesh: *const Row, triangles: usize) -> u32;
+        pub fn to_convex_polygons(
+            mesh: *const Row,
+            triangles: usize,
+            starts: *mut u32,
+            starts_lent: usize,
+            corners: *mut i32,
+            corners_lent: usize,
+        ) -> Counts;
+        pub fn split_triangles(
+            mesh: *const Row,
+            triangles: usize,
+            limit: u32,
+            split: u32,
+            starts: *mut u32,
+            starts_lent: usize,
+            corners: *mut i32,
+            corners_lent: usize,
+        ) -> Counts;
         pub fn bezinkwolu_read_table(
             bytes: *const u8,
             bytes_length: usize,
@@ -182,6 +202,21 @@ pub const ENTRY_POINTS: &[Named] = &[
         let entry = with_max_vertices_beside(to_convex_polygons_with_max_vertices);
         run(&entry, s, n)
     }),
+    ("mesh_fault of structs", |s, n| {
+        let mut entry = mesh_fault_beside(structs_fault);
+        entry.name = "mesh_fault of structs";
+        run(&entry, s, n)
+    }),
+    ("to_convex_polygons of structs", |s, n| {
+        let mut entry = to_convex_polygons_beside(structs_joined);
+        entry.name = "to_convex_polygons of structs";
+        run(&entry, s, n)
+    }),
+    ("to_convex_polygons_with_max_vertices of structs", |s, n| {
+        let mut entry = with_max_vertices_beside(structs_split);
+        entry.name = "to_convex_polygons_with_max_vertices of structs";
+        run(&entry, s, n)
+    }),
     ("read_table", |s, n| {
         run(&read_table_beside(read_table), s, n)
     }),
@@ -270,6 +305,54 @@ pub fn to_convex_polygons_with_max_vertices(
 ) -> Counts {
     unsafe {
         archive::bezinkwolu_to_convex_polygons_with_max_vertices(
+            mesh.at,
+            mesh.length,
+            limit,
+            split,
+            starts.at,
+            starts.length,
+            corners.at,
+            corners.length,
+        )
+    }
+}
+
+/// The three over triangle structs: a row's nine numbers are a struct's six coordinates
+/// and three neighbours, at the same places.
+pub fn structs_fault(mesh: Handed<Row>) -> u32 {
+    unsafe { archive::mesh_fault(mesh.at, mesh.length) }
+}
+
+pub fn structs_joined(mesh: Handed<Row>, starts: Handed<u32>, corners: Handed<i32>) -> Counts {
+    unsafe {
+        archive::to_convex_polygons(
+            mesh.at,
+            mesh.length,
+            starts.at,
+            starts.length,
+            corners.at,
+            corners.length,
+        )
+    }
+}
+
+/// It takes any number for a split, so that one which is none is refused here.
+pub fn structs_split(
+    mesh: Handed<Row>,
+    limit: u32,
+    split: u32,
+    starts: Handed<u32>,
+    corners: Handed<i32>,
+) -> Counts {
+    if split > 2 {
+        return Counts {
+            fault: 13,
+            parts: 0,
+            corners: 0,
+        };
+    }
+    unsafe {
+        archive::split_triangles(
             mesh.at,
             mesh.length,
             limit,
