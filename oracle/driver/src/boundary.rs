@@ -4,7 +4,7 @@
 use bezinkwolu as _;
 
 use crate::entry::{run, Report};
-use crate::lent::Handed;
+use crate::lent::{Handed, Lent};
 use crate::listing::{listing_beside, TEXT};
 use crate::mesh::{mesh_fault_beside, to_convex_polygons_beside, Row};
 use crate::pairs::{all_pairs_beside, Bounds, HandedOperand, ToldPairs};
@@ -21,7 +21,24 @@ use judge::pairs::Operation;
 use judge::shown::Side;
 use judge::Point;
 
+/// A walk that holds its contour, as it passes to C.
+#[repr(C)]
+pub struct Walk {
+    contour: *const i32,
+    length: usize,
+    place: Place,
+}
+
+/// What `point`, `edge` and `advance` of one answer.
+#[repr(C)]
+pub struct Called {
+    point: ToldPoint,
+    edge: ToldEdge,
+    place: Place,
+}
+
 mod archive {
+    use super::{Called, Walk};
     use super::{Bounds, Counts, Place, Places, Row, Told, ToldLength, ToldPairs, ToldPart};
     use super::{ToldEdge, ToldNext, ToldPair, ToldPlace, ToldPoint, ToldStep};
     use crate::listing::TEXT;
@@ -87,6 +104,14 @@ mod archive {
             corners: *mut i32,
             corners_lent: usize,
         ) -> Counts;
+        // of libforms.a too: a walk that holds its contour
+        pub fn held_begin(
+            contour: *const i32,
+            length: usize,
+            reflected: bool,
+            fault: *mut u32,
+        ) -> Place;
+        pub fn held_calls(walk: Walk, fault: *mut u32) -> Called;
         pub fn bezinkwolu_read_table(
             bytes: *const u8,
             bytes_length: usize,
@@ -235,6 +260,29 @@ pub const ENTRY_POINTS: &[Named] = &[
         run(&walk::advance_beside(walk_advance), s, n)
     }),
     ("walk next", |s, n| run(&walk::next_beside(walk_next), s, n)),
+    ("walk begin, held", |s, n| {
+        let mut entry = walk::begin_beside(held_begin);
+        entry.name = "walk begin, held";
+        run(&entry, s, n)
+    }),
+    ("walk point, held", |s, n| {
+        let mut entry = walk::point_beside(|contour, at| held_calls(contour, at).1.point);
+        entry.name = "walk point, held";
+        run(&entry, s, n)
+    }),
+    ("walk edge, held", |s, n| {
+        let mut entry = walk::edge_beside(|contour, at| held_calls(contour, at).1.edge);
+        entry.name = "walk edge, held";
+        run(&entry, s, n)
+    }),
+    ("walk advance, held", |s, n| {
+        let mut entry = walk::advance_beside(|contour, at| {
+            let (fault, Called { place, .. }) = held_calls(contour, at);
+            ToldPlace { fault, place }
+        });
+        entry.name = "walk advance, held";
+        run(&entry, s, n)
+    }),
     ("pair new", |s, n| {
         run(&walk::pair_new_beside(pair_new), s, n)
     }),
@@ -426,6 +474,32 @@ fn walk_advance(contour: Handed<i32>, at: Place) -> ToldPlace {
 
 fn walk_next(contour: Handed<i32>, at: Place) -> ToldStep {
     unsafe { archive::bezinkwolu_walk_next(contour.at, contour.length, at) }
+}
+
+/// What a call leaves in a lent number; no number of the papers where what stands about
+/// it has changed.
+fn numbered<T>(call: impl FnOnce(*mut u32) -> T) -> (u32, T) {
+    let mut lent = Lent::<u32>::places(1);
+    let told = call(lent.handed().at);
+    let number = lent.slice()[0];
+    let kept = lent.holds(&[number]);
+    (if kept { number } else { u32::MAX }, told)
+}
+
+fn held_begin(contour: Handed<i32>, reflected: bool) -> ToldPlace {
+    let (fault, place) = numbered(|fault| unsafe {
+        archive::held_begin(contour.at, contour.length, reflected, fault)
+    });
+    ToldPlace { fault, place }
+}
+
+fn held_calls(contour: Handed<i32>, place: Place) -> (u32, Called) {
+    let walk = Walk {
+        contour: contour.at,
+        length: contour.length,
+        place,
+    };
+    numbered(|fault| unsafe { archive::held_calls(walk, fault) })
 }
 
 fn pair_new(left: Handed<i32>, right: Handed<i32>) -> ToldPair {
