@@ -1,5 +1,6 @@
-// The faults of a mesh that is lent as a slice of triangle structs: `mesh_fault`, with no `requires`, reads the rows into a local array (triangles) and goes on
-// as over rows, so what it answers is said by the same definitions. It is proved by a walk of its MIR, by hand. Leans on triangles and mesh_faults.
+// The faults of a mesh that is lent as a slice of triangle structs: `mesh_fault`, with no `requires`, reads the rows into a local array of the mesh's size class
+// (triangles) and goes on as over rows, so what it answers is said by the same definitions. It is proved by a walk of its MIR, by hand, and exported to C for the
+// runs beside the Rust alone. Leans on triangles and mesh_faults.
 ghost use mathlib.Core.Path.{_≡_};
 ghost use Prim.Native.Nat.{_≤_};
 ghost use lib.ListN.{length, take};
