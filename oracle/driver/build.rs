@@ -1,5 +1,6 @@
-//! Links the C++ that BENCH_PEERS lists (oracle/peers/archive) into the benchmark. The
-//! archive of the Rattle functions is linked by the crate bezinkwolu.
+//! Links the C++ that BENCH_PEERS lists (oracle/peers/archive) into the benchmark, and
+//! libforms.a, of the forms by hand that the package has not. The archive of the Rattle
+//! functions that it has is linked by the crate bezinkwolu.
 
 use std::env;
 
@@ -8,6 +9,12 @@ fn main() {
     println!("cargo:rustc-check-cfg=cfg(peers, cgal)");
     if env::var_os("CARGO_FEATURE_LINKED").is_none() {
         return;
+    }
+    println!("cargo:rerun-if-env-changed=BEZINKWOLU_LIB_DIR");
+    if let Ok(folder) = env::var("BEZINKWOLU_LIB_DIR") {
+        println!("cargo:rerun-if-changed={folder}/libforms.a");
+        println!("cargo:rustc-link-search=native={folder}");
+        println!("cargo:rustc-link-lib=static=forms");
     }
     let peers = env::var("BENCH_PEERS").unwrap_or_default();
     for peer in peers.split(':').filter(|peer| !peer.is_empty()) {

@@ -1,2 +1,4 @@
 pub mod Local
 pub mod Reading
+pub mod RowsCall
+pub mod RowsOf

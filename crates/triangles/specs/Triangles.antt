@@ -1,10 +1,12 @@
 -- A mesh as a slice of triangle structs is lent (geom/triangle.rs). Assumes nothing.
+use mathlib.Core.Path.{_≡_}
 use mathlib.Core.List.{List, [], map}
 use Prim.Native.Nat.{ℕ}
-use lib.ListN.{getD}
+use lib.ListN.{length, getD, take}
 use lib.IntN.{ℤ, pos}
 use Rattle.plane.specs.Plane.{Pt}
 use Rattle.mesh.specs.Mesh.{Triangle, Mesh}
+use Rattle.mesh.specs.Rows.{rowsMesh}
 use Rattle.triangles.specs.declared.IntTriangle.{IntTriangle}
 
 -- the struct that stands past a slice's end
@@ -29,3 +31,7 @@ structTriangle t = record {
 -- the mesh that a slice of structs is
 unfoldable pub trianglesMesh : List IntTriangle → Mesh
 trianglesMesh ts = map structTriangle ts
+
+-- the front of the rows is those of the structs
+abbrev pub AreRead : List IntTriangle → List (List ℤ) → Type 0
+AreRead ts rows = rowsMesh (take (length ts) rows) ≡ trianglesMesh ts

@@ -1,13 +1,18 @@
 // A mesh lent as a slice of triangle structs (geom/triangle.rs), read into the rows that the joining works over. A function with a slice of structs among
-// its parameters is proved by a walk of its MIR, by hand; so one reads a struct and one reads all of them, and what they call is covered. Leans on mesh and table_words.
+// its parameters is proved by a walk of its MIR, by hand; so one reads a struct, and one for each size of work array reads all of them, by one proof
+// (proofs/RowsOf.antt). The sizes are joining's, so that a small mesh does not wait for the filling of a large array. Leans on convex_regions and table_words.
 ghost use mathlib.Core.Path.{_≡_};
 ghost use Prim.Native.Nat.{_<_, _≤_};
-ghost use lib.ListN.{length, getD, take};
+ghost use lib.ListN.{length, getD};
 ghost use Rattle.mesh.specs.Mesh.{maxTriangles};
-ghost use Rattle.mesh.specs.Rows.{rowTriangle, rowsMesh};
-ghost use Rattle.triangles.specs.Triangles.{noStruct, structTriangle, trianglesMesh};
+ghost use Rattle.mesh.specs.Rows.{rowTriangle};
+ghost use Rattle.convex_regions.specs.Parts.{tiny, small};
+ghost use Rattle.triangles.specs.Triangles.{noStruct, structTriangle, AreRead};
+use convex_regions::SMALL;
+use convex_regions::TINY;
 
 // A triangle: x and y of its three points, and the three neighbours across from them. None is 4,294,967,295.
+#[repr(C)]
 pub struct IntTriangle {
     pub vertices: [i32; 6],
     pub neighbors: [u32; 3],
@@ -38,15 +43,55 @@ pub fn triangle_at(mesh: &[IntTriangle], k: usize) -> IntTriangle
     mesh[k]
 }
 
-// Rows for a mesh of any size, before they are read.
+// Rows for a tiny mesh, before they are read.
+fn blank_tiny() -> [[i32; 9]; TINY] {
+    [[0i32; 9]; TINY]
+}
+
+// The rows of a tiny mesh, on the front of the array.
+pub fn rows_tiny(mesh: &[IntTriangle]) -> [[i32; 9]; TINY]
+    requires { ⌜ length (now mesh) ≤ tiny ⌝ }
+    ensures { λ r. ⌜ AreRead (now (mesh .entry)) r ⌝ }
+{
+    let mut rows = blank_tiny();
+    let mut k: usize = 0;
+    while k < mesh.len() {
+        let t = triangle_at(mesh, k);
+        rows[k] = row_of(t);
+        k += 1;
+    }
+    rows
+}
+
+// Rows for a small mesh, before they are read.
+fn blank_small() -> [[i32; 9]; SMALL] {
+    [[0i32; 9]; SMALL]
+}
+
+// The rows of a small mesh, on the front of the array.
+pub fn rows_small(mesh: &[IntTriangle]) -> [[i32; 9]; SMALL]
+    requires { ⌜ length (now mesh) ≤ small ⌝ }
+    ensures { λ r. ⌜ AreRead (now (mesh .entry)) r ⌝ }
+{
+    let mut rows = blank_small();
+    let mut k: usize = 0;
+    while k < mesh.len() {
+        let t = triangle_at(mesh, k);
+        rows[k] = row_of(t);
+        k += 1;
+    }
+    rows
+}
+
+// Rows for any mesh, before they are read.
 fn blank_large() -> [[i32; 9]; mesh::MAX_TRIANGLES] {
     [[0i32; 9]; mesh::MAX_TRIANGLES]
 }
 
-// The rows of a mesh, on the front of the array.
+// The rows of any mesh, on the front of the array.
 pub fn rows_large(mesh: &[IntTriangle]) -> [[i32; 9]; mesh::MAX_TRIANGLES]
     requires { ⌜ length (now mesh) ≤ maxTriangles ⌝ }
-    ensures { λ r. ⌜ rowsMesh (take (length (now (mesh .entry))) r) ≡ trianglesMesh (now (mesh .entry)) ⌝ }
+    ensures { λ r. ⌜ AreRead (now (mesh .entry)) r ⌝ }
 {
     let mut rows = blank_large();
     let mut k: usize = 0;

@@ -13,6 +13,7 @@ use walk::Edged;
 use walk::Pointed;
 
 // A walk: the contour that it goes along, and where it stands in it.
+#[repr(C)]
 pub struct Walk<'a> {
     pub contour: &'a [i32],
     pub place: Place,

@@ -4,7 +4,7 @@
 use bezinkwolu as _;
 
 use crate::entry::{run, Report};
-use crate::lent::Handed;
+use crate::lent::{Handed, Lent};
 use crate::listing::{listing_beside, TEXT};
 use crate::mesh::{mesh_fault_beside, to_convex_polygons_beside, Row};
 use crate::pairs::{all_pairs_beside, Bounds, HandedOperand, ToldPairs};
@@ -21,7 +21,24 @@ use judge::pairs::Operation;
 use judge::shown::Side;
 use judge::Point;
 
+/// A walk that holds its contour, as it passes to C.
+#[repr(C)]
+pub struct Walk {
+    contour: *const i32,
+    length: usize,
+    place: Place,
+}
+
+/// What `point`, `edge` and `advance` of one answer.
+#[repr(C)]
+pub struct Called {
+    point: ToldPoint,
+    edge: ToldEdge,
+    place: Place,
+}
+
 mod archive {
+    use super::{Called, Walk};
     use super::{Bounds, Counts, Place, Places, Row, Told, ToldLength, ToldPairs, ToldPart};
     use super::{ToldEdge, ToldNext, ToldPair, ToldPlace, ToldPoint, ToldStep};
     use crate::listing::TEXT;
@@ -67,6 +84,34 @@ mod archive {
             corners: *mut i32,
             corners_lent: usize,
         ) -> Counts;
+        // of libforms.a: over slices of triangle structs, each as many bytes as a row
+        pub fn mesh_fault(mesh: *const Row, triangles: usize) -> u32;
+        pub fn to_convex_polygons(
+            mesh: *const Row,
+            triangles: usize,
+            starts: *mut u32,
+            starts_lent: usize,
+            corners: *mut i32,
+            corners_lent: usize,
+        ) -> Counts;
+        pub fn split_triangles(
+            mesh: *const Row,
+            triangles: usize,
+            limit: u32,
+            split: u32,
+            starts: *mut u32,
+            starts_lent: usize,
+            corners: *mut i32,
+            corners_lent: usize,
+        ) -> Counts;
+        // of libforms.a too: a walk that holds its contour
+        pub fn held_begin(
+            contour: *const i32,
+            length: usize,
+            reflected: bool,
+            fault: *mut u32,
+        ) -> Place;
+        pub fn held_calls(walk: Walk, fault: *mut u32) -> Called;
         pub fn bezinkwolu_read_table(
             bytes: *const u8,
             bytes_length: usize,
@@ -182,6 +227,21 @@ pub const ENTRY_POINTS: &[Named] = &[
         let entry = with_max_vertices_beside(to_convex_polygons_with_max_vertices);
         run(&entry, s, n)
     }),
+    ("mesh_fault of structs", |s, n| {
+        let mut entry = mesh_fault_beside(structs_fault);
+        entry.name = "mesh_fault of structs";
+        run(&entry, s, n)
+    }),
+    ("to_convex_polygons of structs", |s, n| {
+        let mut entry = to_convex_polygons_beside(structs_joined);
+        entry.name = "to_convex_polygons of structs";
+        run(&entry, s, n)
+    }),
+    ("to_convex_polygons_with_max_vertices of structs", |s, n| {
+        let mut entry = with_max_vertices_beside(structs_split);
+        entry.name = "to_convex_polygons_with_max_vertices of structs";
+        run(&entry, s, n)
+    }),
     ("read_table", |s, n| {
         run(&read_table_beside(read_table), s, n)
     }),
@@ -200,6 +260,29 @@ pub const ENTRY_POINTS: &[Named] = &[
         run(&walk::advance_beside(walk_advance), s, n)
     }),
     ("walk next", |s, n| run(&walk::next_beside(walk_next), s, n)),
+    ("walk begin, held", |s, n| {
+        let mut entry = walk::begin_beside(held_begin);
+        entry.name = "walk begin, held";
+        run(&entry, s, n)
+    }),
+    ("walk point, held", |s, n| {
+        let mut entry = walk::point_beside(|contour, at| held_calls(contour, at).1.point);
+        entry.name = "walk point, held";
+        run(&entry, s, n)
+    }),
+    ("walk edge, held", |s, n| {
+        let mut entry = walk::edge_beside(|contour, at| held_calls(contour, at).1.edge);
+        entry.name = "walk edge, held";
+        run(&entry, s, n)
+    }),
+    ("walk advance, held", |s, n| {
+        let mut entry = walk::advance_beside(|contour, at| {
+            let (fault, Called { place, .. }) = held_calls(contour, at);
+            ToldPlace { fault, place }
+        });
+        entry.name = "walk advance, held";
+        run(&entry, s, n)
+    }),
     ("pair new", |s, n| {
         run(&walk::pair_new_beside(pair_new), s, n)
     }),
@@ -282,6 +365,54 @@ pub fn to_convex_polygons_with_max_vertices(
     }
 }
 
+/// The three over triangle structs: a row's nine numbers are a struct's six coordinates
+/// and three neighbours, at the same places.
+pub fn structs_fault(mesh: Handed<Row>) -> u32 {
+    unsafe { archive::mesh_fault(mesh.at, mesh.length) }
+}
+
+pub fn structs_joined(mesh: Handed<Row>, starts: Handed<u32>, corners: Handed<i32>) -> Counts {
+    unsafe {
+        archive::to_convex_polygons(
+            mesh.at,
+            mesh.length,
+            starts.at,
+            starts.length,
+            corners.at,
+            corners.length,
+        )
+    }
+}
+
+/// It takes any number for a split, so that one which is none is refused here.
+pub fn structs_split(
+    mesh: Handed<Row>,
+    limit: u32,
+    split: u32,
+    starts: Handed<u32>,
+    corners: Handed<i32>,
+) -> Counts {
+    if split > 2 {
+        return Counts {
+            fault: 13,
+            parts: 0,
+            corners: 0,
+        };
+    }
+    unsafe {
+        archive::split_triangles(
+            mesh.at,
+            mesh.length,
+            limit,
+            split,
+            starts.at,
+            starts.length,
+            corners.at,
+            corners.length,
+        )
+    }
+}
+
 fn read_table(bytes: Handed<u8>, starts: Handed<u32>, corners: Handed<i32>) -> Counts {
     unsafe {
         archive::bezinkwolu_read_table(
@@ -343,6 +474,32 @@ fn walk_advance(contour: Handed<i32>, at: Place) -> ToldPlace {
 
 fn walk_next(contour: Handed<i32>, at: Place) -> ToldStep {
     unsafe { archive::bezinkwolu_walk_next(contour.at, contour.length, at) }
+}
+
+/// What a call leaves in a lent number; no number of the papers where what stands about
+/// it has changed.
+fn numbered<T>(call: impl FnOnce(*mut u32) -> T) -> (u32, T) {
+    let mut lent = Lent::<u32>::places(1);
+    let told = call(lent.handed().at);
+    let number = lent.slice()[0];
+    let kept = lent.holds(&[number]);
+    (if kept { number } else { u32::MAX }, told)
+}
+
+fn held_begin(contour: Handed<i32>, reflected: bool) -> ToldPlace {
+    let (fault, place) = numbered(|fault| unsafe {
+        archive::held_begin(contour.at, contour.length, reflected, fault)
+    });
+    ToldPlace { fault, place }
+}
+
+fn held_calls(contour: Handed<i32>, place: Place) -> (u32, Called) {
+    let walk = Walk {
+        contour: contour.at,
+        length: contour.length,
+        place,
+    };
+    numbered(|fault| unsafe { archive::held_calls(walk, fault) })
 }
 
 fn pair_new(left: Handed<i32>, right: Handed<i32>) -> ToldPair {

@@ -39,14 +39,16 @@ pub fn mesh_fault_beside<F>(rattle: F) -> MeshFault<F>
 where
     F: Fn(Handed<Row>) -> u32,
 {
-    MeshFault { rattle }
+    let name = "mesh_fault";
+    MeshFault { name, rattle }
 }
 
 pub fn to_convex_polygons_beside<F>(rattle: F) -> ToConvexPolygons<F>
 where
     F: Fn(Handed<Row>, Handed<u32>, Handed<i32>) -> Counts,
 {
-    ToConvexPolygons { rattle }
+    let name = "to_convex_polygons";
+    ToConvexPolygons { name, rattle }
 }
 
 // ---- inputs
@@ -85,6 +87,8 @@ pub(crate) fn any(rng: &mut Rng) -> (Mesh, Vec<Fault>) {
 // ---- the fault alone
 
 pub struct MeshFault<F> {
+    /// What it is called: rows and structs are asked alike.
+    pub name: &'static str,
     rattle: F,
 }
 
@@ -93,7 +97,7 @@ impl<F: Fn(Handed<Row>) -> u32> EntryPoint for MeshFault<F> {
     type Answer = Kept<u32>;
 
     fn name(&self) -> &'static str {
-        "mesh_fault"
+        self.name
     }
 
     fn faults(&self) -> &'static [u32] {
@@ -153,6 +157,7 @@ pub fn size(mesh: &Mesh) -> Size {
 }
 
 pub struct ToConvexPolygons<F> {
+    pub name: &'static str,
     rattle: F,
 }
 
@@ -164,7 +169,7 @@ where
     type Answer = Kept<Written>;
 
     fn name(&self) -> &'static str {
-        "to_convex_polygons"
+        self.name
     }
 
     fn faults(&self) -> &'static [u32] {

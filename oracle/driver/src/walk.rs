@@ -277,7 +277,8 @@ fn stepped_to_end(
 
 /// A call on walks beside the Rust.
 pub struct OfWalks<I, T> {
-    name: &'static str,
+    /// What it is called: places beside slices and walks that hold theirs are asked alike.
+    pub name: &'static str,
     faults: &'static [Fault],
     inputs: fn(&mut Rng, u64) -> Inputs<'_, I>,
     rattle: Box<dyn Fn(&I) -> Kept<T>>,

@@ -1,4 +1,4 @@
-//! `bench [ROUNDS [joining|splits|pairs|crate]]`: times our calls, the Rust's and, of all
+//! `bench [ROUNDS [joining|structs|splits|pairs|crate]]`: times our calls, the Rust's and, of all
 //! pairs, a C++ one from this one program on the same inputs, in turn, and prints our
 //! time over theirs. docs/BENCHMARKS.md says what they show.
 
@@ -19,8 +19,9 @@ fn main() {
     let rounds = words.first().and_then(|word| word.parse().ok());
     let rounds = rounds.unwrap_or(ROUNDS);
     let only = words.get(1).map(String::as_str);
-    let topics: [(&str, fn(usize)); 4] = [
+    let topics: [(&str, fn(usize)); 5] = [
         ("joining", meshes::joining),
+        ("structs", meshes::structs),
         ("splits", meshes::splits),
         ("pairs", pairs::pairs),
         ("crate", bindings::crate_calls),

@@ -6,6 +6,7 @@
 
 use crate::timing::{median, timed};
 use driver::boundary::{mesh_fault, to_convex_polygons, to_convex_polygons_with_max_vertices};
+use driver::boundary::{structs_fault, structs_joined, structs_split};
 use driver::mesh::{rows, Row};
 use driver::told::Counts;
 use i_triangle::advanced::convex::ConvexSplitStrategy::{self, Centroid, EarClipping, Fan};
@@ -37,6 +38,69 @@ pub fn joining(rounds: usize) {
     whole.sort_by(f64::total_cmp);
     let (middle, greatest) = (whole[whole.len() / 2], whole[whole.len() - 1]);
     println!("1,024 triangles, with the checks: median {middle:4.2}, greatest {greatest:4.2}");
+}
+
+/// The calls over triangle structs, which copy them into rows first, over the same calls
+/// over rows: the copy's share. Another mesh each time.
+pub fn structs(rounds: usize) {
+    println!("over structs / over rows: the checks, joining, splitting past 3 as a fan");
+    for &(name, kind, sizes) in STRUCT_KINDS {
+        for &triangles in sizes {
+            let mut rng = Rng::new(1);
+            let all: Vec<Vec<Row>> = (0..MESHES)
+                .map(|_| rows(&kind(&mut rng, triangles)))
+                .collect();
+            let [checks, joined, split] = struct_ratios(&all, rounds);
+            println!("{checks:4.2} {joined:4.2} {split:4.2}    {triangles} triangles: {name}");
+        }
+    }
+}
+
+const STRUCT_KINDS: &[(&str, Kind, &[usize])] = &[
+    (
+        "one region, a polygon cut at random",
+        cut_renumbered,
+        &[1, 2, 16, 17, 128, 129, 1_024],
+    ),
+    (
+        "many regions, triangles apart",
+        apart,
+        &[2, 16, 17, 128, 129, 1_024],
+    ),
+];
+
+fn struct_ratios(all: &[Vec<Row>], rounds: usize) -> [f64; 3] {
+    let mut starts = vec![0u32; 2 * TRIANGLES + 1];
+    let mut corners = vec![0i32; 12 * TRIANGLES];
+    let times = (TRIANGLES / all[0].len()).min(MESHES);
+    let mut taken = [const { Vec::new() }; 6];
+    for round in 0..rounds {
+        let at = |shift: usize| black_box(&all[(round + shift) % all.len()][..]);
+        let mut lent = || {
+            let (starts, corners) = (black_box(&mut starts[..]), black_box(&mut corners[..]));
+            (starts.into(), corners.into())
+        };
+        taken[0].push(timed(times, |k| mesh_fault(at(k).into())));
+        taken[1].push(timed(times, |k| structs_fault(at(k + 10).into())));
+        taken[2].push(timed(times, |k| {
+            let (starts, corners) = lent();
+            to_convex_polygons(at(k + 20).into(), starts, corners)
+        }));
+        taken[3].push(timed(times, |k| {
+            let (starts, corners) = lent();
+            structs_joined(at(k + 30).into(), starts, corners)
+        }));
+        taken[4].push(timed(times, |k| {
+            let (starts, corners) = lent();
+            to_convex_polygons_with_max_vertices(at(k + 40).into(), 3, 1, starts, corners)
+        }));
+        taken[5].push(timed(times, |k| {
+            let (starts, corners) = lent();
+            structs_split(at(k + 50).into(), 3, 1, starts, corners)
+        }));
+    }
+    let [a, b, c, d, e, f] = taken.map(median);
+    [b / a, d / c, f / e]
 }
 
 /// Each split, past two limits.

@@ -1,0 +1,23 @@
+-- `triangles_join::join_front` meets its contract. Assumes nothing.
+use borrow.Author.Needs.{needs}
+use Rattle.triangles_faults.proofs.Front.{front}
+use Rattle.triangles_join.proofs.join_front.Statement.{statement}
+use Rattle.triangles_join.proofs.join_front.Tie as tie
+
+slice-aggregate-to-convex-polygons : tie.Need-slice-aggregate-to-convex-polygons
+slice-aggregate-to-convex-polygons c = front _ _ (search needs)
+
+to-convex-polygons-requires : tie.Need-to-convex-polygons-requires
+to-convex-polygons-requires c κs = search needs
+
+same-length : tie.Need-same-length
+same-length c = search needs
+
+same-length-2 : tie.Need-same-length-2
+same-length-2 c = search needs
+
+returns : tie.Need-returns
+returns c = search needs
+
+pub join-front-spec : {M : Type 1} → statement M
+join-front-spec = tie.close (tie.spec slice-aggregate-to-convex-polygons to-convex-polygons-requires same-length same-length-2 returns)
