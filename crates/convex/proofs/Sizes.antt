@@ -19,6 +19,7 @@ use Rattle.plane.specs.Plane.{Pt, turn}
 use Rattle.plane.specs.Contour.{lastOf}
 use Rattle.mesh.specs.Mesh.{Mesh, triangleAt}
 use Rattle.mesh.proofs.Accepted.{Accepted}
+use Rattle.table.specs.Table.{maxContour}
 use Rattle.convex.specs.Joining.{Region, isIn, region, regions, placeOf, fromLast, turning, withoutStraight, contourOf, parts}
 use Rattle.convex.proofs.Taken.{untaken, untaken-le, untaken-take}
 use Rattle.convex.specs.Zipper.{Slot, Zipper, startZ, moved, pushed, stepZ}
@@ -137,8 +138,8 @@ module _ (m : Mesh) (ok : Accepted m) where
       (omega arith, all-map R (λ q h. omega (arith, h)) (each-few R))
 
   -- each part has 1,026 corners at the most
-  pub parts-short : All (λ l. length l ≤ 1026) (parts m)
+  pub parts-short : All (λ l. length l ≤ maxContour) (parts m)
   unfolding parts
   parts-short =
-      all-image (λ l. length l ≤ 1026) contourOf (regions m) .1
+      all-image (λ l. length l ≤ maxContour) contourOf (regions m) .1
       (all-map2 (regions m) (λ r h k. omega (arith, h .1, k, ok .few, length-once (regions-once m ok))) counted (each-few (regions m)))

@@ -13,7 +13,7 @@ use Rattle.integers.specs.Lists.{upTo}
 use Rattle.integers.proofs.Counting.{length-upTo, getD-upTo}
 use Rattle.integers.specs.Faults.{firstFault}
 use Rattle.plane.specs.Plane.{Pt, inRange, onGrid}
-use Rattle.mesh.specs.Mesh.{Mesh, none, meshKinds}
+use Rattle.mesh.specs.Mesh.{Mesh, none, meshKinds, maxTriangles}
 use Rattle.mesh.specs.Rows.{rowsMesh}
 use Rattle.mesh.proofs.Rows.{length-rows}
 use Rattle.mesh.proofs.Accepted.{accepted}
@@ -39,7 +39,7 @@ module _ (size : ℕ) (m : Mesh) (k : ℕ) (flags : List Bool) (starts : List �
   fewer : suc (free flags′) ≤ free flags
   fewer = omega (arith, g .kept, g .empty, g .sound .three)
 
-  few : length m ≤ 1024
+  few : length m ≤ maxTriangles
   few = accepted m (g .sound .ready .accepted) .few
 
   pub contour-whole : Whole cs′ p
@@ -59,7 +59,7 @@ module _ (size : ℕ) (m : Mesh) (k : ℕ) (flags : List Bool) (starts : List �
     corners-room : n + 3 * free flags′ ≤ 3 * length m
     corners-room = omega (arith, a .count, straight-few (contourAt cs′ p), length-contour cs′ p contour-whole, g .sound .ready .corners, r .corners, g .kept, fewer)
 
-    pub corners-few : n ≤ 3072
+    pub corners-few : n ≤ 3 * maxTriangles
     corners-few = omega (arith, corners-room, few)
 
     pub joined : {starts′ : List ℕ} → starts′ ≡ set starts (t .parts + 1) n → Joined size m k flags starts points t cs′ es′ flags′ starts′ points′ (record { parts = t .parts + 1; corners = n })
@@ -222,7 +222,7 @@ module _ (rows : List (List ℤ)) {cs : List (List ℤ)} {es : List (List ℕ)} 
   unfolding isIn
   first-marked = record { at = λ k h. getD-take (length rows) flags k false (omega (arith, first-flags)) ∙ not-marked (getD flags k false) (total-none inFlag false refl flags (u .no-flags) k) }
 
-pub few-rows : (rows : List (List ℤ)) → firstFault (meshKinds (rowsMesh rows)) ≡ 0 → length rows ≤ 1024
+pub few-rows : (rows : List (List ℤ)) → firstFault (meshKinds (rowsMesh rows)) ≡ 0 → length rows ≤ maxTriangles
 few-rows rows h = omega (arith, accepted (rowsMesh rows) h .few, length-rows rows)
 
 -- lent rows have as many places as the mesh that they are

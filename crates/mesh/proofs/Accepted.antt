@@ -13,11 +13,11 @@ use Rattle.integers.proofs.Faults.{first-none}
 use Rattle.integers.proofs.Tests.{differ, either-false, ltZ-≤, leZ-<}
 use Rattle.plane.specs.Plane.{eqPt, onGrid}
 use Rattle.plane.proofs.Edges.{eqPt-true}
-use Rattle.mesh.specs.Mesh.{Mesh, none, vertex, neighbour, after, before, triangleAt, triangleArea, tooMany, offGrid, strayNeighbour, named, misnamed, opposite, runsOppositely, mismatched, flat, meshArea, tooLarge, meshKinds}
+use Rattle.mesh.specs.Mesh.{Mesh, none, vertex, neighbour, after, before, triangleAt, triangleArea, tooMany, offGrid, strayNeighbour, named, misnamed, opposite, runsOppositely, mismatched, flat, meshArea, tooLarge, meshKinds, maxTriangles}
 use Rattle.mesh.proofs.Sides.{some-false, mesh-side-false}
 
 pub record Accepted (m : Mesh) : Type 0 where
-  pub few : length m ≤ 1024
+  pub few : length m ≤ maxTriangles
   pub on-grid : (k i : ℕ) → k < length m → onGrid (vertex (triangleAt m k) i) ≡ true
   pub in-mesh : (k i : ℕ) → k < length m → i < 3 → (neighbour (triangleAt m k) i ≡ none → ⊥) → neighbour (triangleAt m k) i < length m
   pub not-self : (k i : ℕ) → k < length m → i < 3 → (neighbour (triangleAt m k) i ≡ none → ⊥) → neighbour (triangleAt m k) i ≡ k → ⊥
@@ -79,9 +79,9 @@ module _ (m : Mesh) where
   unfolding flat
   area-rule h k l = leZ-< (triangleArea (triangleAt m k)) (pos 0) (some-false (λ k t. leZ (triangleArea t) (pos 0)) m k h l)
 
-  few-rule : tooMany m ≡ false → length m ≤ 1024
+  few-rule : tooMany m ≡ false → length m ≤ maxTriangles
   unfolding tooMany
-  few-rule h = ltb-false 1024 (length m) h
+  few-rule h = ltb-false maxTriangles (length m) h
 
   fits-rule : tooLarge m ≡ false → meshArea m ≤ℤ pos 9223372036854775807
   unfolding tooLarge

@@ -12,7 +12,7 @@ use Rattle.integers.proofs.Ring.{con, _:≡_, pt, ring}
 use Rattle.integers.proofs.Order.{zarith}
 use Rattle.plane.specs.Plane.{Pt, areaTwo}
 use Rattle.plane.proofs.Terms.{areaTwoE}
-use Rattle.mesh.specs.Mesh.{Mesh, Triangle, none, vertex, neighbour, after, before, triangleAt, triangleArea, named, opposite}
+use Rattle.mesh.specs.Mesh.{Mesh, Triangle, none, vertex, neighbour, after, before, triangleAt, triangleArea, named, opposite, maxTriangles}
 use Rattle.mesh.proofs.Sides.{after-side, opposite-side}
 
 -- ---- three points
@@ -80,7 +80,7 @@ pub record Meets (k : ℕ) (t : Triangle) (i : ℕ) (u : Triangle) : Type 0 wher
   pub ends : vertex t (before i) ≡ vertex u (after (opposite u k))
 
 pub record Shared (m : Mesh) : Type 0 where
-  pub few : length m ≤ 1024
+  pub few : length m ≤ maxTriangles
   pub area : (k : ℕ) → k < length m → pos 0 <ℤ triangleArea (triangleAt m k)
   pub in-mesh : (k i : ℕ) → k < length m → i < 3 → (neighbour (triangleAt m k) i ≡ none → ⊥) → neighbour (triangleAt m k) i < length m
   pub meets : (k i : ℕ) → k < length m → i < 3 → (neighbour (triangleAt m k) i ≡ none → ⊥) → Meets k (triangleAt m k) i (triangleAt m (neighbour (triangleAt m k) i))

@@ -18,20 +18,21 @@ use Rattle.pair_points.proofs.Merged.{length-unrolled, length-merged}
 use Rattle.pair_merge.specs.Putting.{pointsIn, RoomAfter}
 use Rattle.minkowski_rows.specs.Rows.{walksIn, Walks, mergedRow, mergedAll}
 use Rattle.minkowski_rows.proofs.Pairs.{walk-inside, walk-placed, row-suc, row-whole, all-suc, all-whole}
+use Rattle.table.specs.Table.{maxContour}
 use Rattle.minkowski_count.specs.Counting.{Countable, rowCount, allCount}
 
 -- a merge of two walks of at most 1,026 edges has at most 2,052 corners
-pub fits-work : (a b : List Pt) (work : List ℤ) → length a ≤ 1027 → length b ≤ 1027 → 4104 ≤ length work → RoomAfter (mergedOf a b) work 0
+pub fits-work : (a b : List Pt) (work : List ℤ) → length a ≤ (maxContour + 1) → length b ≤ (maxContour + 1) → 4104 ≤ length work → RoomAfter (mergedOf a b) work 0
 fits-work a b work h k w = omega (arith, length-merged a b)
 
 -- ---- walks in buffers
 
 module _ (firsts : List ℕ) (points : List (List ℤ)) (n q : ℕ) (c : Countable firsts points n) (h : q < n) where
-  pub walk-short : length (getD (walksIn firsts points n) q []) ≤ 1027
-  walk-short = all-getD (λ w. length w ≤ 1027) (walksIn firsts points n) [] (c .short) q (walk-inside firsts points n q (c .walks) h)
+  pub walk-short : length (getD (walksIn firsts points n) q []) ≤ (maxContour + 1)
+  walk-short = all-getD (λ w. length w ≤ (maxContour + 1)) (walksIn firsts points n) [] (c .short) q (walk-inside firsts points n q (c .walks) h)
 
   -- as its slice has it
-  pub slice-short : length (take (getD firsts (q + 1) 0 - getD firsts q 0) (drop (getD firsts q 0) points)) ≤ 1027
+  pub slice-short : length (take (getD firsts (q + 1) 0 - getD firsts q 0) (drop (getD firsts q 0) points)) ≤ (maxContour + 1)
   slice-short =
       omega (arith, walk-short, ap length (walk-placed firsts points n q (c .walks) h .corners), length-map (take (getD firsts (q + 1) 0 - getD firsts q 0) (drop (getD firsts q 0) points)) cornerOf)
 
@@ -39,7 +40,7 @@ length-in : (a : List (List ℤ)) → length (pointsIn a) ≡ length a
 length-in a = length-map a cornerOf
 
 -- the room for a and the walk as it is read
-pub read-room : (a slice : List (List ℤ)) (work : List ℤ) → length a ≤ 1027 → length slice ≤ 1027 → 4104 ≤ length work → RoomAfter (mergedOf (pointsIn a) (pointsIn slice)) work 0
+pub read-room : (a slice : List (List ℤ)) (work : List ℤ) → length a ≤ (maxContour + 1) → length slice ≤ (maxContour + 1) → 4104 ≤ length work → RoomAfter (mergedOf (pointsIn a) (pointsIn slice)) work 0
 read-room a slice work h k w = fits-work (pointsIn a) (pointsIn slice) work (omega (arith, h, length-in a)) (omega (arith, k, length-in slice)) w
 
 -- ---- a turn of a row
@@ -79,9 +80,9 @@ all-end ls rs p h = ap (λ l. allCount l rs) (take-all p ls h)
 
 -- a walk of at most 1,026 corners has at most 1,027 points
 pub unrolled-countable :
-    (reflected : Bool) (ps : List (List Pt)) (n : ℕ) (firsts : List ℕ) (points : List (List ℤ)) → Walks firsts points n → walksIn firsts points n ≡ map (unrolled reflected) ps → All (λ p. length p ≤ 1026) ps →
+    (reflected : Bool) (ps : List (List Pt)) (n : ℕ) (firsts : List ℕ) (points : List (List ℤ)) → Walks firsts points n → walksIn firsts points n ≡ map (unrolled reflected) ps → All (λ p. length p ≤ maxContour) ps →
     Countable firsts points n
 unrolled-countable reflected ps n firsts points w e h = record {
   walks = w;
-  short = subst (All (λ w. length w ≤ 1027)) (sym e) (all-image (λ w. length w ≤ 1027) (unrolled reflected) ps .1 (all-map ps (λ p k. omega (arith, k, length-unrolled reflected p)) h));
+  short = subst (All (λ w. length w ≤ (maxContour + 1))) (sym e) (all-image (λ w. length w ≤ (maxContour + 1)) (unrolled reflected) ps .1 (all-map ps (λ p k. omega (arith, k, length-unrolled reflected p)) h));
 }

@@ -17,7 +17,7 @@ use Rattle.integers.proofs.Tests.{<-ltZ, <-leZ}
 use Rattle.plane.specs.Plane.{Pt, inRange, onGrid}
 use Rattle.plane.specs.Machine.{Coordinate}
 use Rattle.table.specs.declared.IntRect.{IntRect}
-use Rattle.table.specs.Table.{startsFrom, startsOf, roomKinds, partCount}
+use Rattle.table.specs.Table.{startsFrom, startsOf, roomKinds, partCount, maxContour}
 use Rattle.table.proofs.Rules.{sound, count-parts, sound-limits}
 use Rattle.pair_points.specs.Points.{Turning, unrolled}
 use Rattle.pair_points.proofs.Merged.{turning-unrolled, length-unrolled}
@@ -74,7 +74,7 @@ all-turning reflected [] = tt
 all-turning reflected (p ∷ ps) = (turning-unrolled reflected p, all-turning reflected ps)
 
 -- one more point than corners
-all-short : (reflected : Bool) (ps : List (List Pt)) → All (λ p. length p ≤ 1026) ps → All (λ w. length w ≤ 1027) (unrolledParts reflected ps)
+all-short : (reflected : Bool) (ps : List (List Pt)) → All (λ p. length p ≤ maxContour) ps → All (λ w. length w ≤ (maxContour + 1)) (unrolledParts reflected ps)
 all-short reflected [] h = tt
 all-short reflected (p ∷ ps) h = (omega (arith, length-unrolled reflected p, h .0), all-short reflected ps (h .1))
 
@@ -101,7 +101,7 @@ walked reflected o j {firsts} {points} g =
     record {
       walks = record {
         walks = subst (Walks firsts points) count (walks-of firsts points ps g grid (all-turning reflected (operandParts o)));
-        short = subst (All (λ w. length w ≤ 1027)) (sym same) (all-short reflected (operandParts o) (sound-limits (o .starts) (o .corners) (j .sound) .contours));
+        short = subst (All (λ w. length w ≤ (maxContour + 1))) (sym same) (all-short reflected (operandParts o) (sound-limits (o .starts) (o .corners) (j .sound) .contours));
       };
       read = same;
     }

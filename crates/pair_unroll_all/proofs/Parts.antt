@@ -14,7 +14,7 @@ use Rattle.integers.specs.Lists.{All}
 use Rattle.integers.proofs.Tests.{differ}
 use Rattle.integers.proofs.Elements.{all-image, getD-all}
 use Rattle.plane.specs.Plane.{Pt}
-use Rattle.table.specs.Table.{startsFrom, startsOf, tableParts, tableBroken, partCount, offRange}
+use Rattle.table.specs.Table.{startsFrom, startsOf, tableParts, tableBroken, partCount, offRange, maxContour}
 use Rattle.table.specs.Shown.{partNumbers}
 use Rattle.table.proofs.Rules.{sound, count-parts}
 use Rattle.table.proofs.Shown.{part-is, part-ranged}
@@ -32,9 +32,9 @@ use Rattle.pair_unroll_all.specs.Parts.{unrolledParts, tallyOf, PartAt, 
 
 -- ---- a part's numbers
 
-even-short : (l : List ℤ) (n : ℕ) → length l ≡ 2 * n → n ≤ 1026 → lengthBroken l ≡ false
+even-short : (l : List ℤ) (n : ℕ) → length l ≡ 2 * n → n ≤ maxContour → lengthBroken l ≡ false
 unfolding lengthBroken
-even-short l n e h = rw (eq-eqb (length l % 2) 0 (omega arith), le-ltb 1026 (length l / 2) (omega arith))
+even-short l n e h = rw (eq-eqb (length l % 2) 0 (omega arith), le-ltb maxContour (length l / 2) (omega arith))
 
 pub part-short : (starts : List ℕ) (corners : List ℤ) (k : ℕ) → tableBroken starts corners ≡ false → k < partCount starts → lengthBroken (partNumbers starts corners k) ≡ false
 unfolding partNumbers

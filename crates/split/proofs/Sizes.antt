@@ -20,7 +20,7 @@ use Rattle.integers.proofs.Sums.{length-flatten-append}
 use Rattle.plane.specs.Plane.{Pt}
 use Rattle.mesh.specs.Mesh.{Mesh, meshKinds}
 use Rattle.mesh.proofs.Accepted.{Accepted, accepted}
-use Rattle.table.specs.Table.{startsOf, cornersOf, tableBroken}
+use Rattle.table.specs.Table.{startsOf, cornersOf, tableBroken, maxContour, maxParts}
 use Rattle.table.proofs.Rules.{limits-sound}
 use Rattle.convex.specs.Joining.{parts}
 use Rattle.convex.proofs.Parts.{convex-three, parts-convex}
@@ -266,13 +266,13 @@ split-table how m mesh h =
     let f = split-parts-few how m mesh ok in
     let c = parts-corners mesh ok in
     let sizes : All (λ p. (3 ≤ length p) × (length p ≤ raised m)) (splitParts how m mesh) = all-map (splitParts how m mesh) (λ p s. (s .0, omega (arith, s .1))) (f .sizes) in
-    let few : length (splitParts how m mesh) ≤ 2048 = omega (arith, f .some, c, ok .few) in
+    let few : length (splitParts how m mesh) ≤ maxParts = omega (arith, f .some, c, ok .few) in
     let corners : length (flatten (splitParts how m mesh)) ≤ 6144 = omega (arith, f .corners, c, ok .few) in
     record {
       sizes = sizes;
       few-parts = few;
       few-corners = corners;
-      table = limits-sound (splitParts how m mesh) (record { parts = few; corners = omega arith; contours = unfold splitParts in all-short how (raised m) 1026 (parts mesh) (omega arith) (parts-short mesh ok) });
+      table = limits-sound (splitParts how m mesh) (record { parts = few; corners = omega arith; contours = unfold splitParts in all-short how (raised m) maxContour (parts mesh) (omega arith) (parts-short mesh ok) });
     }
 
 pub split-count : SplitCount

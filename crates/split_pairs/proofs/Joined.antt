@@ -27,6 +27,7 @@ use Rattle.convex_pairs.proofs.Convexity.{Polygon, polygon-area, triples-wedges
 use Rattle.convex_pairs.proofs.Meets.{parts-polygons}
 use Rattle.split.specs.Splitting.{seenFrom}
 use Rattle.split_centre.specs.Centre.{Summable}
+use Rattle.table.specs.Table.{maxContour}
 use Rattle.split_pairs.specs.Premise.{PartsSummable}
 
 -- ---- sums of terms at least 0
@@ -64,7 +65,7 @@ seen-wedges (c ∷ l) h =
 pub fits-word : (z : ℤ) → pos 0 <ℤ z → z ≤ℤ pos 9223372036854775807 → natAbs z < 2 ^ 63
 fits-word z h k = omega (zarith, abs-parts z)
 
-summable : (l : List Pt) → Polygon l → All (λ p. onGrid p ≡ true) l → length l ≤ 1026 → contourArea l ≤ℤ pos 9223372036854775807 → Summable l
+summable : (l : List Pt) → Polygon l → All (λ p. onGrid p ≡ true) l → length l ≤ maxContour → contourArea l ≤ℤ pos 9223372036854775807 → Summable l
 summable l p g s k = record {
   grid = g;
   size = s;
@@ -83,5 +84,5 @@ parts-summable mesh h =
     let fit : All (λ l. contourArea l ≤ℤ pos 9223372036854775807) ps = areas-fit ps polygons (subst (λ z. z ≤ℤ pos 9223372036854775807) (sym (parts-area mesh ok)) (ok .fits)) in
     let grid : All (All (λ p. onGrid p ≡ true)) ps = parts-vertices (λ p. onGrid p ≡ true) mesh ok (λ k i l. ok .on-grid k i l) in
     let shapes : All (λ l. Polygon l × All (λ p. onGrid p ≡ true) l) ps = all-map2 ps (λ l p g. (p, g)) polygons grid in
-    let sizes : All (λ l. (length l ≤ 1026) × (contourArea l ≤ℤ pos 9223372036854775807)) ps = all-map2 ps (λ l s f. (s, f)) (parts-short mesh ok) fit in
+    let sizes : All (λ l. (length l ≤ maxContour) × (contourArea l ≤ℤ pos 9223372036854775807)) ps = all-map2 ps (λ l s f. (s, f)) (parts-short mesh ok) fit in
     all-map2 ps (λ l a b. summable l (a .0) (a .1) (b .0) (b .1)) shapes sizes

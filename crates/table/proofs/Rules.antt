@@ -16,7 +16,7 @@ use lib.IntN.{ℤ}
 use Rattle.integers.specs.Lists.{All}
 use Rattle.integers.proofs.Tests.{differ, either-false}
 use Rattle.plane.specs.Plane.{Pt}
-use Rattle.table.specs.Table.{pointsOf, numbersOf, startsFrom, startsOf, cornersOf, partsOf, tableParts, partCount, stepsBroken, startsBroken, tableBroken}
+use Rattle.table.specs.Table.{pointsOf, numbersOf, startsFrom, startsOf, cornersOf, partsOf, tableParts, partCount, stepsBroken, startsBroken, tableBroken, maxContour, maxCorners, maxParts}
 use Rattle.table.proofs.Corners.{length-points, length-numbers, numbers-points, points-numbers}
 use Rattle.table.proofs.Parts.{length-starts, parts-starts}
 
@@ -36,15 +36,15 @@ or-true false false b e = differ e
 -- from a to b, beside n corners, with the rest s
 pub record Step (n a b : ℕ) (s : List ℕ) : Type 0 where
   pub rises : a ≤ b
-  pub short : b ≤ a + 1026
+  pub short : b ≤ a + maxContour
   pub rest : stepsBroken n b s ≡ false
 
 pub step : (n a b : ℕ) (s : List ℕ) → stepsBroken n a (b ∷ s) ≡ false → Step n a b s
 unfolding stepsBroken
 step n a b s e =
     let f = either-false (ltb b a) _ e in
-    let g = either-false (ltb (a + 1026) b) _ (f .1) in
-    record { rises = ltb-false b a (f .0); short = ltb-false (a + 1026) b (g .0); rest = g .1 }
+    let g = either-false (ltb (a + maxContour) b) _ (f .1) in
+    record { rises = ltb-false b a (f .0); short = ltb-false (a + maxContour) b (g .0); rest = g .1 }
 
 pub last-step : (n a : ℕ) → stepsBroken n a [] ≡ false → a ≡ n
 unfolding stepsBroken
@@ -61,7 +61,7 @@ starts-bound n a [] e (suc k) h = absurd (omega arith)
 starts-bound n a (b ∷ s) e (suc k) h = starts-bound n b s (step n a b s e .rest) k (omega arith)
 
 pub starts-step : (n a : ℕ) (s : List ℕ) → stepsBroken n a s ≡ false → (k : ℕ) → k < length s
-    → (getD (a ∷ s) k 0 ≤ getD (a ∷ s) (suc k) 0) × (getD (a ∷ s) (suc k) 0 ≤ getD (a ∷ s) k 0 + 1026)
+    → (getD (a ∷ s) k 0 ≤ getD (a ∷ s) (suc k) 0) × (getD (a ∷ s) (suc k) 0 ≤ getD (a ∷ s) k 0 + maxContour)
 starts-step n a [] e k h = absurd (omega arith)
 starts-step n a (b ∷ s) e zero h = let t = step n a b s e in (t .rises, t .short)
 starts-step n a (b ∷ s) e (suc k) h = starts-step n b s (step n a b s e .rest) k (omega arith)
@@ -88,15 +88,15 @@ steps-begin n [] h e = absurd (h refl)
 steps-begin n (a ∷ s) h e = rw (eq-eqb a 0 e, e)
 
 -- start i is b and comes after a; r is whether it may not
-module _ (n a b : ℕ) (s : List ℕ) (i : ℕ) (h : i < length s) (p : b ≡ getD s i 0) {r : Bool} (e : r ≡ cond (ltb b a) true (ltb (a + 1026) b)) where
+module _ (n a b : ℕ) (s : List ℕ) (i : ℕ) (h : i < length s) (p : b ≡ getD s i 0) {r : Bool} (e : r ≡ cond (ltb b a) true (ltb (a + maxContour) b)) where
   pub step-broken : r ≡ true → stepsBroken n a (drop i s) ≡ true
   unfolding stepsBroken
-  step-broken k = rw (drop-cons s i 0, ← p) (or-true (ltb b a) (ltb (a + 1026) b) _ (sym e ∙ k))
+  step-broken k = rw (drop-cons s i 0, ← p) (or-true (ltb b a) (ltb (a + maxContour) b) _ (sym e ∙ k))
 
   pub step-passed : r ≡ false → stepsBroken n a (drop i s) ≡ stepsBroken n b (drop (i + 1) s)
   unfolding stepsBroken
   step-passed k =
-      let f = either-false (ltb b a) (ltb (a + 1026) b) (sym e ∙ k) in
+      let f = either-false (ltb b a) (ltb (a + maxContour) b) (sym e ∙ k) in
       rw (add-one, drop-cons s i 0, ← p, f .0, f .1)
 
 pub steps-end : (n a : ℕ) (s : List ℕ) (i : ℕ) → length s ≤ i → stepsBroken n a (drop i s) ≡ not (eqb a n)
@@ -107,12 +107,12 @@ steps-end n a s i h = rw (drop-of-length-le s {i = i} h)
 
 pub record Sound (starts : List ℕ) (corners : List ℤ) : Type 0 where
   pub even : length corners % 2 ≡ 0
-  pub few-parts : partCount starts ≤ 2048
-  pub few-corners : length corners / 2 ≤ 8192
+  pub few-parts : partCount starts ≤ maxParts
+  pub few-corners : length corners / 2 ≤ maxCorners
   pub some : 0 < length starts
   pub first : getD starts 0 0 ≡ 0
   pub rises : (k : ℕ) → suc k < length starts → getD starts k 0 ≤ getD starts (suc k) 0
-  pub short : (k : ℕ) → suc k < length starts → getD starts (suc k) 0 ≤ getD starts k 0 + 1026
+  pub short : (k : ℕ) → suc k < length starts → getD starts (suc k) 0 ≤ getD starts k 0 + maxContour
   pub bounded : (k : ℕ) → k < length starts → getD starts k 0 ≤ length corners / 2
   pub last : getD starts (partCount starts) 0 ≡ length corners / 2
 
@@ -133,17 +133,17 @@ from-0 n (a ∷ s) e =
 -- the tests of `tableBroken`
 pub record Tests (starts : List ℕ) (corners : List ℤ) : Type 0 where
   pub even : length corners % 2 ≡ 0
-  pub few-parts : partCount starts ≤ 2048
-  pub few-corners : length corners / 2 ≤ 8192
+  pub few-parts : partCount starts ≤ maxParts
+  pub few-corners : length corners / 2 ≤ maxCorners
   pub from : From0 (length corners / 2) starts
 
 pub tests : (starts : List ℕ) (corners : List ℤ) → tableBroken starts corners ≡ false → Tests starts corners
 unfolding tableBroken
 tests s c e =
     let f = was-taken (eqb (length c % 2) 0) _ e in
-    let g = either-false (ltb 2048 (partCount s)) _ (f .1) in
-    let h = either-false (ltb 8192 (length c / 2)) _ (g .1) in
-    record { even = eqb-true _ 0 (f .0); few-parts = ltb-false 2048 _ (g .0); few-corners = ltb-false 8192 _ (h .0); from = from-0 _ s (h .1) }
+    let g = either-false (ltb maxParts (partCount s)) _ (f .1) in
+    let h = either-false (ltb maxCorners (length c / 2)) _ (g .1) in
+    record { even = eqb-true _ 0 (f .0); few-parts = ltb-false maxParts _ (g .0); few-corners = ltb-false maxCorners _ (h .0); from = from-0 _ s (h .1) }
 
 one-less : (n : ℕ) → suc n - 1 ≡ n
 one-less n = omega arith
@@ -219,12 +219,12 @@ module _ (starts : List ℕ) (corners : List ℤ) (whole : tableBroken starts co
 -- ---- parts within the limits
 
 pub record Limits (ps : List (List Pt)) : Type 0 where
-  pub parts : length ps ≤ 2048
-  pub corners : length (flatten ps) ≤ 8192
-  pub contours : All (λ p. length p ≤ 1026) ps
+  pub parts : length ps ≤ maxParts
+  pub corners : length (flatten ps) ≤ maxCorners
+  pub contours : All (λ p. length p ≤ maxContour) ps
 
 -- the parts of a table that is not broken are within them
-parts-short : (a : ℕ) (s : List ℕ) (l : List Pt) → stepsBroken (length l) a s ≡ false → All (λ p. length p ≤ 1026) (partsOf (a ∷ s) l)
+parts-short : (a : ℕ) (s : List ℕ) (l : List Pt) → stepsBroken (length l) a s ≡ false → All (λ p. length p ≤ maxContour) (partsOf (a ∷ s) l)
 unfolding partsOf
 parts-short a [] l e = tt
 parts-short a (b ∷ s) l e =
@@ -241,7 +241,7 @@ sound-limits s c e =
       contours = rw (t .from .shape) (parts-short 0 (t .from .rest) (pointsOf c) (steps-whole s c e));
     }
 
-startsFrom-steps : (n k : ℕ) (ps : List (List Pt)) → k + length (flatten ps) ≡ n → All (λ p. length p ≤ 1026) ps
+startsFrom-steps : (n k : ℕ) (ps : List (List Pt)) → k + length (flatten ps) ≡ n → All (λ p. length p ≤ maxContour) ps
     → (s : List ℕ) × (startsFrom k ps ≡ k ∷ s) × (stepsBroken n k s ≡ false)
 unfolding flatten startsFrom stepsBroken
 startsFrom-steps n k [] e h = ([], refl, rw (eq-eqb k n (omega arith)))
@@ -249,7 +249,7 @@ startsFrom-steps n k (p ∷ ps) e h =
     let r = startsFrom-steps n (k + length p) ps (omega (arith, length-append p (flatten ps))) (h .1) in (
       (k + length p) ∷ r .0,
       ap (λ l. k ∷ l) (r .1),
-      rw (le-ltb (k + length p) k (omega arith), le-ltb (k + 1026) (k + length p) (omega (arith, h .0))) (r .2),
+      rw (le-ltb (k + length p) k (omega arith), le-ltb (k + maxContour) (k + length p) (omega (arith, h .0))) (r .2),
     )
 
 pub limits-sound : (ps : List (List Pt)) → Limits ps → tableBroken (startsOf ps) (cornersOf ps) ≡ false
@@ -260,9 +260,9 @@ limits-sound ps h =
     let r = startsFrom-steps (length (flatten ps)) 0 ps (omega arith) (h .contours) in
     rw (
       eq-eqb (length (numbersOf (flatten ps)) % 2) 0 (omega arith),
-      le-ltb 2048 (partCount (startsFrom 0 ps)) (omega (arith, length-starts ps)),
+      le-ltb maxParts (partCount (startsFrom 0 ps)) (omega (arith, length-starts ps)),
       half,
-      le-ltb 8192 (length (flatten ps)) (h .corners),
+      le-ltb maxCorners (length (flatten ps)) (h .corners),
       r .1,
     )
     (r .2)

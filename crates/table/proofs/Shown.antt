@@ -13,7 +13,7 @@ use lib.ListN.{length, take, drop, getD}
 use lib.Seq.{slice, take-nil}
 use lib.IntN.{ℤ}
 use Rattle.plane.specs.Plane.{Pt, inRange}
-use Rattle.table.specs.Table.{pointsOf, partsOf, tableParts, partCount, tableBroken, offRange}
+use Rattle.table.specs.Table.{pointsOf, partsOf, tableParts, partCount, tableBroken, offRange, maxCorners}
 use Rattle.table.specs.Shown.{shownFault, partNumbers, shownPart}
 use Rattle.integers.proofs.Faults.{first-this, first-next, first-empty, first-none}
 use Rattle.table.proofs.Corners.{points-slice}
@@ -69,7 +69,7 @@ module _ (ls : List ℕ) (lc : List ℤ) (rs : List ℕ) (rc : List ℤ) (right 
 pub record Placed (a b : ℕ) (corners : List ℤ) : Type 0 where
   pub rises : a ≤ b
   pub within : 2 * b ≤ length corners
-  pub few : b ≤ 8192
+  pub few : b ≤ maxCorners
 
 pub placed : (starts : List ℕ) (corners : List ℤ) (k : ℕ) → tableBroken starts corners ≡ false → k < partCount starts → Placed (getD starts k 0) (getD starts (k + 1) 0) corners
 placed s c k e h =

@@ -8,7 +8,7 @@ use lib.Dec.{T, ltb}
 use lib.ListN.{length, take}
 use borrow.Author.Tests.{lt-ltb}
 use Rattle.integers.specs.Faults.{firstFault}
-use Rattle.mesh.specs.Mesh.{Mesh, meshKinds, tooMany}
+use Rattle.mesh.specs.Mesh.{Mesh, meshKinds, tooMany, maxTriangles}
 use Rattle.triangles.specs.declared.IntTriangle.{IntTriangle}
 use Rattle.triangles.specs.Triangles.{structTriangle, trianglesMesh}
 
@@ -22,6 +22,6 @@ length-map f [] = refl
 length-map f (x ∷ l) = ap suc (length-map f l)
 
 -- more than 1,024 structs are refused with 1
-pub too-many : (ys : List IntTriangle) → 1024 < length ys → 1 ≡ firstFault (meshKinds (trianglesMesh ys))
+pub too-many : (ys : List IntTriangle) → maxTriangles < length ys → 1 ≡ firstFault (meshKinds (trianglesMesh ys))
 unfolding firstFault tooMany trianglesMesh
 too-many ys h = sym (rw (length-map structTriangle ys, lt-ltb _ _ h))

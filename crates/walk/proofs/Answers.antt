@@ -14,7 +14,7 @@ use Rattle.integers.proofs.Faults.{first-none}
 use Rattle.integers.proofs.Order.{by-test}
 use Rattle.integers.proofs.Tests.{either-false}
 use Rattle.plane.specs.Plane.{Pt}
-use Rattle.table.specs.Table.{pointsOf}
+use Rattle.table.specs.Table.{pointsOf, maxContour}
 use Rattle.table.proofs.Corners.{length-points}
 use Rattle.table.proofs.Rules.{was-taken}
 use Rattle.pair.specs.declared.Place.{Place}
@@ -92,9 +92,9 @@ all-false false true false c h = (refl, λ k. (refl, h))
 all-false false false b c h = (refl, λ k. absurd (true≢false (sym k)))
 
 -- a contour of sound length has few corners
-pub few-corners : (l : List ℤ) → lengthBroken l ≡ false → length (pointsOf l) ≤ 1026
+pub few-corners : (l : List ℤ) → lengthBroken l ≡ false → length (pointsOf l) ≤ maxContour
 unfolding lengthBroken
-few-corners l h = omega (arith, length-points l, ltb-false 1026 (length l / 2) (was-taken (eqb (length l % 2) 0) _ h .1))
+few-corners l h = omega (arith, length-points l, ltb-false maxContour (length l / 2) (was-taken (eqb (length l % 2) 0) _ h .1))
 
 -- and where it is not empty it has a corner
 pub some-corner : (l : List ℤ) → lengthBroken l ≡ false → (length l ≡ 0 → ⊥) → 0 < length (pointsOf l)

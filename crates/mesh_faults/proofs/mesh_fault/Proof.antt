@@ -10,7 +10,7 @@ use lib.ListN.{length}
 use lib.IntN.{ℤ}
 use Rattle.integers.specs.Faults.{Kind, firstFault}
 use Rattle.integers.proofs.Faults.{first-this, first-next, first-empty, append-some, append-none}
-use Rattle.mesh.specs.Mesh.{Mesh, tooMany, offGrid, strayNeighbour, misnamed, mismatched, flat, tooLarge, meshKinds}
+use Rattle.mesh.specs.Mesh.{Mesh, tooMany, offGrid, strayNeighbour, misnamed, mismatched, flat, tooLarge, meshKinds, maxTriangles}
 use Rattle.mesh.specs.Rows.{rowsMesh}
 use Rattle.mesh.proofs.Rows.{length-rows}
 use Rattle.mesh_neighbors.specs.Earliest.{neighbourKinds, neighbourFault}
@@ -19,13 +19,13 @@ use borrow.Author.Needs.{needs}
 use Rattle.mesh_faults.proofs.mesh_fault.Statement.{statement}
 use Rattle.mesh_faults.proofs.mesh_fault.Tie as tie
 
-many : (rows : List (List ℤ)) → 1024 < length rows → tooMany (rowsMesh rows) ≡ true
+many : (rows : List (List ℤ)) → maxTriangles < length rows → tooMany (rowsMesh rows) ≡ true
 unfolding tooMany
-many rows h = lt-ltb 1024 (length (rowsMesh rows)) (omega (arith, length-rows rows))
+many rows h = lt-ltb maxTriangles (length (rowsMesh rows)) (omega (arith, length-rows rows))
 
-few : (rows : List (List ℤ)) → length rows ≤ 1024 → tooMany (rowsMesh rows) ≡ false
+few : (rows : List (List ℤ)) → length rows ≤ maxTriangles → tooMany (rowsMesh rows) ≡ false
 unfolding tooMany
-few rows h = le-ltb 1024 (length (rowsMesh rows)) (omega (arith, length-rows rows))
+few rows h = le-ltb maxTriangles (length (rowsMesh rows)) (omega (arith, length-rows rows))
 
 module _ (m : Mesh) where
   abbrev answer : ℕ

@@ -8,7 +8,7 @@ use borrow.Author.Needs.{needs}
 use borrow.Author.Tests.{lt-ltb, le-ltb, eq-eqb, ne-eqb}
 use lib.IntN.{ℤ}
 use lib.ListN.{length}
-use Rattle.table.specs.Table.{startsBroken, tableBroken}
+use Rattle.table.specs.Table.{startsBroken, tableBroken, maxCorners, maxParts}
 use Rattle.table.proofs.rules_broken.Statement.{statement}
 use Rattle.table.proofs.rules_broken.Tie as tie
 
@@ -20,16 +20,16 @@ module _ (s : List ℕ) (c : List ℤ) where
   module _ (h : length c % 2 ≡ 0) where
     many-parts : 2049 < length s → true ≡ tableBroken s c
     unfolding tableBroken
-    many-parts k = rw (eq-eqb _ 0 h, lt-ltb 2048 (length s - 1) (omega arith))
+    many-parts k = rw (eq-eqb _ 0 h, lt-ltb maxParts (length s - 1) (omega arith))
 
     module _ (k : length s ≤ 2049) where
-      many-corners : 8192 < length c / 2 → true ≡ tableBroken s c
+      many-corners : maxCorners < length c / 2 → true ≡ tableBroken s c
       unfolding tableBroken
-      many-corners l = rw (eq-eqb _ 0 h, le-ltb 2048 (length s - 1) (omega arith), lt-ltb 8192 _ l)
+      many-corners l = rw (eq-eqb _ 0 h, le-ltb maxParts (length s - 1) (omega arith), lt-ltb maxCorners _ l)
 
-      by-starts : length c / 2 ≤ 8192 → {r : Bool} → r ≡ startsBroken (length c / 2) s → r ≡ tableBroken s c
+      by-starts : length c / 2 ≤ maxCorners → {r : Bool} → r ≡ startsBroken (length c / 2) s → r ≡ tableBroken s c
       unfolding tableBroken
-      by-starts l e = rw (eq-eqb _ 0 h, le-ltb 2048 (length s - 1) (omega arith), le-ltb 8192 _ l) e
+      by-starts l e = rw (eq-eqb _ 0 h, le-ltb maxParts (length s - 1) (omega arith), le-ltb maxCorners _ l) e
 
 returns : tie.Need-returns
 returns c = odd _ _ (c .if1 .taken)

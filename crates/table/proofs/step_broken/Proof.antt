@@ -6,20 +6,21 @@ use native.Mathlib.Omega.{arith}
 use borrow.Author.Tests.{lt-ltb, le-ltb, ltb-true, ltb-false}
 use lib.Dec.{ltb}
 use Rattle.integers.proofs.Order.{by-test}
+use Rattle.table.specs.Table.{maxContour}
 use Rattle.table.proofs.step_broken.Statement.{statement}
 use Rattle.table.proofs.step_broken.Tie as tie
 
 module _ (a b : ℕ) where
-  falls : b < a → true ≡ cond (ltb b a) true (ltb (a + 1026) b)
+  falls : b < a → true ≡ cond (ltb b a) true (ltb (a + maxContour) b)
   falls h = rw (lt-ltb b a h)
 
   -- k < b - a is a + k < b
-  by-length : a ≤ b → ltb 1026 (b - a) ≡ cond (ltb b a) true (ltb (a + 1026) b)
+  by-length : a ≤ b → ltb maxContour (b - a) ≡ cond (ltb b a) true (ltb (a + maxContour) b)
   by-length h =
       rw (le-ltb b a h)
-      (by-test (ltb (a + 1026) b)
-      (λ e. lt-ltb 1026 (b - a) (omega (arith, ltb-true (a + 1026) b e)) ∙ sym e)
-      (λ e. le-ltb 1026 (b - a) (omega (arith, ltb-false (a + 1026) b e)) ∙ sym e))
+      (by-test (ltb (a + maxContour) b)
+      (λ e. lt-ltb maxContour (b - a) (omega (arith, ltb-true (a + maxContour) b e)) ∙ sym e)
+      (λ e. le-ltb maxContour (b - a) (omega (arith, ltb-false (a + maxContour) b e)) ∙ sym e))
 
 returns : tie.Need-returns
 returns c = falls _ _ (c .if1 .taken)

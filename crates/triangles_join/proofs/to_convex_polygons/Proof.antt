@@ -96,7 +96,7 @@ stayed = (stay-none-slice (0 ∷ []) tt (plain (λ _. T.the-row)) yes, (gave-sli
 abbrev Answers : Mesh → List ℕ → List ℤ → Counts → List ℕ → List ℤ → Type 0
 Answers m s c r s′ c′ = (r ≡ partsCounts m s c) × (s′ ≡ partsStarts m s c) × (c′ ≡ partsCorners m s c)
 
-refused : (ys : List IntTriangle) (s : List ℕ) (c : List ℤ) {r : Counts} → 1024 < length ys → r ≡ record { fault = 1; parts = 0; corners = 0 } → Answers (trianglesMesh ys) s c r s c
+refused : (ys : List IntTriangle) (s : List ℕ) (c : List ℤ) {r : Counts} → maxTriangles < length ys → r ≡ record { fault = 1; parts = 0; corners = 0 } → Answers (trianglesMesh ys) s c r s c
 unfolding partsFault
 refused ys s c h e =
     let m = trianglesMesh ys in

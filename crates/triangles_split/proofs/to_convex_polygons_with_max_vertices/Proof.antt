@@ -100,7 +100,7 @@ stayed = (stay-none-slice (0 ∷ []) tt (plain (λ _. T.the-row)) yes, (stay-non
 abbrev Answers : ConvexSplitStrategy → ℕ → Mesh → List ℕ → List ℤ → Counts → List ℕ → List ℤ → Type 0
 Answers how most m s c r s′ c′ = (r ≡ splitCounts how most m s c) × (s′ ≡ splitStarts how most m s c) × (c′ ≡ splitCorners how most m s c)
 
-refused : (how : ConvexSplitStrategy) (most : ℕ) (ys : List IntTriangle) (s : List ℕ) (c : List ℤ) {r : Counts} → 1024 < length ys → r ≡ record { fault = 1; parts = 0; corners = 0 } → Answers how most (trianglesMesh ys) s c r s c
+refused : (how : ConvexSplitStrategy) (most : ℕ) (ys : List IntTriangle) (s : List ℕ) (c : List ℤ) {r : Counts} → maxTriangles < length ys → r ≡ record { fault = 1; parts = 0; corners = 0 } → Answers how most (trianglesMesh ys) s c r s c
 unfolding splitFault
 refused how most ys s c h e =
     let m = trianglesMesh ys in

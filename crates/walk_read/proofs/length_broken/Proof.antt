@@ -8,6 +8,7 @@ use lib.Dec.{ltb}
 use lib.IntN.{ℤ}
 use lib.ListN.{length}
 use Rattle.walk.specs.Calls.{lengthBroken}
+use Rattle.table.specs.Table.{maxContour}
 use Rattle.walk_read.proofs.length_broken.Statement.{statement}
 use Rattle.walk_read.proofs.length_broken.Tie as tie
 
@@ -16,7 +17,7 @@ module _ (l : List ℤ) where
   unfolding lengthBroken
   odd h = rw (ne-eqb _ 0 h)
 
-  even : length l % 2 ≡ 0 → ltb 1026 (length l / 2) ≡ lengthBroken l
+  even : length l % 2 ≡ 0 → ltb maxContour (length l / 2) ≡ lengthBroken l
   unfolding lengthBroken
   even h = rw (eq-eqb _ 0 h)
 
