@@ -11,7 +11,7 @@ use Rattle.listing.specs.File.{fileFault, meshOf, cornerLimit, splitNumber, str
 use Rattle.listing.specs.Listing.{listingOf, areasOf}
 use Rattle.listing_areas.specs.Areas.{Listable}
 
--- the bytes of the longest listing: 50 of the first line, 36 of each part's line beside its corners, 26 of each corner, of which a triangle has at most six
+-- the bytes of the longest listing: 50 of the first line, 36 of each part's line beside its corners, 26 of each corner; there are at most six corners to a triangle of the mesh
 abbrev pub listingRoom : ℕ
 listingRoom = 50 + 36 * maxParts + 26 * (6 * maxTriangles)
 

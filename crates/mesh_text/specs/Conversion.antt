@@ -9,7 +9,7 @@ use Rattle.mesh_text.specs.declared.Converted.{Converted}
 use Rattle.mesh_text.specs.declared.Converted.the-variants as converted
 use Rattle.mesh_text.specs.Text.{wrongLine, fileOfText}
 
--- a text of more bytes is not read; the longest lines that can be written take less than half of it
+-- a text of more bytes is not read; the most triangles, written with no byte to spare, take less than half of it
 abbrev pub maxText : ℕ
 maxText = 262144
 

@@ -13,7 +13,7 @@ ghost use Rattle.mesh_text.specs.Gathering.{gatherRoom, Taken, Gathered}
 ghost use Rattle.mesh_text.specs.Conversion.{maxText, conversion, bytesConverted};
 use fields::Run;
 
-// The longest text that is read: as many of the longest lines as may be take less than half of it.
+// The longest text that is read: the most triangles, written with no byte to spare, take less than half of it.
 pub const MAX_TEXT: usize = 262144;
 
 // One triangle more than a mesh may have, so that fault 1 can be written.
