@@ -1,5 +1,5 @@
 // Joining triangles into convex parts (advanced/convex.rs, first half): `to_convex_polygons`, with no `requires`. Its answer and both lent buffers
-// equal `partsCounts`, `partsStarts` and `partsCorners` of convex/specs/Joining.antt. The parts are gathered in local buffers, of one of three sizes by the
+// equal `partsCounts`, `partsStarts` and `partsCorners` of convex/specs/Joining.antt. The parts are gathered in local buffers, of one of four sizes by the
 // mesh's, and handed out once there is room. Leans on mesh_faults, convex_regions and convex_gather.
 ghost use mathlib.Core.Path.{_≡_};
 ghost use Prim.Native.Nat.{_*_, _^_, _<_, _≤_};
@@ -7,8 +7,9 @@ ghost use lib.ListN.{length};
 ghost use Rattle.integers.specs.Faults.{firstFault};
 ghost use Rattle.mesh.specs.Mesh.{maxTriangles, meshKinds};
 ghost use Rattle.mesh.specs.Rows.{rowsMesh};
-ghost use Rattle.convex_regions.specs.Parts.{tiny, small};
+ghost use Rattle.convex_regions.specs.Parts.{tiny, small, medium};
 ghost use Rattle.convex.specs.Joining.{partsCounts, partsStarts, partsCorners};
+use convex_regions::MEDIUM;
 use convex_regions::SMALL;
 use convex_regions::TINY;
 use table::Counts;
@@ -54,6 +55,18 @@ fn join_small(mesh: &[[i32; 9]], starts: &mut [u32], corners: &mut [i32]) -> Cou
     join_within(mesh, &mut begins, &mut points, starts, corners)
 }
 
+// The parts of a medium mesh that is accepted.
+fn join_medium(mesh: &[[i32; 9]], starts: &mut [u32], corners: &mut [i32]) -> Counts
+    requires { ⌜ (length (now mesh) ≤ medium) × (firstFault (meshKinds (rowsMesh (now mesh))) ≡ 0) ⌝ }
+    ensures counts { λ r. ⌜ r ≡ partsCounts (rowsMesh (now (mesh .entry))) (now (starts .entry)) (now (corners .entry)) ⌝ }
+    ensures starts { λ r. ⌜ now (starts .exit) ≡ partsStarts (rowsMesh (now (mesh .entry))) (now (starts .entry)) (now (corners .entry)) ⌝ }
+    ensures corners { λ r. ⌜ now (corners .exit) ≡ partsCorners (rowsMesh (now (mesh .entry))) (now (starts .entry)) (now (corners .entry)) ⌝ }
+{
+    let mut begins = [0u32; MEDIUM + 1];
+    let mut points = [[0i32; 2]; 3 * MEDIUM];
+    join_within(mesh, &mut begins, &mut points, starts, corners)
+}
+
 // The parts of any mesh that is accepted.
 fn join_large(mesh: &[[i32; 9]], starts: &mut [u32], corners: &mut [i32]) -> Counts
     requires { ⌜ (length (now mesh) ≤ maxTriangles) × (firstFault (meshKinds (rowsMesh (now mesh))) ≡ 0) ⌝ }
@@ -83,6 +96,9 @@ pub fn to_convex_polygons(mesh: &[[i32; 9]], starts: &mut [u32], corners: &mut [
     }
     if n <= SMALL {
         return join_small(mesh, starts, corners);
+    }
+    if n <= MEDIUM {
+        return join_medium(mesh, starts, corners);
     }
     join_large(mesh, starts, corners)
 }

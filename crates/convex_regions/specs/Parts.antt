@@ -16,12 +16,15 @@ use Rattle.convex_gather.specs.Gather.{Gathered}
 use Rattle.convex_ring.specs.Buffers.{free, Marked, Ready}
 use Rattle.convex_contour.specs.Contour.{firstPoints}
 
--- a mesh of at most so many triangles is tiny, or small: its work arrays are of that size
+-- a mesh of at most so many triangles is tiny, small, or medium: its work arrays are of that size
 abbrev pub tiny : ℕ
 tiny = 16
 
 abbrev pub small : ℕ
 small = 128
+
+abbrev pub medium : ℕ
+medium = 512
 
 -- the sum of a number of each element
 abbrev pub total : {A : Type 0} → (A → ℕ) → List A → ℕ

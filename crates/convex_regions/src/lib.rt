@@ -1,5 +1,5 @@
 // The parts of an accepted mesh, gathered region after region (advanced/convex.rs, the outer loop): `gather`, into buffers that its caller lends. The work arrays
-// of a region are as large as the mesh asks for, in three sizes, so that a small mesh does not wait for the filling of large ones. What is gathered is said in
+// of a region are as large as the mesh asks for, in four sizes, so that a small mesh does not wait for the filling of large ones. What is gathered is said in
 // specs/Parts.antt. Leans on convex_grow, convex_contour and convex_gather.
 ghost use mathlib.Core.Path.{_≡_};
 ghost use mathlib.Core.Bool.{false};
@@ -12,13 +12,15 @@ ghost use Rattle.mesh.specs.Rows.{rowsMesh};
 ghost use Rattle.convex.specs.Joining.{parts};
 ghost use Rattle.convex_ring.specs.Buffers.{Marked, Ready};
 ghost use Rattle.convex_gather.specs.Gather.{Gathered};
-ghost use Rattle.convex_regions.specs.Parts.{tiny, small, Fresh, Room, Joined, Visited};
+ghost use Rattle.convex_regions.specs.Parts.{tiny, small, medium, Fresh, Room, Joined, Visited};
 use convex_gather::Tally;
 
-// A mesh of at most so many triangles is tiny, or small; `large` is any that is accepted.
+// A mesh of at most so many triangles is tiny, small, or medium; `large` is any that is accepted.
 pub const TINY: usize = 16;
 
 pub const SMALL: usize = 128;
+
+pub const MEDIUM: usize = 512;
 
 // The region that starts with triangle k, which is not taken, is gathered.
 fn append_region(
@@ -127,6 +129,17 @@ fn gather_small(mesh: &[[i32; 9]], starts: &mut [u32], points: &mut [[i32; 2]]) 
     gather_within(mesh, &mut corners, &mut edges, &mut taken, starts, points)
 }
 
+// The parts of a medium mesh that is accepted.
+fn gather_medium(mesh: &[[i32; 9]], starts: &mut [u32], points: &mut [[i32; 2]]) -> Tally
+    requires { ⌜ (length (now mesh) ≤ medium) × (firstFault (meshKinds (rowsMesh (now mesh))) ≡ 0) × (length (now mesh) < length (now starts)) × (3 * length (now mesh) ≤ length (now points)) ⌝ }
+    ensures { λ r. ⌜ Gathered (now (starts .exit)) (now (points .exit)) r (parts (rowsMesh (now (mesh .entry)))) × (r .parts ≤ length (now (mesh .entry))) × (r .corners ≤ 3 * length (now (mesh .entry))) ⌝ }
+{
+    let mut corners = [[0i32; 2]; MEDIUM + 2];
+    let mut edges = [[0usize; 2]; MEDIUM + 2];
+    let mut taken = [false; MEDIUM];
+    gather_within(mesh, &mut corners, &mut edges, &mut taken, starts, points)
+}
+
 // The parts of any mesh that is accepted: document 01 has at most 1,024 triangles.
 fn gather_large(mesh: &[[i32; 9]], starts: &mut [u32], points: &mut [[i32; 2]]) -> Tally
     requires { ⌜ (length (now mesh) ≤ maxTriangles) × (firstFault (meshKinds (rowsMesh (now mesh))) ≡ 0) × (length (now mesh) < length (now starts)) × (3 * length (now mesh) ≤ length (now points)) ⌝ }
@@ -149,6 +162,9 @@ pub fn gather(mesh: &[[i32; 9]], starts: &mut [u32], points: &mut [[i32; 2]]) ->
     }
     if n <= SMALL {
         return gather_small(mesh, starts, points);
+    }
+    if n <= MEDIUM {
+        return gather_medium(mesh, starts, points);
     }
     gather_large(mesh, starts, points)
 }

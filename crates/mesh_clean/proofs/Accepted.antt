@@ -5,8 +5,8 @@ use mathlib.Core.Bool.{Bool, true, false, cond}
 use mathlib.Core.List.{List, [], _∷_, map}
 use Prim.Native.Nat.{ℕ, zero, suc, _+_, _<_, _≤_}
 use native.Mathlib.Omega.{arith}
-use borrow.Author.Tests.{eqb-true, eqb-false, ne-eqb, leb-false, lt-leb, le-ltb, not-true}
-use lib.Dec.{eqb, leb}
+use borrow.Author.Tests.{eqb-true, eqb-false, ne-eqb, lt-leb, lt-ltb, le-ltb, not-true}
+use lib.Dec.{eqb}
 use lib.ListN.{length}
 use lib.IntN.{ℤ, pos, _+ℤ_}
 use lib.Signed.{_≤ℤ_, leZ, ltZ}
@@ -18,8 +18,9 @@ use Rattle.integers.proofs.Tests.{differ, ltZ-≤, leZ-<, ≤-ltZ}
 use Rattle.plane.specs.Plane.{Pt, eqPt}
 use Rattle.plane.proofs.Edges.{eqPt-true, eqPt-refl}
 use Rattle.mesh.specs.Mesh.{Mesh, Triangle, none, vertex, neighbour, after, before, triangleAt, triangleArea, triangleOff, someFrom, some, someSide, shared, maxTriangles, tooMany, offGrid, strays, strayNeighbour, misnames, misnamed, opposite, runsOppositely, mismatches, mismatched, flat, meshArea, tooLarge, meshKinds}
-use Rattle.mesh_clean.specs.Clean.{sameEdge, sharesBack, sharesEdge, sharesAll, sound, soundFrom, linkedFrom, clean}
+use Rattle.mesh_clean.specs.Clean.{sameEdge, sharesBack, namesBefore, namesAfter, sharesEdge, sharesAll, sound, soundFrom, linkedFrom, sidesFrom, linked, clean}
 use Rattle.mesh_clean.proofs.Sides.{Meets, Shared, named-once, named-back, not-self}
+use Rattle.mesh_clean.proofs.Pairing.{paired}
 
 -- ---- tests that hold
 
@@ -54,9 +55,9 @@ shares-side m k t zero l h = both-true (sharesEdge m k (t .n0) (t .v1) (t .v2)) 
 shares-side m k t (suc zero) l h = both-true (sharesEdge m k (t .n1) (t .v2) (t .v0)) _ (both-true (sharesEdge m k (t .n0) (t .v1) (t .v2)) _ h .1) .0
 shares-side m k t (suc (suc i)) l h = both-true (sharesEdge m k (t .n1) (t .v2) (t .v0)) _ (both-true (sharesEdge m k (t .n0) (t .v1) (t .v2)) _ h .1) .1
 
-shares-met : (m : Mesh) (k n : ℕ) (a b : Pt) → (n ≡ none → ⊥) → sharesEdge m k n a b ≡ true → (n < length m) × (sharesBack (triangleAt m n) k a b ≡ true)
+shares-earlier : (m : Mesh) (k n : ℕ) (a b : Pt) → n < k → sharesEdge m k n a b ≡ true → sharesBack (triangleAt m n) k a b ≡ true
 unfolding sharesEdge
-shares-met m k n a b d h = let e = not-then (leb (length m) n) (sharesBack (triangleAt m n) k a b) (rw (ne-eqb n none d) at h) in (leb-false (length m) n (e .0), e .1)
+shares-earlier m k n a b l h = rw (lt-ltb n k l) at h
 
 -- ---- a triangle, and all of them
 
@@ -116,30 +117,26 @@ none-shared test m f = none-of (λ k t. someSide (shared t (test k t))) m (λ k 
 -- ---- a clean mesh
 
 module _ (m : Mesh) (c : clean m ≡ true) (few : length m ≤ maxTriangles) where
-  passes : (soundFrom (pos 0) m ≡ true) × (linkedFrom m 0 m ≡ true)
-  passes = both-true (soundFrom (pos 0) m) (linkedFrom m 0 m) c
+  passes : (soundFrom (pos 0) m ≡ true) × (linked m ≡ true)
+  passes = both-true (soundFrom (pos 0) m) (linked m) c
+
+  edges : (linkedFrom m 0 m ≡ true) × (eqb (sidesFrom namesBefore 0 m) (sidesFrom namesAfter 0 m) ≡ true)
+  edges = both-true (linkedFrom m 0 m) _ (passes .1)
 
   rows : ((k : ℕ) → k < length m → Sound (triangleAt m k)) × ((pos 0 +ℤ sumℤ (map triangleArea m)) ≤ℤ pos 9223372036854775807)
   rows = sound-rows (pos 0) m (omega zarith) (passes .0)
 
   links : (k : ℕ) → k < length m → sharesAll m k (triangleAt m k) ≡ true
-  links k h = subst (λ j. sharesAll m j (triangleAt m k) ≡ true) (omega arith) (linked-rows m 0 m (passes .1) k h)
+  links k h = subst (λ j. sharesAll m j (triangleAt m k) ≡ true) (omega arith) (linked-rows m 0 m (edges .0) k h)
 
-  module _ (k i : ℕ) (l : k < length m) (h : i < 3) (d : neighbour (triangleAt m k) i ≡ none → ⊥) where
-    met : (neighbour (triangleAt m k) i < length m) × Meets k (triangleAt m k) i (triangleAt m (neighbour (triangleAt m k) i))
-    met =
-        let t = triangleAt m k in
-        let e = shares-met m k (neighbour t i) (vertex t (after i)) (vertex t (before i)) d (shares-side m k t i h (links k l)) in
-        let b = shares-back (triangleAt m (neighbour t i)) k (vertex t (after i)) (vertex t (before i)) (e .1) in
-        (e .0, record { names = b .0; begins = b .1 .0; ends = b .1 .1 })
+  earlier : (k i : ℕ) → k < length m → i < 3 → neighbour (triangleAt m k) i < k → Meets k (triangleAt m k) i (triangleAt m (neighbour (triangleAt m k) i))
+  earlier k i l h e =
+      let t = triangleAt m k in
+      let b = shares-back (triangleAt m (neighbour t i)) k (vertex t (after i)) (vertex t (before i)) (shares-earlier m k (neighbour t i) (vertex t (after i)) (vertex t (before i)) e (shares-side m k t i h (links k l))) in
+      record { names = b .0; begins = b .1 .0; ends = b .1 .1 }
 
   sides : Shared m
-  sides = record {
-    few = few;
-    area = λ k l. leZ-< (triangleArea (triangleAt m k)) (pos 0) (rows .0 k l .above);
-    in-mesh = λ k i l h d. met k i l h d .0;
-    meets = λ k i l h d. met k i l h d .1;
-  }
+  sides = paired m few (λ k l. leZ-< (triangleArea (triangleAt m k)) (pos 0) (rows .0 k l .above)) earlier (eqb-true _ _ (edges .1))
 
   no-many : tooMany m ≡ false
   unfolding tooMany
@@ -153,7 +150,7 @@ module _ (m : Mesh) (c : clean m ≡ true) (few : length m ≤ maxTriangles) whe
   unfolding strayNeighbour
   no-stray =
       none-shared (λ k t i n. strays (length m) k n) m
-      (λ k i l h d. rw (ne-eqb (neighbour (triangleAt m k) i) k (not-self m sides k i l h d), lt-leb (length m) (neighbour (triangleAt m k) i) (met k i l h d .0)))
+      (λ k i l h d. rw (ne-eqb (neighbour (triangleAt m k) i) k (not-self m sides k i l h d), lt-leb (length m) (neighbour (triangleAt m k) i) (sides .in-mesh k i l h d)))
 
   no-misnamed : misnamed m ≡ false
   unfolding misnamed
@@ -161,7 +158,7 @@ module _ (m : Mesh) (c : clean m ≡ true) (few : length m ≤ maxTriangles) whe
 
   no-mismatched : mismatched m ≡ false
   unfolding mismatched runsOppositely
-  no-mismatched = none-shared (λ k t. mismatches m k t) m (λ k i l h d. let e = met k i l h d .1 in rw (e .begins, e .ends, eqPt-refl (vertex _ (before (opposite _ k))), eqPt-refl (vertex _ (after (opposite _ k)))))
+  no-mismatched = none-shared (λ k t. mismatches m k t) m (λ k i l h d. let e = sides .meets k i l h d in rw (e .begins, e .ends, eqPt-refl (vertex _ (before (opposite _ k))), eqPt-refl (vertex _ (after (opposite _ k)))))
 
   no-flat : flat m ≡ false
   unfolding flat

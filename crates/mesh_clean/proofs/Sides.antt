@@ -36,7 +36,7 @@ module _ (t : Triangle) (h : pos 0 <ℤ triangleArea t) where
   not-02 : t .v0 ≡ t .v2 → ⊥
   not-02 e = omega (zarith, h, ap (λ p. areaTwo (t .v0) (t .v1) p) e, same-ends (t .v0) (t .v1))
 
-  vertices : (i j : ℕ) → i < 3 → j < 3 → vertex t i ≡ vertex t j → i ≡ j
+  pub vertices : (i j : ℕ) → i < 3 → j < 3 → vertex t i ≡ vertex t j → i ≡ j
   unfolding vertex
   vertices zero zero k l e = refl
   vertices zero (suc zero) k l e = absurd (not-01 e)
@@ -50,7 +50,7 @@ module _ (t : Triangle) (h : pos 0 <ℤ triangleArea t) where
 
 -- ---- places of a triangle
 
-round : (i : ℕ) → i < 3 → after (before i) ≡ i
+pub round : (i : ℕ) → i < 3 → after (before i) ≡ i
 unfolding after
 round zero h = refl
 round (suc zero) h = refl

@@ -1,21 +1,24 @@
--- The code's tests: the side that names back, as it is chosen (`chosen`), a side (`side-none` and those after it: each law is one way through
--- `shares_edge`), and the three sides of a row (`row-first` and those after it, through `row_linked`). Assumes nothing.
-use mathlib.Core.Path.{_≡_, sym, _∙_, ap}
+-- The code's tests: the side that names back, as it is chosen (`chosen`), a side and what it adds to the counts (`side-before` and those after it: each law is one
+-- way through `count_side`), and the three sides of a row (`row-first` and those after it, through `count_row`). Assumes nothing.
+use mathlib.Core.Path.{_≡_, sym, _∙_, ap, subst}
 use mathlib.Core.Bool.{Bool, true, false, not, cond}
 use mathlib.Core.List.{List, [], _∷_}
-use Prim.Native.Nat.{ℕ, _-_, _≤_, _<_}
+use Prim.Native.Nat.{ℕ, _+_, _-_, _≤_, _<_}
 use native.Mathlib.Omega.{arith}
-use borrow.Author.Tests.{eq-eqb, ne-eqb, le-leb, lt-leb, not-true, not-false}
+use borrow.Author.Tests.{eq-eqb, ne-eqb, lt-ltb, le-ltb, not-true, not-false}
 use lib.Dec.{eqb}
 use lib.ListN.{length, getD}
 use lib.IntN.{ℤ}
+use Rattle.integers.proofs.Tests.{differ}
 use Rattle.plane.specs.Plane.{Pt}
 use Rattle.mesh.specs.Mesh.{Mesh, Triangle, none, vertex, neighbour, triangleAt, triangleOff, someFrom, offGrid}
 use Rattle.mesh.specs.Rows.{rowTriangle, rowsMesh, RowOnGrid}
-use Rattle.mesh.proofs.Rows.{length-rows, triangle-row}
+use Rattle.mesh.proofs.Rows.{triangle-row}
 use Rattle.mesh.proofs.Passes.{row-on-grid}
 use Rattle.mesh_clean.specs.Packed.{Packs}
-use Rattle.mesh_clean.specs.Clean.{sameEdge, sharesBack, sharesEdge, sharesAll}
+use Rattle.mesh_clean.specs.declared.Seen.{Seen}
+use Rattle.mesh_clean.specs.Clean.{sameEdge, sharesBack, namesBefore, namesAfter, sharesEdge, sharesAll, sidesWith}
+use Rattle.mesh_clean.specs.Counted.{Counted, RowCounted}
 use Rattle.mesh_clean.proofs.Packed.{packs-eq, none-apart}
 
 -- a row that is not off the grid is on it
@@ -66,22 +69,41 @@ module _ (u : Triangle) (k : ℕ) {p q : Pt} {a b : ℕ} (ea : Packs p a) (eb : 
 
 -- ---- a side
 
-module _ (rows : List (List ℤ)) (k n : ℕ) (p q : Pt) where
-  abbrev side : Bool
-  side = sharesEdge (rowsMesh rows) k n p q
+pub at-most : (b : Bool) → cond b 1 0 ≤ 1
+at-most true = omega arith
+at-most false = omega arith
 
-  pub side-none : n ≡ none → true ≡ side
-  unfolding sharesEdge
-  side-none h = rw (eq-eqb n none h)
+module _ (rows : List (List ℤ)) (k n : ℕ) where
+  abbrev side : Pt → Pt → Bool
+  side p q = sharesEdge (rowsMesh rows) k n p q
 
-  module _ (d : n ≡ none → ⊥) where
-    pub side-past : length rows ≤ n → false ≡ side
+  -- n is before k
+  module _ (l : n < k) where
+    pub side-before : k < length rows → (p q : Pt) → sharesBack (rowTriangle (getD rows n [])) k p q ≡ side p q
     unfolding sharesEdge
-    side-past h = rw (ne-eqb n none d, le-leb (length (rowsMesh rows)) n (omega (arith, length-rows rows)))
+    side-before h p q = sym (rw (lt-ltb n k l, triangle-row rows n (omega arith)))
 
-    pub side-in : n < length rows → sharesBack (rowTriangle (getD rows n [])) k p q ≡ side
+    pub one-before : (x : ℕ) → x + 1 ≡ x + cond (namesBefore k n) 1 0
+    one-before x = rw (lt-ltb n k l)
+
+    pub none-after : (x : ℕ) → x ≡ x + cond (namesAfter k n) 1 0
+    none-after x = rw (lt-ltb n k l) (omega arith)
+
+  -- or not
+  module _ (l : k ≤ n) where
+    pub side-after : (p q : Pt) → true ≡ side p q
     unfolding sharesEdge
-    side-in l = sym (rw (ne-eqb n none d, lt-leb (length (rowsMesh rows)) n (omega (arith, length-rows rows)), triangle-row rows n l))
+    side-after p q = rw (le-ltb n k l)
+
+    pub none-before : (x : ℕ) → x ≡ x + cond (namesBefore k n) 1 0
+    none-before x = rw (le-ltb n k l) (omega arith)
+
+    pub some-after : (x : ℕ) → x + cond (not (eqb n none)) 1 0 ≡ x + cond (namesAfter k n) 1 0
+    some-after x = rw (le-ltb n k l)
+
+-- a side adds at most one to either count
+pub few-more : {m : Mesh} {k n a b : ℕ} {s r : Seen} → Counted m k n a b s r → (r .before ≤ s .before + 1) × (r .after ≤ s .after + 1)
+few-more {k = k} {n} c = (omega (arith, c .before, at-most (namesBefore k n)), omega (arith, c .after, at-most (namesAfter k n)))
 
 -- ---- a row
 
@@ -92,30 +114,40 @@ module _ (rows : List (List ℤ)) (k : ℕ) (h : k < length rows) where
   abbrev t : Triangle
   t = rowTriangle (getD rows k [])
 
-  abbrev answer : Bool
-  answer = sharesAll m k (triangleAt m k)
+  abbrev Row : Seen → Seen → Type 0
+  Row s r = RowCounted m k (triangleAt m k) s r
 
-  read : answer ≡ sharesAll m k t
-  read = ap (sharesAll m k) (triangle-row rows k h)
+  here : {s r : Seen} → RowCounted m k t s r → Row s r
+  here {s} {r} = subst (λ u. RowCounted m k u s r) (sym (triangle-row rows k h))
 
-  module _ {n0 : ℕ} (f0 : n0 ≡ neighbour t 0) {s0 : Bool} (e0 : s0 ≡ sharesEdge m k n0 (vertex t 1) (vertex t 2)) where
-    first : s0 ≡ sharesEdge m k (t .n0) (t .v1) (t .v2)
-    unfolding neighbour vertex
-    first = e0 ∙ ap (λ n. sharesEdge m k n (t .v1) (t .v2)) f0
+  -- a side was counted whose number named and whose ends are known
+  pub record Looked (n : ℕ) (x y : Pt) (s r : Seen) : Type 0 where
+    pub shared : r .shared ≡ sharesEdge m k n x y
+    pub before : r .before ≡ s .before + cond (namesBefore k n) 1 0
+    pub after : r .after ≡ s .after + cond (namesAfter k n) 1 0
 
-    pub row-first : not s0 ≡ true → false ≡ answer
-    unfolding sharesAll
-    row-first z = sym (read ∙ rw (sym first ∙ not-true s0 z))
+  pub looked : {n n′ a b : ℕ} {x y : Pt} {s r : Seen} → n ≡ n′ → Packs x a → Packs y b → Counted m k n a b s r → Looked n′ x y s r
+  looked {x = x} {y} {s} {r} e p q c = subst (λ i. Looked i x y s r) e (record { shared = c .shared x y p q; before = c .before; after = c .after })
 
-    module _ (z0 : not s0 ≡ false) {n1 : ℕ} (f1 : n1 ≡ neighbour t 1) {s1 : Bool} (e1 : s1 ≡ sharesEdge m k n1 (vertex t 2) (vertex t 0)) where
-      second : s1 ≡ sharesEdge m k (t .n1) (t .v2) (t .v0)
-      unfolding neighbour vertex
-      second = e1 ∙ ap (λ n. sharesEdge m k n (t .v2) (t .v0)) f1
+  module _ {s s0 : Seen} (a : Looked (neighbour t 0) (vertex t 1) (vertex t 2) s s0) where
+    pub row-first : not (s0 .shared) ≡ true → Row s s0
+    unfolding sharesAll neighbour vertex
+    row-first z =
+        let e = not-true (s0 .shared) z in
+        here (record { shared = e ∙ sym (rw (sym (a .shared) ∙ e)); before = λ f. differ (sym e ∙ f); after = λ f. differ (sym e ∙ f) })
 
-      pub row-second : not s1 ≡ true → false ≡ answer
-      unfolding sharesAll
-      row-second z = sym (read ∙ rw (sym first ∙ not-false s0 z0, sym second ∙ not-true s1 z))
-
-      pub row-third : not s1 ≡ false → {n2 : ℕ} {s2 : Bool} → n2 ≡ neighbour t 2 → s2 ≡ sharesEdge m k n2 (vertex t 0) (vertex t 1) → s2 ≡ answer
+    module _ (z0 : not (s0 .shared) ≡ false) {s1 : Seen} (b : Looked (neighbour t 1) (vertex t 2) (vertex t 0) s0 s1) where
+      pub row-second : not (s1 .shared) ≡ true → Row s s1
       unfolding sharesAll neighbour vertex
-      row-third z f2 e2 = e2 ∙ ap (λ n. sharesEdge m k n (t .v0) (t .v1)) f2 ∙ sym (read ∙ rw (sym first ∙ not-false s0 z0, sym second ∙ not-false s1 z))
+      row-second z =
+          let e = not-true (s1 .shared) z in
+          here (record { shared = e ∙ sym (rw (sym (a .shared) ∙ not-false (s0 .shared) z0, sym (b .shared) ∙ e)); before = λ f. differ (sym e ∙ f); after = λ f. differ (sym e ∙ f) })
+
+      pub row-third : not (s1 .shared) ≡ false → {r : Seen} → Looked (neighbour t 2) (vertex t 0) (vertex t 1) s1 r → Row s r
+      unfolding sharesAll sidesWith neighbour vertex
+      row-third z c =
+          here (record {
+            shared = c .shared ∙ sym (rw (sym (a .shared) ∙ not-false (s0 .shared) z0, sym (b .shared) ∙ not-false (s1 .shared) z));
+            before = λ f. omega (arith, a .before, b .before, c .before);
+            after = λ f. omega (arith, a .after, b .after, c .after);
+          })

@@ -2,9 +2,8 @@
 -- total, then of the sides. Of a side less is asked than faults 3, 4 and 5 do: the rest follows where every doubled area is above 0. Assumes nothing.
 use mathlib.Core.Bool.{Bool, true, false, not, cond}
 use mathlib.Core.List.{List, [], _∷_}
-use Prim.Native.Nat.{ℕ, suc}
-use lib.Dec.{eqb, leb}
-use lib.ListN.{length}
+use Prim.Native.Nat.{ℕ, suc, _+_}
+use lib.Dec.{eqb, ltb}
 use lib.IntN.{ℤ, pos, _+ℤ_}
 use lib.Signed.{leZ, ltZ}
 use Rattle.plane.specs.Plane.{Pt, eqPt}
@@ -21,9 +20,16 @@ sharesBack u k a b =
     (cond (eqb (u .n1) k) (sameEdge (u .v2) (u .v0) b a)
     (cond (eqb (u .n2) k) (sameEdge (u .v0) (u .v1) b a) false))
 
--- of triangle k's side from a to b, across which it names n: n is none, or a triangle of the mesh that shares the edge
+-- a side of triangle k that names n: a triangle before its own; or another number than none, which where every edge is shared is a triangle after it
+abbrev pub namesBefore : ℕ → ℕ → Bool
+namesBefore k n = ltb n k
+
+abbrev pub namesAfter : ℕ → ℕ → Bool
+namesAfter k n = cond (ltb n k) false (not (eqb n none))
+
+-- of triangle k's side from a to b, across which it names n: a triangle before its own shares the edge
 unfoldable pub sharesEdge : Mesh → ℕ → ℕ → Pt → Pt → Bool
-sharesEdge m k n a b = cond (eqb n none) true (cond (leb (length m) n) false (sharesBack (triangleAt m n) k a b))
+sharesEdge m k n a b = cond (namesBefore k n) (sharesBack (triangleAt m n) k a b) true
 
 -- of triangle k, t: its three sides do
 unfoldable pub sharesAll : Mesh → ℕ → Triangle → Bool
@@ -44,6 +50,18 @@ unfoldable pub linkedFrom : Mesh → ℕ → List Triangle → Bool
 linkedFrom m k [] = true
 linkedFrom m k (t ∷ l) = cond (sharesAll m k t) (linkedFrom m (suc k) l) false
 
+-- how many sides of triangle k, t, pass a test of k and the number named, and of all triangles from k on
+unfoldable pub sidesWith : (ℕ → ℕ → Bool) → ℕ → Triangle → ℕ
+sidesWith test k t = cond (test k (t .n0)) 1 0 + cond (test k (t .n1)) 1 0 + cond (test k (t .n2)) 1 0
+
+unfoldable pub sidesFrom : (ℕ → ℕ → Bool) → ℕ → List Triangle → ℕ
+sidesFrom test k [] = 0
+sidesFrom test k (t ∷ l) = sidesWith test k t + sidesFrom test (suc k) l
+
+-- the second pass: each edge is shared, asked from its later triangle, and the earlier one has as many sides: so there is none that was not asked for
+abbrev pub linked : Mesh → Bool
+linked m = cond (linkedFrom m 0 m) (eqb (sidesFrom namesBefore 0 m) (sidesFrom namesAfter 0 m)) false
+
 -- both passes
 abbrev pub clean : Mesh → Bool
-clean m = cond (soundFrom (pos 0) m) (linkedFrom m 0 m) false
+clean m = cond (soundFrom (pos 0) m) (linked m) false

@@ -2,3 +2,4 @@
 pub mod Totals
 pub mod Packed
 pub mod Clean
+pub mod Counted

@@ -3,16 +3,17 @@
 // second's jumps from neighbour to neighbour cost little. Leans on mesh.
 ghost use mathlib.Core.Path.{_≡_};
 ghost use mathlib.Core.Bool.{cond};
-ghost use Prim.Native.Nat.{_<_};
+ghost use Prim.Native.Nat.{_+_, _<_, _≤_, _^_};
 ghost use lib.ListN.{length};
 ghost use lib.IntN.{pos, _+ℤ_};
 ghost use lib.Signed.{leZ, _≤ℤ_};
 ghost use Rattle.plane.specs.Plane.{Pt};
-ghost use Rattle.mesh.specs.Mesh.{vertex, triangleAt, triangleOff, triangleArea};
+ghost use Rattle.mesh.specs.Mesh.{vertex, triangleAt, triangleOff, triangleArea, maxTriangles};
 ghost use Rattle.mesh.specs.Rows.{rowTriangle, rowsMesh, RowOnGrid};
 ghost use Rattle.mesh_clean.specs.Totals.{addedOf};
 ghost use Rattle.mesh_clean.specs.Packed.{Packs};
-ghost use Rattle.mesh_clean.specs.Clean.{sharesBack, sharesEdge, sharesAll, sound, soundFrom, linkedFrom, clean};
+ghost use Rattle.mesh_clean.specs.Clean.{sharesBack, sound, soundFrom, linked, clean};
+ghost use Rattle.mesh_clean.specs.Counted.{Counted, RowCounted};
 use mesh::NIL_INDEX;
 
 // Whether a coordinate of a row is off the grid.
@@ -123,55 +124,89 @@ fn names_back(far: [i32; 9], k: usize, a: u64, b: u64) -> bool
     to == a
 }
 
-// Whether n, the neighbour of triangle k across the edge from a to b, is none, or in the mesh with its first side that names k running from b to a.
-// That n is not k, and that each names the other once, is not asked: no two vertices of a row are one point, so it follows.
-fn shares_edge(mesh: &[[i32; 9]], k: usize, n: usize, a: u64, b: u64) -> bool
-    ensures { λ r. ⌜ ((p q : Pt) → Packs p a → Packs q b → r ≡ sharesEdge (rowsMesh (now (mesh .entry))) k n p q) ⌝ }
-{
-    if n == NIL_INDEX {
-        return true;
-    }
-    if n >= mesh.len() {
-        return false;
-    }
-    names_back(mesh[n], k, a, b)
+// What the second pass has seen so far: whether every edge that it asked for is shared, and how many sides name a triangle before their own, and after it.
+pub struct Seen {
+    pub shared: bool,
+    pub before: usize,
+    pub after: usize,
 }
 
-// Whether the edges of triangle k are shared.
-fn row_linked(mesh: &[[i32; 9]], k: usize) -> bool
-    requires { ⌜ k < length (now mesh) ⌝ }
-    ensures { λ r. ⌜ r ≡ sharesAll (rowsMesh (now (mesh .entry))) k (triangleAt (rowsMesh (now (mesh .entry))) k) ⌝ }
+// 1 where a test holds, else 0; no branch, for what cannot be foretold.
+fn one_if(test: bool) -> usize
+    ensures { λ r. ⌜ (r ≡ cond test 1 0) × (r ≤ 1) ⌝ }
+{
+    if test {
+        return 1;
+    }
+    0
+}
+
+// The side of triangle k across whose edge, from a to b, it names n: counted, and where n is before k, whether n's first side that names k runs from b to a.
+// A side that names a triangle after its own, or none, is only counted: one branch tells it from the rest, and each shared edge is compared once.
+fn count_side(mesh: &[[i32; 9]], k: usize, n: usize, a: u64, b: u64, s: Seen) -> Seen
+    requires { ⌜ (k < length (now mesh)) × (s .before < 2 ^ 32) × (s .after < 2 ^ 32) ⌝ }
+    ensures { λ r. ⌜ Counted (rowsMesh (now (mesh .entry))) k n a b s r ⌝ }
+{
+    if n < k {
+        let shared = names_back(mesh[n], k, a, b);
+        return Seen {
+            shared: shared,
+            before: s.before + 1,
+            after: s.after,
+        };
+    }
+    let more = one_if(n != NIL_INDEX);
+    Seen {
+        shared: true,
+        before: s.before,
+        after: s.after + more,
+    }
+}
+
+// The three sides of triangle k, up to the first whose edge is not shared.
+fn count_row(mesh: &[[i32; 9]], k: usize, s: Seen) -> Seen
+    requires { ⌜ (k < length (now mesh)) × (s .before + 2 < 2 ^ 32) × (s .after + 2 < 2 ^ 32) ⌝ }
+    ensures { λ r. ⌜ RowCounted (rowsMesh (now (mesh .entry))) k (triangleAt (rowsMesh (now (mesh .entry))) k) s r ⌝ }
 {
     let row = mesh[k];
     let v0 = packed_of(row, 0);
     let v1 = packed_of(row, 1);
     let v2 = packed_of(row, 2);
-    if !shares_edge(mesh, k, mesh::neighbor_of(row, 0), v1, v2) {
-        return false;
+    let s0 = count_side(mesh, k, mesh::neighbor_of(row, 0), v1, v2, s);
+    if !s0.shared {
+        return s0;
     }
-    if !shares_edge(mesh, k, mesh::neighbor_of(row, 1), v2, v0) {
-        return false;
+    let s1 = count_side(mesh, k, mesh::neighbor_of(row, 1), v2, v0, s0);
+    if !s1.shared {
+        return s1;
     }
-    shares_edge(mesh, k, mesh::neighbor_of(row, 2), v0, v1)
+    count_side(mesh, k, mesh::neighbor_of(row, 2), v0, v1, s1)
 }
 
-// The second pass: whether every triangle's edges are shared.
+// The second pass: whether the edge of every side that names a triangle before its own is shared, and there are as many sides that name one after it.
 fn all_linked(mesh: &[[i32; 9]]) -> bool
-    ensures { λ r. ⌜ r ≡ linkedFrom (rowsMesh (now (mesh .entry))) 0 (rowsMesh (now (mesh .entry))) ⌝ }
+    requires { ⌜ length (now mesh) ≤ maxTriangles ⌝ }
+    ensures { λ r. ⌜ r ≡ linked (rowsMesh (now (mesh .entry))) ⌝ }
 {
+    let mut s = Seen {
+        shared: true,
+        before: 0,
+        after: 0,
+    };
     let mut k: usize = 0;
     while k < mesh.len() {
-        if !row_linked(mesh, k) {
+        s = count_row(mesh, k, s);
+        if !s.shared {
             return false;
         }
         k += 1;
     }
-    true
+    s.before == s.after
 }
 
-// Whether every triangle is sound, their doubled areas add up to at most 2^63 - 1, and every edge is shared. Then a mesh of at most 1,024 triangles has no
-// fault.
+// Whether every triangle is sound, their doubled areas add up to at most 2^63 - 1, and every edge is shared. Then the mesh has no fault.
 pub fn is_clean(mesh: &[[i32; 9]]) -> bool
+    requires { ⌜ length (now mesh) ≤ maxTriangles ⌝ }
     ensures { λ r. ⌜ r ≡ clean (rowsMesh (now (mesh .entry))) ⌝ }
 {
     if !all_sound(mesh) {

@@ -1,6 +1,6 @@
 // Joining with parts past a corner limit split (advanced/convex.rs): `to_convex_polygons_with_max_vertices`, with no `requires`. Its answer and both lent
 // buffers equal `splitCounts`, `splitStarts` and `splitCorners` of split/specs/Splitting.antt. The joined parts are gathered, each is split into
-// further buffers, and all are handed out once there is room. The work arrays come in three sizes by the mesh's, so that a small mesh does not wait for
+// further buffers, and all are handed out once there is room. The work arrays come in four sizes by the mesh's, so that a small mesh does not wait for
 // the filling of large ones. Leans on convex_regions, split_contour and convex_gather.
 ghost use mathlib.Core.Path.{_≡_};
 ghost use Prim.Native.Nat.{_+_, _<_, _≤_, max};
@@ -9,11 +9,12 @@ ghost use mathlib.Core.List.{[]};
 ghost use Rattle.integers.specs.Faults.{firstFault};
 ghost use Rattle.mesh.specs.Mesh.{maxTriangles, meshKinds};
 ghost use Rattle.mesh.specs.Rows.{rowsMesh};
-ghost use Rattle.convex_regions.specs.Parts.{tiny, small};
+ghost use Rattle.convex_regions.specs.Parts.{tiny, small, medium};
 ghost use Rattle.split.specs.Splitting.{raised, splitContour, splitCounts, splitStarts, splitCorners};
 ghost use Rattle.convex_gather.specs.Gather.{Gathered, RoomFor, PartsAppended};
 ghost use Rattle.split_parts.specs.Parts.{partsIn, Splittable, splitEach, WorkRoom};
 use convex_gather::Tally;
+use convex_regions::MEDIUM;
 use convex_regions::SMALL;
 use convex_regions::TINY;
 use split::ConvexSplitStrategy;
@@ -161,6 +162,36 @@ fn split_small(
     )
 }
 
+// The parts of a medium mesh that is accepted.
+fn split_medium(
+    mesh: &[[i32; 9]],
+    limit: u32,
+    strategy: ConvexSplitStrategy,
+    starts: &mut [u32],
+    corners: &mut [i32],
+) -> Counts
+    requires { ⌜ (length (now mesh) ≤ medium) × (firstFault (meshKinds (rowsMesh (now mesh))) ≡ 0) ⌝ }
+    ensures counts { λ r. ⌜ r ≡ splitCounts strategy limit (rowsMesh (now (mesh .entry))) (now (starts .entry)) (now (corners .entry)) ⌝ }
+    ensures starts { λ r. ⌜ now (starts .exit) ≡ splitStarts strategy limit (rowsMesh (now (mesh .entry))) (now (starts .entry)) (now (corners .entry)) ⌝ }
+    ensures corners { λ r. ⌜ now (corners .exit) ≡ splitCorners strategy limit (rowsMesh (now (mesh .entry))) (now (starts .entry)) (now (corners .entry)) ⌝ }
+{
+    let mut begins = [0u32; MEDIUM + 1];
+    let mut joined = [[0i32; 2]; 3 * MEDIUM];
+    let mut split_begins = [0u32; 2 * MEDIUM + 1];
+    let mut points = [[0i32; 2]; 6 * MEDIUM];
+    split_within(
+        mesh,
+        limit,
+        strategy,
+        &mut begins,
+        &mut joined,
+        &mut split_begins,
+        &mut points,
+        starts,
+        corners,
+    )
+}
+
 // The parts of any mesh that is accepted.
 fn split_large(
     mesh: &[[i32; 9]],
@@ -214,6 +245,9 @@ pub fn to_convex_polygons_with_max_vertices(
     }
     if n <= SMALL {
         return split_small(mesh, limit, strategy, starts, corners);
+    }
+    if n <= MEDIUM {
+        return split_medium(mesh, limit, strategy, starts, corners);
     }
     split_large(mesh, limit, strategy, starts, corners)
 }

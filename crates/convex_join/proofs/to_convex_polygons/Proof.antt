@@ -1,4 +1,4 @@
--- `convex_join::to_convex_polygons` meets its contract: a refusal by convex_gather's `mesh-refused`, an answer by the three sizes. Assumes nothing.
+-- `convex_join::to_convex_polygons` meets its contract: a refusal by convex_gather's `mesh-refused`, an answer by the four sizes. Assumes nothing.
 use borrow.Author.Needs.{needs}
 use mathlib.Core.Path.{sym, _∙_}
 use Rattle.mesh.specs.Rows.{rowsMesh}
@@ -46,12 +46,8 @@ same-length-4 c = search needs
 returns-3 : tie.Need-returns-3
 returns-3 c = search needs
 
-join-large-requires : tie.Need-join-large-requires
-join-large-requires c κs =
-    let f = c .before .before .before .before .before in
-    let s = f .before .before in
-    let e = sym (f .mesh-fault .ensures) ∙ c .before .before .before .before .if1 .left in
-    (few-rows (s .args .mesh .now) e, e)
+join-medium-requires : tie.Need-join-medium-requires
+join-medium-requires c κs = search needs
 
 same-length-5 : tie.Need-same-length-5
 same-length-5 c = search needs
@@ -61,6 +57,22 @@ same-length-6 c = search needs
 
 returns-4 : tie.Need-returns-4
 returns-4 c = search needs
+
+join-large-requires : tie.Need-join-large-requires
+join-large-requires c κs =
+    let f = c .before .before .before .before .before .before in
+    let s = f .before .before in
+    let e = sym (f .mesh-fault .ensures) ∙ c .before .before .before .before .before .if1 .left in
+    (few-rows (s .args .mesh .now) e, e)
+
+same-length-7 : tie.Need-same-length-7
+same-length-7 c = search needs
+
+same-length-8 : tie.Need-same-length-8
+same-length-8 c = search needs
+
+returns-5 : tie.Need-returns-5
+returns-5 c = search needs
 
 pub to-convex-polygons-spec : {M : Type 1} → statement M
 to-convex-polygons-spec =
@@ -77,7 +89,11 @@ to-convex-polygons-spec =
     same-length-3
     same-length-4
     returns-3
-    join-large-requires
+    join-medium-requires
     same-length-5
     same-length-6
-    returns-4)
+    returns-4
+    join-large-requires
+    same-length-7
+    same-length-8
+    returns-5)

@@ -1,29 +1,32 @@
 -- `mesh_clean::all_linked` meets its contract: the invariant is `Linking` of Passes. Assumes nothing.
-use mathlib.Core.Path.{refl, sym, _∙_}
+use mathlib.Core.Path.{refl}
 use Prim.Native.Nat.{_≤_, _-_}
 use native.Mathlib.Omega.{arith}
 use borrow.Author.Tests.{not-true, not-false}
 use lib.ListN.{length}
-use Rattle.mesh_clean.proofs.Passes.{Linking, linking-row, linking-next, linking-end}
+use Rattle.mesh_clean.proofs.Passes.{Linking, linking-start, linking-row, linking-next, linking-end}
 use Rattle.mesh_clean.proofs.all_linked.Statement.{statement}
 use Rattle.mesh_clean.proofs.all_linked.Tie as tie
 
 abbrev Inv-loop : tie.InvT-loop
-Inv-loop mesh k₀ k = (k ≤ length mesh) × Linking mesh k
+Inv-loop mesh s₀ k₀ s k = (k ≤ length mesh) × Linking mesh k s
 
 abbrev μ-loop : tie.MeasureT-loop
-μ-loop mesh k₀ k = length mesh - k
+μ-loop mesh s₀ k₀ s k = length mesh - k
 
 loop-holds : tie.Need-loop-holds Inv-loop μ-loop
-loop-holds c = (omega arith, refl)
+loop-holds c = (omega arith, linking-start (c .args .mesh .now) _ refl refl)
 
-row-linked-requires : tie.Need-row-linked-requires Inv-loop μ-loop
-row-linked-requires c κs = omega arith
+count-row-requires : tie.Need-count-row-requires Inv-loop μ-loop
+count-row-requires c κs =
+    let l = c .before in
+    (omega arith, omega (arith, l .loop .inv .1 .few-before, l .before .pre), omega (arith, l .loop .inv .1 .few-after, l .before .pre))
 
 returns : tie.Need-returns Inv-loop μ-loop
 returns c =
-    let l = c .before .before .before in
-    linking-row (l .before .args .mesh .now) (l .loop .k) (omega arith) (l .loop .inv .1) (sym (c .before .row-linked .ensures) ∙ not-true _ (c .if1 .taken))
+    let r = c .before .before in
+    let l = r .before .before in
+    linking-row (l .before .args .mesh .now) (l .loop .k) (omega arith) (l .loop .inv .1) (r .count-row .ensures) (not-true _ (c .if1 .taken))
 
 add-k : tie.Need-add-k Inv-loop μ-loop
 add-k c = omega arith
@@ -33,11 +36,12 @@ loop-less c = omega arith
 
 loop-again : tie.Need-loop-again Inv-loop μ-loop
 loop-again c =
-    let l = c .before .before .before in
-    (omega arith, linking-next (l .before .args .mesh .now) (l .loop .k) (omega arith) (l .loop .inv .1) (sym (c .before .row-linked .ensures) ∙ not-false _ (c .if1 .left)))
+    let r = c .before .before in
+    let l = r .before .before in
+    (omega arith, linking-next (l .before .args .mesh .now) (l .loop .k) (omega arith) (l .loop .inv .1) (r .count-row .ensures) (not-false _ (c .if1 .left)))
 
 returns-2 : tie.Need-returns-2 Inv-loop μ-loop
-returns-2 c = linking-end (c .before .before .args .mesh .now) (c .before .loop .k) (omega arith) (c .before .loop .inv .1)
+returns-2 c = let l = c .before .before in linking-end (l .before .args .mesh .now) (l .loop .k) (omega arith) (l .loop .inv .1)
 
 pub all-linked-spec : {M : Type 1} → statement M
 all-linked-spec =
@@ -46,7 +50,7 @@ all-linked-spec =
     Inv-loop
     μ-loop
     loop-holds
-    row-linked-requires
+    count-row-requires
     returns
     add-k
     loop-less

@@ -1,4 +1,4 @@
--- `split_parts::to_convex_polygons_with_max_vertices` meets its contract: a refusal by convex_gather's `mesh-refused`, an answer by the three sizes.
+-- `split_parts::to_convex_polygons_with_max_vertices` meets its contract: a refusal by convex_gather's `mesh-refused`, an answer by the four sizes.
 -- Assumes nothing.
 use mathlib.Core.Path.{sym, _∙_}
 use Rattle.mesh.specs.Rows.{rowsMesh}
@@ -48,12 +48,8 @@ same-length-4 c = search needs
 returns-3 : tie.Need-returns-3
 returns-3 c = search needs
 
-split-large-requires : tie.Need-split-large-requires
-split-large-requires c κs =
-    let f = c .before .before .before .before .before in
-    let s = f .before .before in
-    let e = sym (f .mesh-fault .ensures) ∙ c .before .before .before .before .if1 .left in
-    (few-rows (s .args .mesh .now) e, e)
+split-medium-requires : tie.Need-split-medium-requires
+split-medium-requires c κs = search needs
 
 same-length-5 : tie.Need-same-length-5
 same-length-5 c = search needs
@@ -63,6 +59,22 @@ same-length-6 c = search needs
 
 returns-4 : tie.Need-returns-4
 returns-4 c = search needs
+
+split-large-requires : tie.Need-split-large-requires
+split-large-requires c κs =
+    let f = c .before .before .before .before .before .before in
+    let s = f .before .before in
+    let e = sym (f .mesh-fault .ensures) ∙ c .before .before .before .before .before .if1 .left in
+    (few-rows (s .args .mesh .now) e, e)
+
+same-length-7 : tie.Need-same-length-7
+same-length-7 c = search needs
+
+same-length-8 : tie.Need-same-length-8
+same-length-8 c = search needs
+
+returns-5 : tie.Need-returns-5
+returns-5 c = search needs
 
 pub to-convex-polygons-with-max-vertices-spec : {M : Type 1} → statement M
 to-convex-polygons-with-max-vertices-spec =
@@ -79,7 +91,11 @@ to-convex-polygons-with-max-vertices-spec =
     same-length-3
     same-length-4
     returns-3
-    split-large-requires
+    split-medium-requires
     same-length-5
     same-length-6
-    returns-4)
+    returns-4
+    split-large-requires
+    same-length-7
+    same-length-8
+    returns-5)
