@@ -1,5 +1,5 @@
 -- How many corners: a region of t triangles has t + 2 corners, at each step of the zipper too (`sized-step`, for the room that the work needs), and
--- its part no more (`part-size`, `parts-short`); the regions are no more than the triangles (`regions-few`), and all parts' corners no more than three
+-- its part no more (`part-size`, `parts-within`, `parts-short`); the regions are no more than the triangles (`regions-few`), and all parts' corners no more than three
 -- times as many (`parts-size`), or two for each part and one for each triangle (`parts-corners`). Within the part table's limits: 1,024 + 2 = 1,026 corners a contour, 3 · 1,024 ≤ 8,192 corners, 1,024 ≤ 2,048 parts.
 -- Assumes an accepted mesh where it says so.
 use mathlib.Core.Path.{_≡_, sym, _∙_, ap, subst}
@@ -137,9 +137,12 @@ module _ (m : Mesh) (ok : Accepted m) where
       let e : length (r .taken ++ flatten (map (λ r. r .taken) R)) ≡ length (r .taken) + length (flatten (map (λ r. r .taken) R)) = length-append (r .taken) (flatten (map (λ r. r .taken) R)) in
       (omega arith, all-map R (λ q h. omega (arith, h)) (each-few R))
 
-  -- each part has 1,026 corners at the most
-  pub parts-short : All (λ l. length l ≤ maxContour) (parts m)
+  -- each part has at most two corners more than there are triangles, so 1,026 at the most
+  pub parts-within : All (λ l. length l ≤ length m + 2) (parts m)
   unfolding parts
-  parts-short =
-      all-image (λ l. length l ≤ maxContour) contourOf (regions m) .1
-      (all-map2 (regions m) (λ r h k. omega (arith, h .1, k, ok .few, length-once (regions-once m ok))) counted (each-few (regions m)))
+  parts-within =
+      all-image (λ l. length l ≤ length m + 2) contourOf (regions m) .1
+      (all-map2 (regions m) (λ r h k. omega (arith, h .1, k, length-once (regions-once m ok))) counted (each-few (regions m)))
+
+  pub parts-short : All (λ l. length l ≤ maxContour) (parts m)
+  parts-short = all-map (parts m) (λ l h. omega (arith, h, ok .few)) parts-within

@@ -79,17 +79,13 @@ fn join_large(mesh: &[[i32; 9]], starts: &mut [u32], corners: &mut [i32]) -> Cou
     join_within(mesh, &mut begins, &mut points, starts, corners)
 }
 
-// The convex parts of a mesh, joined from its triangles: starts and corners (x, y in turn) on the front of the lent buffers. A refusal (1, 2, 3, 4, 5,
-// 6, 11, 22 or 21) gives zero counts and changes nothing.
-pub fn to_convex_polygons(mesh: &[[i32; 9]], starts: &mut [u32], corners: &mut [i32]) -> Counts
+// The parts of an accepted mesh: starts and corners (x, y in turn) on the front of the lent buffers, or refused with 22 or 21.
+pub fn join_accepted(mesh: &[[i32; 9]], starts: &mut [u32], corners: &mut [i32]) -> Counts
+    requires { ⌜ firstFault (meshKinds (rowsMesh (now mesh))) ≡ 0 ⌝ }
     ensures counts { λ r. ⌜ r ≡ partsCounts (rowsMesh (now (mesh .entry))) (now (starts .entry)) (now (corners .entry)) ⌝ }
     ensures starts { λ r. ⌜ now (starts .exit) ≡ partsStarts (rowsMesh (now (mesh .entry))) (now (starts .entry)) (now (corners .entry)) ⌝ }
     ensures corners { λ r. ⌜ now (corners .exit) ≡ partsCorners (rowsMesh (now (mesh .entry))) (now (starts .entry)) (now (corners .entry)) ⌝ }
 {
-    let fault = mesh_faults::mesh_fault(mesh);
-    if fault != 0 {
-        return convex_gather::refusal(fault);
-    }
     let n = mesh.len();
     if n <= TINY {
         return join_tiny(mesh, starts, corners);
@@ -101,4 +97,18 @@ pub fn to_convex_polygons(mesh: &[[i32; 9]], starts: &mut [u32], corners: &mut [
         return join_medium(mesh, starts, corners);
     }
     join_large(mesh, starts, corners)
+}
+
+// The convex parts of a mesh, joined from its triangles: starts and corners (x, y in turn) on the front of the lent buffers. A refusal (1, 2, 3, 4, 5,
+// 6, 11, 22 or 21) gives zero counts and changes nothing.
+pub fn to_convex_polygons(mesh: &[[i32; 9]], starts: &mut [u32], corners: &mut [i32]) -> Counts
+    ensures counts { λ r. ⌜ r ≡ partsCounts (rowsMesh (now (mesh .entry))) (now (starts .entry)) (now (corners .entry)) ⌝ }
+    ensures starts { λ r. ⌜ now (starts .exit) ≡ partsStarts (rowsMesh (now (mesh .entry))) (now (starts .entry)) (now (corners .entry)) ⌝ }
+    ensures corners { λ r. ⌜ now (corners .exit) ≡ partsCorners (rowsMesh (now (mesh .entry))) (now (starts .entry)) (now (corners .entry)) ⌝ }
+{
+    let fault = mesh_faults::mesh_fault(mesh);
+    if fault != 0 {
+        return convex_gather::refusal(fault);
+    }
+    join_accepted(mesh, starts, corners)
 }

@@ -10,7 +10,7 @@ use lib.IntN.{ℤ, pos}
 use lib.Signed.{_≤ℤ_, _<ℤ_, leZ}
 use Rattle.integers.specs.Faults.{firstFault}
 use Rattle.integers.proofs.Faults.{first-none}
-use Rattle.integers.proofs.Tests.{differ, either-false, ltZ-≤, leZ-<}
+use Rattle.integers.proofs.Tests.{either-false, both-true, ltZ-≤, leZ-<}
 use Rattle.plane.specs.Plane.{eqPt, onGrid}
 use Rattle.plane.proofs.Edges.{eqPt-true}
 use Rattle.mesh.specs.Mesh.{Mesh, none, vertex, neighbour, after, before, triangleAt, triangleArea, tooMany, offGrid, strayNeighbour, named, misnamed, opposite, runsOppositely, mismatched, flat, meshArea, tooLarge, meshKinds, maxTriangles}
@@ -28,10 +28,6 @@ pub record Accepted (m : Mesh) : Type 0 where
       (vertex (triangleAt m k) (after i) ≡ vertex u (before (opposite u k))) × (vertex (triangleAt m k) (before i) ≡ vertex u (after (opposite u k)))
   pub turns-left : (k : ℕ) → k < length m → pos 0 <ℤ triangleArea (triangleAt m k)
   pub fits : meshArea m ≤ℤ pos 9223372036854775807
-
-both-true : (s t : Bool) → cond s t false ≡ true → (s ≡ true) × (t ≡ true)
-both-true true t h = (refl, h)
-both-true false t h = differ h
 
 module _ (m : Mesh) where
   pub grid-rule : offGrid m ≡ false → (k i : ℕ) → k < length m → onGrid (vertex (triangleAt m k) i) ≡ true

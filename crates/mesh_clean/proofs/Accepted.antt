@@ -1,5 +1,5 @@
--- A clean mesh of at most 1,024 triangles has no fault (`clean-accepted`): its triangles are sound and its areas fit (`sound-rows`), its edges are shared
--- (`linked-rows`), and each fault's test follows from Sides. Assumes nothing.
+-- A clean mesh of at most 1,024 triangles has no fault (`clean-accepted`): its triangles are sound and its areas fit (mesh_sound's `sound-rows`), each edge is
+-- shared that is asked for (`linked-rows`), so every edge is (Pairing), and each fault's test follows from Sides. Assumes nothing.
 use mathlib.Core.Path.{_≡_, refl, sym, _∙_, subst}
 use mathlib.Core.Bool.{Bool, true, false, cond}
 use mathlib.Core.List.{List, [], _∷_, map}
@@ -14,23 +14,15 @@ use Rattle.integers.specs.Faults.{firstFault}
 use Rattle.integers.specs.Lists.{sumℤ}
 use Rattle.integers.proofs.Faults.{first-next, first-empty}
 use Rattle.integers.proofs.Order.{zarith, add-parts, by-test}
-use Rattle.integers.proofs.Tests.{differ, ltZ-≤, leZ-<, ≤-ltZ}
+use Rattle.integers.proofs.Tests.{differ, both-true, leZ-<, ≤-ltZ}
 use Rattle.plane.specs.Plane.{Pt, eqPt}
 use Rattle.plane.proofs.Edges.{eqPt-true, eqPt-refl}
 use Rattle.mesh.specs.Mesh.{Mesh, Triangle, none, vertex, neighbour, after, before, triangleAt, triangleArea, triangleOff, someFrom, some, someSide, shared, maxTriangles, tooMany, offGrid, strays, strayNeighbour, misnames, misnamed, opposite, runsOppositely, mismatches, mismatched, flat, meshArea, tooLarge, meshKinds}
-use Rattle.mesh_clean.specs.Clean.{sameEdge, sharesBack, namesBefore, namesAfter, sharesEdge, sharesAll, sound, soundFrom, linkedFrom, sidesFrom, linked, clean}
+use Rattle.mesh_sound.specs.Sound.{soundFrom}
+use Rattle.mesh_sound.proofs.Passes.{Sound, sound-rows}
+use Rattle.mesh_clean.specs.Clean.{sameEdge, sharesBack, namesBefore, namesAfter, sharesEdge, sharesAll, linkedFrom, sidesFrom, linked, clean}
 use Rattle.mesh_clean.proofs.Sides.{Meets, Shared, named-once, named-back, not-self}
 use Rattle.mesh_clean.proofs.Pairing.{paired}
-
--- ---- tests that hold
-
-both-true : (s t : Bool) → cond s t false ≡ true → (s ≡ true) × (t ≡ true)
-both-true true t h = (refl, h)
-both-true false t h = differ h
-
-not-then : (s t : Bool) → cond s false t ≡ true → (s ≡ false) × (t ≡ true)
-not-then true t h = differ h
-not-then false t h = (refl, h)
 
 -- ---- a side
 
@@ -59,32 +51,7 @@ shares-earlier : (m : Mesh) (k n : ℕ) (a b : Pt) → n < k → sharesEdge m k 
 unfolding sharesEdge
 shares-earlier m k n a b l h = rw (lt-ltb n k l) at h
 
--- ---- a triangle, and all of them
-
-pub record Sound (t : Triangle) : Type 0 where
-  pub on-grid : triangleOff t ≡ false
-  pub above : leZ (triangleArea t) (pos 0) ≡ false
-
-pub sound-parts : (t : Triangle) → sound t ≡ true → Sound t
-unfolding sound
-sound-parts t h =
-    let e = not-then (triangleOff t) _ h in
-    record { on-grid = e .0; above = not-true (leZ (triangleArea t) (pos 0)) (e .1) }
-
-sound-rows : (z : ℤ) (l : List Triangle) → z ≤ℤ pos 9223372036854775807 → soundFrom z l ≡ true
-    → ((i : ℕ) → i < length l → Sound (triangleAt l i)) × ((z +ℤ sumℤ (map triangleArea l)) ≤ℤ pos 9223372036854775807)
-unfolding soundFrom sumℤ
-sound-rows z [] g h = ((λ i l. absurd (omega arith)), omega (zarith, add-parts z (pos 0)))
-sound-rows z (t ∷ l) g h =
-    let s = sumℤ (map triangleArea l) in
-    let e = both-true (sound t) _ h in
-    let f = not-then (ltZ (pos 9223372036854775807) (z +ℤ triangleArea t)) (soundFrom (z +ℤ triangleArea t) l) (e .1) in
-    let r = sound-rows (z +ℤ triangleArea t) l (ltZ-≤ _ _ (f .0)) (f .1) in
-    (at (e .0) (r .0), omega (zarith, r .1, add-parts (z +ℤ triangleArea t) s, add-parts z (triangleArea t), add-parts z (triangleArea t +ℤ s), add-parts (triangleArea t) s))
-  where
-    at : sound t ≡ true → ((i : ℕ) → i < length l → Sound (triangleAt l i)) → (i : ℕ) → i < suc (length l) → Sound (triangleAt (t ∷ l) i)
-    at e f zero h = sound-parts t e
-    at e f (suc i) h = f i (omega arith)
+-- ---- all triangles
 
 linked-rows : (m : Mesh) (k : ℕ) (l : List Triangle) → linkedFrom m k l ≡ true → (i : ℕ) → i < length l → sharesAll m (k + i) (triangleAt l i) ≡ true
 unfolding linkedFrom

@@ -1,33 +1,20 @@
--- The two passes over the rows: what is known before row k (`Going` in the first, where z is the areas before it, `Linking` in the second), at the
--- start, where a row or the total ends the pass, at the next row, at the end. Assumes nothing.
+-- The second pass over the rows: what is known before row k (`Linking`), at the start, where a row ends the pass, at the next row, at the end. Assumes nothing.
 use mathlib.Core.Path.{_≡_, refl, sym, _∙_, ap}
 use mathlib.Core.Bool.{Bool, true, false, cond}
-use mathlib.Core.List.{List, [], _∷_}
+use mathlib.Core.List.{List}
 use Prim.Native.Nat.{ℕ, suc, _+_, _*_, _≤_, _<_}
 use native.Mathlib.Omega.{arith}
 use native.Mathlib.Numerals.{add-one}
 use lib.Dec.{eqb}
-use lib.ListN.{length, getD, drop, drop-of-length-le}
-use lib.Seq.{drop-cons}
-use lib.IntN.{ℤ, pos, _+ℤ_}
-use lib.Signed.{_≤ℤ_, _<ℤ_, ltZ}
-use Rattle.integers.proofs.Order.{zarith, add-parts}
-use Rattle.integers.proofs.Tests.{leZ-<, <-ltZ, ≤-ltZ}
-use Rattle.mesh.specs.Mesh.{Triangle, Mesh, noTriangle, triangleAt, triangleArea}
-use Rattle.mesh.specs.Rows.{rowTriangle, rowsMesh, RowOnGrid}
-use Rattle.mesh.proofs.Rows.{length-rows, triangle-row}
+use lib.ListN.{length, drop}
+use lib.IntN.{ℤ}
+use Rattle.mesh.specs.Mesh.{Triangle, Mesh, triangleAt}
+use Rattle.mesh.specs.Rows.{rowsMesh}
+use Rattle.mesh_sound.proofs.Passes.{past-rows, next-row}
 use Rattle.mesh_clean.specs.declared.Seen.{Seen}
-use Rattle.mesh_clean.specs.Clean.{namesBefore, namesAfter, sound, soundFrom, sharesAll, linkedFrom, sidesWith, sidesFrom, linked}
+use Rattle.mesh_clean.specs.Clean.{namesBefore, namesAfter, sharesAll, linkedFrom, sidesWith, sidesFrom, linked}
 use Rattle.mesh_clean.specs.Counted.{RowCounted}
-use Rattle.mesh_clean.proofs.Accepted.{sound-parts}
-use Rattle.mesh_clean.proofs.Tests.{on-grid, at-most}
-
-abbrev top : ℤ
-top = pos 9223372036854775807
-
-pub record Going (rows : List (List ℤ)) (k : ℕ) (z : ℤ) : Type 0 where
-  pub low : pos 0 ≤ℤ z
-  pub rest : soundFrom (pos 0) (rowsMesh rows) ≡ soundFrom z (drop k (rowsMesh rows))
+use Rattle.mesh_clean.proofs.Tests.{at-most}
 
 -- the edges from row k on decide, and what was counted before it is counted with theirs
 pub record Linking (rows : List (List ℤ)) (k : ℕ) (s : Seen) : Type 0 where
@@ -45,76 +32,28 @@ module _ (rows : List (List ℤ)) where
   abbrev m : Mesh
   m = rowsMesh rows
 
-  past-rows : (k : ℕ) → length rows ≤ k → drop k m ≡ []
-  past-rows k h = drop-of-length-le m {i = k} (omega (arith, length-rows rows))
-
-  next-row : (k : ℕ) → k < length rows → drop k m ≡ triangleAt m k ∷ drop (suc k) m
-  next-row k h = drop-cons m k noTriangle (omega (arith, length-rows rows))
-
-  -- ---- the first pass
-
-  pub going-start : Going rows 0 (pos 0)
-  going-start = record { low = omega zarith; rest = refl }
-
-  pub going-end : (k : ℕ) {z : ℤ} → length rows ≤ k → Going rows k z → true ≡ soundFrom (pos 0) m
-  unfolding soundFrom
-  going-end k {z} h g = sym (g .rest ∙ ap (soundFrom z) (past-rows k h))
-
-  module _ (k : ℕ) (h : k < length rows) where
-    abbrev t : Triangle
-    t = rowTriangle (getD rows k [])
-
-    abbrev area : ℤ
-    area = triangleArea t
-
-    pub row-on : sound t ≡ true → RowOnGrid (getD rows k [])
-    row-on e = on-grid (getD rows k []) (sound-parts t e .on-grid)
-
-    pub row-above : sound t ≡ true → pos 0 ≤ℤ area
-    row-above e = omega (zarith, leZ-< area (pos 0) (sound-parts t e .above))
-
-    module _ {z : ℤ} (g : Going rows k z) where
-      turn : soundFrom (pos 0) m ≡ cond (sound t) (cond (ltZ top (z +ℤ area)) false (soundFrom (z +ℤ area) (drop (suc k) m))) false
-      unfolding soundFrom
-      turn = g .rest ∙ ap (soundFrom z) (next-row k h ∙ ap (λ u. u ∷ drop (suc k) m) (triangle-row rows k h))
-
-      pub going-row : sound t ≡ false → false ≡ soundFrom (pos 0) m
-      going-row e = sym (turn ∙ rw e)
-
-      module _ (e : sound t ≡ true) where
-        pub going-past : top <ℤ (z +ℤ area) → false ≡ soundFrom (pos 0) m
-        going-past p = sym (turn ∙ rw (e, <-ltZ {x = top} {y = z +ℤ area} p))
-
-        pub going-next : (z +ℤ area) ≤ℤ top → Going rows (k + 1) (z +ℤ area)
-        going-next p = record {
-          low = omega (zarith, g .low, row-above e, add-parts z area);
-          rest = turn ∙ rw (e, ≤-ltZ {x = top} {y = z +ℤ area} p, add-one);
-        }
-
-  -- ---- the second pass
-
   pub linking-start : (s : Seen) → s .before ≡ 0 → s .after ≡ 0 → Linking rows 0 s
   linking-start s e f = record { rest = refl; before = omega arith; after = omega arith; few-before = omega arith; few-after = omega arith }
 
   none-left : (test : ℕ → ℕ → Bool) (k : ℕ) → length rows ≤ k → sidesFrom test k (drop k m) ≡ 0
   unfolding sidesFrom
-  none-left test k h = ap (sidesFrom test k) (past-rows k h)
+  none-left test k h = ap (sidesFrom test k) (past-rows rows k h)
 
   pub linking-end : (k : ℕ) {s : Seen} → length rows ≤ k → Linking rows k s → eqb (s .before) (s .after) ≡ linked m
   unfolding linkedFrom
   linking-end k {s} h g =
       let b : s .before ≡ sidesFrom namesBefore 0 m = omega (arith, g .before, none-left namesBefore k h) in
       let a : s .after ≡ sidesFrom namesAfter 0 m = omega (arith, g .after, none-left namesAfter k h) in
-      (λ i. eqb (b i) (a i)) ∙ sym (rw (g .rest ∙ ap (linkedFrom m k) (past-rows k h)))
+      (λ i. eqb (b i) (a i)) ∙ sym (rw (g .rest ∙ ap (linkedFrom m k) (past-rows rows k h)))
 
   module _ (k : ℕ) (h : k < length rows) {s : Seen} (g : Linking rows k s) {r : Seen} (c : RowCounted m k (triangleAt m k) s r) where
     linking-turn : linkedFrom m 0 m ≡ cond (sharesAll m k (triangleAt m k)) (linkedFrom m (suc k) (drop (suc k) m)) false
     unfolding linkedFrom
-    linking-turn = g .rest ∙ ap (linkedFrom m k) (next-row k h)
+    linking-turn = g .rest ∙ ap (linkedFrom m k) (next-row rows k h)
 
     counted-turn : (test : ℕ → ℕ → Bool) → sidesFrom test k (drop k m) ≡ sidesWith test k (triangleAt m k) + sidesFrom test (k + 1) (drop (k + 1) m)
     unfolding sidesFrom
-    counted-turn test = ap (sidesFrom test k) (next-row k h) ∙ rw add-one
+    counted-turn test = ap (sidesFrom test k) (next-row rows k h) ∙ rw add-one
 
     pub linking-row : r .shared ≡ false → false ≡ linked m
     linking-row e = let f : linkedFrom m 0 m ≡ false = linking-turn ∙ rw (sym (c .shared) ∙ e) in sym (rw f)

@@ -11,20 +11,14 @@ use lib.ListN.{length, getD}
 use lib.IntN.{ℤ}
 use Rattle.integers.proofs.Tests.{differ}
 use Rattle.plane.specs.Plane.{Pt}
-use Rattle.mesh.specs.Mesh.{Mesh, Triangle, none, vertex, neighbour, triangleAt, triangleOff, someFrom, offGrid}
-use Rattle.mesh.specs.Rows.{rowTriangle, rowsMesh, RowOnGrid}
+use Rattle.mesh.specs.Mesh.{Mesh, Triangle, none, vertex, neighbour, triangleAt}
+use Rattle.mesh.specs.Rows.{rowTriangle, rowsMesh}
 use Rattle.mesh.proofs.Rows.{triangle-row}
-use Rattle.mesh.proofs.Passes.{row-on-grid}
 use Rattle.mesh_clean.specs.Packed.{Packs}
 use Rattle.mesh_clean.specs.declared.Seen.{Seen}
 use Rattle.mesh_clean.specs.Clean.{sameEdge, sharesBack, namesBefore, namesAfter, sharesEdge, sharesAll, sidesWith}
 use Rattle.mesh_clean.specs.Counted.{Counted, RowCounted}
 use Rattle.mesh_clean.proofs.Packed.{packs-eq, none-apart}
-
--- a row that is not off the grid is on it
-pub on-grid : (row : List ℤ) → triangleOff (rowTriangle row) ≡ false → RowOnGrid row
-unfolding offGrid someFrom rowsMesh
-on-grid row e = row-on-grid (row ∷ []) 0 (omega arith) (rw e)
 
 -- ---- the side that names back
 

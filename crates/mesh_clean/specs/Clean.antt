@@ -4,10 +4,10 @@ use mathlib.Core.Bool.{Bool, true, false, not, cond}
 use mathlib.Core.List.{List, [], _∷_}
 use Prim.Native.Nat.{ℕ, suc, _+_}
 use lib.Dec.{eqb, ltb}
-use lib.IntN.{ℤ, pos, _+ℤ_}
-use lib.Signed.{leZ, ltZ}
+use lib.IntN.{pos}
 use Rattle.plane.specs.Plane.{Pt, eqPt}
-use Rattle.mesh.specs.Mesh.{Mesh, Triangle, none, triangleAt, triangleArea, triangleOff}
+use Rattle.mesh.specs.Mesh.{Mesh, Triangle, none, triangleAt}
+use Rattle.mesh_sound.specs.Sound.{soundFrom}
 
 -- the edge from a to b is the one from p to q
 unfoldable pub sameEdge : Pt → Pt → Pt → Pt → Bool
@@ -31,21 +31,12 @@ namesAfter k n = cond (ltb n k) false (not (eqb n none))
 unfoldable pub sharesEdge : Mesh → ℕ → ℕ → Pt → Pt → Bool
 sharesEdge m k n a b = cond (namesBefore k n) (sharesBack (triangleAt m n) k a b) true
 
--- of triangle k, t: its three sides do
+-- of triangle k, t: on its three sides
 unfoldable pub sharesAll : Mesh → ℕ → Triangle → Bool
 sharesAll m k t =
     cond (sharesEdge m k (t .n0) (t .v1) (t .v2)) (cond (sharesEdge m k (t .n1) (t .v2) (t .v0)) (sharesEdge m k (t .n2) (t .v0) (t .v1)) false) false
 
--- a triangle on the grid, its doubled area above 0
-unfoldable pub sound : Triangle → Bool
-sound t = cond (triangleOff t) false (not (leZ (triangleArea t) (pos 0)))
-
--- every triangle is sound, and no sum of their doubled areas, onto z, is past 2^63 - 1
-unfoldable pub soundFrom : ℤ → List Triangle → Bool
-soundFrom z [] = true
-soundFrom z (t ∷ l) = cond (sound t) (cond (ltZ (pos 9223372036854775807) (z +ℤ triangleArea t)) false (soundFrom (z +ℤ triangleArea t) l)) false
-
--- the triangles from k on share their edges
+-- and of all triangles from k on
 unfoldable pub linkedFrom : Mesh → ℕ → List Triangle → Bool
 linkedFrom m k [] = true
 linkedFrom m k (t ∷ l) = cond (sharesAll m k t) (linkedFrom m (suc k) l) false
@@ -58,7 +49,7 @@ unfoldable pub sidesFrom : (ℕ → ℕ → Bool) → ℕ → List Triangle → 
 sidesFrom test k [] = 0
 sidesFrom test k (t ∷ l) = sidesWith test k t + sidesFrom test (suc k) l
 
--- the second pass: each edge is shared, asked from its later triangle, and the earlier one has as many sides: so there is none that was not asked for
+-- the second pass: each edge is shared that is asked for, from its later triangle, and as many sides name a later triangle as were asked for: so there is none left
 abbrev pub linked : Mesh → Bool
 linked m = cond (linkedFrom m 0 m) (eqb (sidesFrom namesBefore 0 m) (sidesFrom namesAfter 0 m)) false
 

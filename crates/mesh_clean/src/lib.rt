@@ -1,88 +1,18 @@
-// Whether a mesh is clean (`is_clean`), which accepts most meshes at once; where it does not, mesh_faults tells the number, by the tests of a row that are
-// here too. Two passes: the first reads the rows in order (grid, areas, total), which brings a mesh that is not yet in the cache into it, so that the
-// second's jumps from neighbour to neighbour cost little. Leans on mesh.
+// Whether a mesh is clean (`is_clean`), which accepts most meshes at once; where it does not, mesh_faults tells the number. Two passes: the first (mesh_sound)
+// reads the rows in order, which brings a mesh that is not yet in the cache into it, so that the second's jumps from neighbour to neighbour cost little. The second
+// compares each shared edge once, from its later triangle, and counts: where the sides that name a later triangle are as many, none is left that was not asked
+// for (proofs/Pairing.antt). Leans on mesh_sound and mesh.
 ghost use mathlib.Core.Path.{_≡_};
 ghost use mathlib.Core.Bool.{cond};
 ghost use Prim.Native.Nat.{_+_, _<_, _≤_, _^_};
 ghost use lib.ListN.{length};
-ghost use lib.IntN.{pos, _+ℤ_};
-ghost use lib.Signed.{leZ, _≤ℤ_};
 ghost use Rattle.plane.specs.Plane.{Pt};
-ghost use Rattle.mesh.specs.Mesh.{vertex, triangleAt, triangleOff, triangleArea, maxTriangles};
-ghost use Rattle.mesh.specs.Rows.{rowTriangle, rowsMesh, RowOnGrid};
-ghost use Rattle.mesh_clean.specs.Totals.{addedOf};
+ghost use Rattle.mesh.specs.Mesh.{vertex, triangleAt, maxTriangles};
+ghost use Rattle.mesh.specs.Rows.{rowTriangle, rowsMesh};
 ghost use Rattle.mesh_clean.specs.Packed.{Packs};
-ghost use Rattle.mesh_clean.specs.Clean.{sharesBack, sound, soundFrom, linked, clean};
+ghost use Rattle.mesh_clean.specs.Clean.{sharesBack, linked, clean};
 ghost use Rattle.mesh_clean.specs.Counted.{Counted, RowCounted};
 use mesh::NIL_INDEX;
-
-// Whether a coordinate of a row is off the grid.
-pub fn row_off(row: [i32; 9]) -> bool
-    ensures { λ r. ⌜ r ≡ triangleOff (rowTriangle row) ⌝ }
-{
-    if !plane::on_grid(mesh::vertex_of(row, 0)) {
-        return true;
-    }
-    if !plane::on_grid(mesh::vertex_of(row, 1)) {
-        return true;
-    }
-    !plane::on_grid(mesh::vertex_of(row, 2))
-}
-
-// Whether a row's doubled area is not above 0.
-pub fn row_flat(row: [i32; 9]) -> bool
-    requires { ⌜ RowOnGrid row ⌝ }
-    ensures { λ r. ⌜ r ≡ leZ (triangleArea (rowTriangle row)) (pos 0) ⌝ }
-{
-    mesh::area_of(row) <= 0
-}
-
-// The sum of a total and an area, or whether it is past 2^63 - 1.
-pub enum Added {
-    Total(i64),
-    Past,
-}
-
-// total + area, where both are at least 0.
-pub fn add_area(total: i64, area: i64) -> Added
-    requires { ⌜ (pos 0 ≤ℤ total) × (pos 0 ≤ℤ area) ⌝ }
-    ensures { λ r. ⌜ r ≡ addedOf (total +ℤ area) ⌝ }
-{
-    if total > 9223372036854775807 - area {
-        return Added::Past;
-    }
-    Added::Total(total + area)
-}
-
-// Whether a row is on the grid and its doubled area above 0.
-fn row_sound(row: [i32; 9]) -> bool
-    ensures { λ r. ⌜ r ≡ sound (rowTriangle row) ⌝ }
-{
-    if row_off(row) {
-        return false;
-    }
-    !row_flat(row)
-}
-
-// The first pass: whether every row is sound and the doubled areas add up to at most 2^63 - 1.
-fn all_sound(mesh: &[[i32; 9]]) -> bool
-    ensures { λ r. ⌜ r ≡ soundFrom (pos 0) (rowsMesh (now (mesh .entry))) ⌝ }
-{
-    let mut total: i64 = 0;
-    let mut k: usize = 0;
-    while k < mesh.len() {
-        if !row_sound(mesh[k]) {
-            return false;
-        }
-        let sum = add_area(total, mesh::area_of(mesh[k]));
-        let Added::Total(next) = sum else {
-            return false;
-        };
-        total = next;
-        k += 1;
-    }
-    true
-}
 
 // Vertex i of a row as one number, its coordinates' 32 bits side by side, so that two points are compared at once.
 fn packed_of(row: [i32; 9], i: usize) -> u64
@@ -209,7 +139,7 @@ pub fn is_clean(mesh: &[[i32; 9]]) -> bool
     requires { ⌜ length (now mesh) ≤ maxTriangles ⌝ }
     ensures { λ r. ⌜ r ≡ clean (rowsMesh (now (mesh .entry))) ⌝ }
 {
-    if !all_sound(mesh) {
+    if !mesh_sound::all_sound(mesh) {
         return false;
     }
     all_linked(mesh)

@@ -1,6 +1,6 @@
 // The faults of a mesh: `mesh_fault` gives the first of 1, 2, 3, 4, 5, 6 and 11 that holds, as document 01 orders them, for any rows. 1 is a count;
 // most meshes are then accepted as clean (mesh_clean), and only where one is not are the passes made that tell the number: 3, 4 and 5 are one
-// (mesh_neighbors), 2, 6 and 11 one each, which may ask what those before it have shown. Leans on mesh_clean, mesh_neighbors and mesh.
+// (mesh_neighbors), 2, 6 and 11 one each, which may ask what those before it have shown. Leans on mesh_clean, mesh_sound, mesh_neighbors and mesh.
 ghost use mathlib.Core.Path.{_≡_};
 ghost use mathlib.Core.Bool.{false};
 ghost use Rattle.integers.specs.Faults.{firstFault};
@@ -14,7 +14,7 @@ fn off_grid(mesh: &[[i32; 9]]) -> bool
 {
     let mut k: usize = 0;
     while k < mesh.len() {
-        if mesh_clean::row_off(mesh[k]) {
+        if mesh_sound::row_off(mesh[k]) {
             return true;
         }
         k += 1;
@@ -29,7 +29,7 @@ fn flat(mesh: &[[i32; 9]]) -> bool
 {
     let mut k: usize = 0;
     while k < mesh.len() {
-        if mesh_clean::row_flat(mesh[k]) {
+        if mesh_sound::row_flat(mesh[k]) {
             return true;
         }
         k += 1;
@@ -45,8 +45,8 @@ fn too_large(mesh: &[[i32; 9]]) -> bool
     let mut total: i64 = 0;
     let mut k: usize = 0;
     while k < mesh.len() {
-        let sum = mesh_clean::add_area(total, mesh::area_of(mesh[k]));
-        let mesh_clean::Added::Total(next) = sum else {
+        let sum = mesh_sound::add_area(total, mesh::area_of(mesh[k]));
+        let mesh_sound::Added::Total(next) = sum else {
             return true;
         };
         total = next;

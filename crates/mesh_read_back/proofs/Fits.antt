@@ -1,4 +1,4 @@
--- What a line that is right says fits 32 bits. In order: tests; coordinates; points, neighbours and splits; triangles and the first line. Assumes nothing.
+-- What a line that is right says fits 32 bits. In order: coordinates; points, neighbours and splits; triangles and the first line. Assumes nothing.
 use mathlib.Core.Path.{_≡_, refl, sym, _∙_, ap, subst}
 use mathlib.Core.Bool.{Bool, true, false, cond}
 use mathlib.Core.List.{List, [], _∷_}
@@ -11,6 +11,7 @@ use mir.Syntax.{w32}
 use mir.Val.{SFits}
 use Rattle.integers.specs.Word.{unsigned}
 use Rattle.integers.proofs.Order.{by-test}
+use Rattle.integers.proofs.Tests.{both-true, not-then}
 use Rattle.plane.specs.Plane.{Pt}
 use Rattle.mesh.specs.Mesh.{Triangle}
 use Rattle.table.proofs.Words.{Word}
@@ -19,19 +20,6 @@ use Rattle.field_numbers.specs.Numbers.{valueOf, isNumber, isCoordinate, coordi
 use Rattle.field_numbers.proofs.Readings.{at-most}
 use Rattle.mesh_fields.specs.Entries.{sameBytes, isNone, isNeighbour, neighbourOf, isEar, isFan, splitOf, commaOf, xText, yText, isPoint, pointOf}
 use Rattle.mesh_lines.specs.Lines.{isLimit, isHead, arePoints, areNeighbours, isTriangle, triangleOf}
-
--- ---- tests
-
-true-false : true ≡ false → ⊥
-true-false q = let z : _≡_ {A = ℕ} 0 1 = ap (λ t. cond t 0 1) q in omega arith
-
-both : (a b : Bool) → cond a b false ≡ true → (a ≡ true) × (b ≡ true)
-both true b e = (refl, e)
-both false b e = absurd (true-false (sym e))
-
-second : (a b : Bool) → cond a false b ≡ true → b ≡ true
-second true b e = absurd (true-false (sym e))
-second false b e = e
 
 -- ---- coordinates
 
@@ -64,7 +52,7 @@ pub record PointFits (p : Pt) : Type 0 where
 point-fits : (l : List ℕ) → isPoint l ≡ true → PointFits (pointOf l)
 unfolding isPoint
 point-fits l e =
-    let w = both (isCoordinate (xText l)) (isCoordinate (yText l)) (second (eqb (commaOf l) 0) _ e) in
+    let w = both-true (isCoordinate (xText l)) (isCoordinate (yText l)) (not-then (eqb (commaOf l) 0) _ e .1) in
     record { x-fits = coordinate-fits (xText l) (w .0); y-fits = coordinate-fits (yText l) (w .1) }
 
 number-small : (l : List ℕ) → isNumber 4294967295 l ≡ true → Word (valueOf l)
@@ -98,12 +86,12 @@ pub record TriangleFits (t : Triangle) : Type 0 where
 pub triangle-fits : (l : List ℕ) → isTriangle l ≡ true → TriangleFits (triangleOf l)
 unfolding isTriangle arePoints areNeighbours
 triangle-fits l e =
-    let a = both (arePoints l) _ e in
-    let p = both (isPoint (fieldOf 0 l)) _ (a .0) in
-    let q = both (isPoint (fieldOf 1 l)) (isPoint (fieldOf 2 l)) (p .1) in
-    let b = both (areNeighbours l) _ (a .1) in
-    let m = both (isNeighbour (fieldOf 3 l)) _ (b .0) in
-    let n = both (isNeighbour (fieldOf 4 l)) (isNeighbour (fieldOf 5 l)) (m .1) in
+    let a = both-true (arePoints l) _ e in
+    let p = both-true (isPoint (fieldOf 0 l)) _ (a .0) in
+    let q = both-true (isPoint (fieldOf 1 l)) (isPoint (fieldOf 2 l)) (p .1) in
+    let b = both-true (areNeighbours l) _ (a .1) in
+    let m = both-true (isNeighbour (fieldOf 3 l)) _ (b .0) in
+    let n = both-true (isNeighbour (fieldOf 4 l)) (isNeighbour (fieldOf 5 l)) (m .1) in
     record {
       first = point-fits (fieldOf 0 l) (p .0);
       next = point-fits (fieldOf 1 l) (q .0);
@@ -115,4 +103,4 @@ triangle-fits l e =
 
 pub limit-small : (l : List ℕ) → isHead l ≡ true → Word (valueOf (fieldOf 1 l))
 unfolding isHead isLimit
-limit-small l e = number-small (fieldOf 1 l) (both (sameBytes (fieldOf 0 l) (108 ∷ 105 ∷ 109 ∷ 105 ∷ 116 ∷ [])) (isNumber 4294967295 (fieldOf 1 l)) (both (isLimit l) _ e .0) .1)
+limit-small l e = number-small (fieldOf 1 l) (both-true (sameBytes (fieldOf 0 l) (108 ∷ 105 ∷ 109 ∷ 105 ∷ 116 ∷ [])) (isNumber 4294967295 (fieldOf 1 l)) (both-true (isLimit l) _ e .0) .1)

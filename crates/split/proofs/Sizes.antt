@@ -1,14 +1,14 @@
 -- How many: each share of n things in ceil(n / b) groups is at least 1 and at most b (`shares-bound`), so each part of a contour that is split has from 3
 -- corners to the limit (`split-sizes`); ear clipping and fan make just ceil((n−2)/(m−2)) parts (`ear-count`, `fan-count`); a contour of n corners gives at
 -- most 2 (n − 2) parts and 6 (n − 2) corners (`split-few`), so all parts of a mesh are at most twice its triangles, with six corners for each
--- (`split-parts-few`), a part table within the limits. Assumes an accepted mesh where it says so.
+-- (`split-parts-few`), a part table within the limits; and a limit that no part is past leaves each whole (`split-whole`). Assumes an accepted mesh where it says so.
 use mathlib.Core.Path.{_≡_, refl, sym, _∙_, ap}
 use mathlib.Core.Bool.{Bool, true, false, cond}
 use mathlib.Core.List.{List, [], _∷_, _++_, map, flatten}
 use Prim.Native.Nat.{ℕ, zero, suc, _+_, _*_, _-_, _/_, _%_, _≤_, _<_}
 use native.Mathlib.Omega.{arith}
 use native.Mathlib.Nat.{div-add-mod, le-div-iff-mul-le, div-lt-iff-lt-mul, mul-le-mul-right, lt-div-mul-add, lt-of-mul-lt-mul-left}
-use borrow.Author.Tests.{eqb-false, leb-true, leb-false, ltb-true}
+use borrow.Author.Tests.{eqb-false, leb-true, leb-false, le-leb, ltb-true}
 use lib.Dec.{eqb, leb, ltb}
 use lib.ListN.{length, take, drop, length-append, length-take, length-drop}
 use lib.Seq.{length-take-le}
@@ -24,7 +24,7 @@ use Rattle.table.specs.Table.{startsOf, cornersOf, tableBroken, maxContour, max
 use Rattle.table.proofs.Rules.{limits-sound}
 use Rattle.convex.specs.Joining.{parts}
 use Rattle.convex.proofs.Parts.{convex-three, parts-convex}
-use Rattle.convex.proofs.Sizes.{parts-corners, parts-short}
+use Rattle.convex.proofs.Sizes.{parts-corners, parts-within, parts-short}
 use Rattle.split.specs.declared.ConvexSplitStrategy.{ConvexSplitStrategy}
 use Rattle.split.specs.declared.ConvexSplitStrategy.the-variants.{EarClipping, Fan, Centroid}
 use Rattle.split.specs.Splitting.{ceilDiv, sharesFrom, shares, triangleShares, clipped, earParts, fanned, fanParts, edgesTaken, groupParts, sectors, centreOf, centreServes, centroidParts, centredParts, raised, splitBy, splitContour, splitParts, SplitTable, SplitCount}
@@ -281,3 +281,15 @@ split-count m [] h = absurd (omega arith)
 split-count m (c ∷ l) h =
     let k = ceilDiv (suc (length l) - 2) (m - 2) in
     (length-clipped (triangleShares (suc (length l)) m) (c ∷ l) ∙ length-shares (suc (length l) - 2) k, length-fanned (triangleShares (suc (length l)) m) c l ∙ length-shares (suc (length l) - 2) k)
+
+-- ---- a limit that no part is past
+
+whole-all : (how : ConvexSplitStrategy) (m : ℕ) (ps : List (List Pt)) → All (λ l. length l ≤ m) ps → flatten (map (splitContour how m) ps) ≡ ps
+unfolding flatten splitContour
+whole-all how m [] h = refl
+whole-all how m (l ∷ ps) h = rw (le-leb (length l) m (h .0)) (ap (λ r. l ∷ r) (whole-all how m ps (h .1)))
+
+-- a part has at most two corners more than the mesh has triangles, so with such a limit each is left whole
+pub split-whole : (how : ConvexSplitStrategy) (m : ℕ) (mesh : Mesh) → Accepted mesh → length mesh + 2 ≤ raised m → splitParts how m mesh ≡ parts mesh
+unfolding splitParts
+split-whole how m mesh ok h = whole-all how (raised m) (parts mesh) (all-map (parts mesh) (λ l k. omega (arith, k)) (parts-within mesh ok))

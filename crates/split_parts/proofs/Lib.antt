@@ -1,2 +1,3 @@
--- Joined parts split one after another.
+-- Joined parts split one after another; a limit that leaves them whole.
 pub mod Each
+pub mod Whole

@@ -1,16 +1,16 @@
 // Joining with parts past a corner limit split (advanced/convex.rs): `to_convex_polygons_with_max_vertices`, with no `requires`. Its answer and both lent
-// buffers equal `splitCounts`, `splitStarts` and `splitCorners` of split/specs/Splitting.antt. The joined parts are gathered, each is split into
-// further buffers, and all are handed out once there is room. The work arrays come in four sizes by the mesh's, so that a small mesh does not wait for
-// the filling of large ones. Leans on convex_regions, split_contour and convex_gather.
+// buffers equal `splitCounts`, `splitStarts` and `splitCorners` of split/specs/Splitting.antt. Where no part can have more corners than the limit, that is joining.
+// Else the joined parts are gathered, each is split into further buffers, and all are handed out once there is room. The work arrays come in four sizes by the mesh's, so that a small mesh does not wait for
+// the filling of large ones. Leans on convex_join, convex_regions, split_contour and convex_gather.
 ghost use mathlib.Core.Path.{_≡_};
-ghost use Prim.Native.Nat.{_+_, _<_, _≤_, max};
+ghost use Prim.Native.Nat.{_+_, _<_, _≤_};
 ghost use lib.ListN.{length, getD};
 ghost use mathlib.Core.List.{[]};
 ghost use Rattle.integers.specs.Faults.{firstFault};
 ghost use Rattle.mesh.specs.Mesh.{maxTriangles, meshKinds};
 ghost use Rattle.mesh.specs.Rows.{rowsMesh};
 ghost use Rattle.convex_regions.specs.Parts.{tiny, small, medium};
-ghost use Rattle.split.specs.Splitting.{raised, splitContour, splitCounts, splitStarts, splitCorners};
+ghost use Rattle.split.specs.Splitting.{splitContour, splitCounts, splitStarts, splitCorners};
 ghost use Rattle.convex_gather.specs.Gather.{Gathered, RoomFor, PartsAppended};
 ghost use Rattle.split_parts.specs.Parts.{partsIn, Splittable, splitEach, WorkRoom};
 use convex_gather::Tally;
@@ -19,19 +19,6 @@ use convex_regions::SMALL;
 use convex_regions::TINY;
 use split::ConvexSplitStrategy;
 use table::Counts;
-
-// The least corner limit: "it raises any limit below 3 to 3" (document 01).
-pub const MIN_LIMIT: u32 = 3;
-
-// A limit below 3 raised to 3.
-fn raised(limit: u32) -> usize
-    ensures { λ r. ⌜ r ≡ raised limit ⌝ }
-{
-    if limit < MIN_LIMIT {
-        return MIN_LIMIT as usize;
-    }
-    limit as usize
-}
 
 // The parts of joined part k are appended.
 fn append_part(
@@ -97,7 +84,7 @@ fn split_within(
     ensures corners { λ r. ⌜ now (corners .exit) ≡ splitCorners strategy limit (rowsMesh (now (mesh .entry))) (now (starts .entry)) (now (corners .entry)) ⌝ }
 {
     let u = convex_regions::gather(mesh, begins, joined);
-    let most = raised(limit);
+    let most = split::raised(limit);
     let t = split_all(begins, joined, u, most, strategy, split_begins, points);
     convex_gather::hand_out(split_begins, points, t, starts, corners)
 }
@@ -240,6 +227,9 @@ pub fn to_convex_polygons_with_max_vertices(
         return convex_gather::refusal(fault);
     }
     let n = mesh.len();
+    if n <= split::raised(limit) - 2 {
+        return convex_join::join_accepted(mesh, starts, corners);
+    }
     if n <= TINY {
         return split_tiny(mesh, limit, strategy, starts, corners);
     }

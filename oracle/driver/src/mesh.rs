@@ -54,16 +54,22 @@ where
 // ---- inputs
 
 /// Every mesh of one triangle on a grid of 2 by 2, and of two that have an area,
-/// with neighbours none, in the mesh or one past it; the limits of number and area.
+/// with neighbours none, in the mesh or one past it; the limits of number and area, and
+/// of the sizes that work arrays come in.
 pub(crate) fn fixed() -> impl Iterator<Item = Mesh> {
     let one = |n| meshes::small_at(1, 2, n);
     let limits = [TRIANGLES - 1, TRIANGLES, TRIANGLES + 1].map(meshes::apart);
+    // each size of the work arrays and one triangle more: many regions, and one
+    let sizes = [16, 17, 128, 129, 512, 513];
+    let regions = sizes.map(|count| meshes::region(&meshes::parabola(count + 2)));
     let mut rng = Rng::new(0);
     let areas = [false, true].map(|one_more| meshes::area_limit(&mut rng, one_more));
     iter::once(Mesh::new())
         .chain((0..meshes::small_count(1, 2)).map(one))
         .chain(meshes::two_with_area())
         .chain(limits)
+        .chain(sizes.map(meshes::apart))
+        .chain(regions)
         .chain(areas)
 }
 
@@ -372,7 +378,7 @@ mod tests {
             assert!(report.passed(), "{report}");
             assert!(report.faults.values().all(|&times| times > 50), "{report}");
         }
-        let fixed = 1 + 64 * 27 + 768 * 768 + 3 + 2;
+        let fixed = 1 + 64 * 27 + 768 * 768 + 3 + 6 + 6 + 2;
         assert_eq!(faults.compared, fixed + COUNT / SHARE);
     }
 

@@ -9,8 +9,8 @@ use lib.Signed.{_≤ℤ_}
 use mir.Syntax.{w64}
 use mir.Val.{toZ}
 use Rattle.integers.proofs.Bits.{kept, got}
-use Rattle.mesh_clean.specs.Totals.{addedOf}
-use Rattle.mesh_clean.proofs.Totals.{total-of, past-of}
+use Rattle.mesh_sound.specs.Totals.{addedOf}
+use Rattle.mesh_sound.proofs.Totals.{total-of, past-of}
 use Rattle.mesh_faults.proofs.Areas.{Sum, sum-start, sum-next, sum-past, sum-end, row-above}
 use Rattle.mesh.proofs.Passes.{row-on-grid}
 use Rattle.mesh_faults.proofs.too_large.Statement.{statement}

@@ -202,18 +202,28 @@ const SPLIT_KINDS: &[(&str, Kind)] = &[
         cut_renumbered(rng, 16)
     }),
     ("2 triangles: a square", |rng, _| square(rng, 2)),
+    ("1 triangle", |rng, _| cut(rng, 1)),
 ];
 
-/// Few triangles, which most patterns are: one region, and many.
+/// Few triangles, which most patterns are, and each size of our work arrays with one
+/// triangle more, for which the next size is filled: one region, and many.
 const SMALL_KINDS: &[(&str, Kind, &[usize])] = &[
     (
         "one region, a polygon cut at random",
         cut_renumbered,
-        &[1, 8, 16, 64, 128],
+        &[1, 8, 16, 17, 64, 128, 129, 512, 513],
     ),
     ("one region, a square", square, &[2]),
-    ("many regions, an uneven strip", strip, &[8, 16, 64, 128]),
-    ("many regions, triangles apart", apart, &[2, 8, 16, 64, 128]),
+    (
+        "many regions, an uneven strip",
+        strip,
+        &[8, 16, 64, 128, 130, 512],
+    ),
+    (
+        "many regions, triangles apart",
+        apart,
+        &[2, 8, 16, 17, 64, 128, 129, 512, 513],
+    ),
 ];
 
 /// As many triangles as there may be: one region, some, and as many as triangles.

@@ -1,11 +1,11 @@
--- `mesh_clean::row_sound` meets its contract: the code's tests are the definition's. Assumes nothing.
+-- `mesh_sound::row_sound` meets its contract: the code's tests are the definition's. Assumes nothing.
 use mathlib.Core.Path.{sym, _∙_, ap}
 use mathlib.Core.Bool.{not}
 use borrow.Author.Needs.{needs}
-use Rattle.mesh_clean.specs.Clean.{sound}
-use Rattle.mesh_clean.proofs.Tests.{on-grid}
-use Rattle.mesh_clean.proofs.row_sound.Statement.{statement}
-use Rattle.mesh_clean.proofs.row_sound.Tie as tie
+use Rattle.mesh_sound.specs.Sound.{sound}
+use Rattle.mesh_sound.proofs.Passes.{on-grid}
+use Rattle.mesh_sound.proofs.row_sound.Statement.{statement}
+use Rattle.mesh_sound.proofs.row_sound.Tie as tie
 
 row-off-requires : tie.Need-row-off-requires
 row-off-requires c κs = search needs

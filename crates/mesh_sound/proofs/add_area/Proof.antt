@@ -1,4 +1,4 @@
--- `mesh_clean::add_area` meets its contract: total > 2^63 - 1 - area is total + area > 2^63 - 1. Assumes nothing.
+-- `mesh_sound::add_area` meets its contract: total > 2^63 - 1 - area is total + area > 2^63 - 1. Assumes nothing.
 use mathlib.Core.Path.{_≡_, refl, sym, _∙_, ap}
 use mathlib.Core.Bool.{true, false}
 use Prim.Native.Nat.{ℕ}
@@ -10,10 +10,10 @@ use Rattle.integers.proofs.Order.{zarith, add-parts, sub-parts}
 use Rattle.integers.proofs.Tests.{zneeds, <-ltZ, ≤-ltZ}
 use Rattle.integers.proofs.Sizes.{mag-parts}
 use Rattle.integers.proofs.Bits.{kept, kept-parts}
-use Rattle.mesh_clean.specs.declared.Added.the-variants.{Total, Past}
-use Rattle.mesh_clean.specs.Totals.{addedOf}
-use Rattle.mesh_clean.proofs.add_area.Statement.{statement}
-use Rattle.mesh_clean.proofs.add_area.Tie as tie
+use Rattle.mesh_sound.specs.declared.Added.the-variants.{Total, Past}
+use Rattle.mesh_sound.specs.Totals.{addedOf}
+use Rattle.mesh_sound.proofs.add_area.Statement.{statement}
+use Rattle.mesh_sound.proofs.add_area.Tie as tie
 
 abbrev top : ℤ
 top = pos 9223372036854775807

@@ -7,8 +7,8 @@ use lib.IntN.{ℤ, pos}
 use lib.Signed.{_≤ℤ_, _<ℤ_, ltZ}
 use Rattle.integers.proofs.Order.{by-test}
 use Rattle.integers.proofs.Tests.{ltZ-≤, ltZ-<}
-use Rattle.mesh_clean.specs.declared.Added.the-variants.{Total, Past}
-use Rattle.mesh_clean.specs.Totals.{addedOf}
+use Rattle.mesh_sound.specs.declared.Added.the-variants.{Total, Past}
+use Rattle.mesh_sound.specs.Totals.{addedOf}
 
 pub total-of : (z n : ℤ) → addedOf z ≡ Total n → (n ≡ z) × (z ≤ℤ pos 9223372036854775807)
 unfolding addedOf

@@ -1,12 +1,12 @@
--- `mesh_clean::row_flat` meets its contract. Assumes nothing.
+-- `mesh_sound::row_flat` meets its contract. Assumes nothing.
 use mathlib.Core.Path.{_∙_, ap}
 use borrow.Author.Needs.{needs}
 use lib.IntN.{pos}
 use lib.Signed.{leZ}
 use mir.Syntax.{w64}
 use Rattle.integers.proofs.Bits.{got}
-use Rattle.mesh_clean.proofs.row_flat.Statement.{statement}
-use Rattle.mesh_clean.proofs.row_flat.Tie as tie
+use Rattle.mesh_sound.proofs.row_flat.Statement.{statement}
+use Rattle.mesh_sound.proofs.row_flat.Tie as tie
 
 area-of-requires : tie.Need-area-of-requires
 area-of-requires c κs = search needs

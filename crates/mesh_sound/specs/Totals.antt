@@ -2,8 +2,8 @@
 use mathlib.Core.Bool.{cond}
 use lib.IntN.{ℤ, pos}
 use lib.Signed.{ltZ}
-use Rattle.mesh_clean.specs.declared.Added.{Added}
-use Rattle.mesh_clean.specs.declared.Added.the-variants.{Total, Past}
+use Rattle.mesh_sound.specs.declared.Added.{Added}
+use Rattle.mesh_sound.specs.declared.Added.the-variants.{Total, Past}
 
 unfoldable pub addedOf : ℤ → Added
 addedOf z = cond (ltZ (pos 9223372036854775807) z) Past (Total z)

@@ -1,4 +1,4 @@
--- `mesh_clean::all_sound` meets its contract: the invariant is `Going` of Passes. Assumes nothing.
+-- `mesh_sound::all_sound` meets its contract: the invariant is `Going` of Passes. Assumes nothing.
 use mathlib.Core.Path.{sym, _∙_, ap, subst}
 use Prim.Native.Nat.{_≤_, _-_, _+_}
 use native.Mathlib.Omega.{arith}
@@ -10,11 +10,11 @@ use lib.Signed.{_≤ℤ_}
 use mir.Syntax.{w64}
 use mir.Val.{toZ}
 use Rattle.integers.proofs.Bits.{kept, got}
-use Rattle.mesh_clean.specs.Totals.{addedOf}
-use Rattle.mesh_clean.proofs.Totals.{total-of, past-of}
-use Rattle.mesh_clean.proofs.Passes.{Going, going-start, going-row, going-past, going-next, going-end, row-on, row-above}
-use Rattle.mesh_clean.proofs.all_sound.Statement.{statement}
-use Rattle.mesh_clean.proofs.all_sound.Tie as tie
+use Rattle.mesh_sound.specs.Totals.{addedOf}
+use Rattle.mesh_sound.proofs.Totals.{total-of, past-of}
+use Rattle.mesh_sound.proofs.Passes.{Going, going-start, going-row, going-past, going-next, going-end, row-on, row-above}
+use Rattle.mesh_sound.proofs.all_sound.Statement.{statement}
+use Rattle.mesh_sound.proofs.all_sound.Tie as tie
 
 abbrev Inv-loop : tie.InvT-loop
 Inv-loop mesh total₀ k₀ total k = (k ≤ length mesh) × Going mesh k (toZ w64 total)

@@ -1,12 +1,12 @@
--- `mesh_clean::row_off` meets its contract: the code's tests are the definition's. Assumes nothing.
+-- `mesh_sound::row_off` meets its contract: the code's tests are the definition's. Assumes nothing.
 use mathlib.Core.Path.{_≡_, refl, sym, _∙_, ap}
 use mathlib.Core.Bool.{Bool, true, false, not}
 use borrow.Author.Needs.{needs}
 use borrow.Author.Tests.{not-true, not-false}
 use Rattle.plane.specs.Plane.{Pt, onGrid}
 use Rattle.mesh.specs.Mesh.{Triangle, vertex, triangleOff}
-use Rattle.mesh_clean.proofs.row_off.Statement.{statement}
-use Rattle.mesh_clean.proofs.row_off.Tie as tie
+use Rattle.mesh_sound.proofs.row_off.Statement.{statement}
+use Rattle.mesh_sound.proofs.row_off.Tie as tie
 
 -- each answer r is of a point p that is a vertex of t
 module _ (t : Triangle) where
