@@ -1,15 +1,15 @@
 -- A clean mesh of at most 1,024 triangles has no fault (`clean-accepted`): its triangles are sound and its areas fit (mesh_sound's `sound-rows`), each edge is
 -- shared that is asked for (`linked-rows`), so every edge is (Pairing), and each fault's test follows from Sides. Assumes nothing.
 use mathlib.Core.Path.{_≡_, refl, sym, _∙_, subst}
-use mathlib.Core.Bool.{Bool, true, false, cond}
+use mathlib.Core.Bool.{Bool, true, false}
 use mathlib.Core.List.{List, [], _∷_, map}
 use Prim.Native.Nat.{ℕ, zero, suc, _+_, _<_, _≤_}
 use native.Mathlib.Omega.{arith}
-use borrow.Author.Tests.{eqb-true, eqb-false, ne-eqb, lt-leb, lt-ltb, le-ltb, not-true}
+use borrow.Author.Tests.{eqb-true, eqb-false, ne-eqb, lt-leb, lt-ltb, le-ltb}
 use lib.Dec.{eqb}
 use lib.ListN.{length}
 use lib.IntN.{ℤ, pos, _+ℤ_}
-use lib.Signed.{_≤ℤ_, leZ, ltZ}
+use lib.Signed.{_≤ℤ_, leZ}
 use Rattle.integers.specs.Faults.{firstFault}
 use Rattle.integers.specs.Lists.{sumℤ}
 use Rattle.integers.proofs.Faults.{first-next, first-empty}

@@ -1,6 +1,5 @@
 // Splitting parts past a corner limit: advanced/convex.rs, second half, and geom/centroid.rs. The definitions are in specs/. Leans on convex.
 ghost use mathlib.Core.Path.{_≡_};
-ghost use Prim.Native.Nat.{max};
 ghost use Rattle.split.specs.Splitting.{raised};
 
 // How a contour past the limit is split (document 01, "Splitting past a limit m").

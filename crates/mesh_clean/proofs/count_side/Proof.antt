@@ -1,7 +1,6 @@
 -- `mesh_clean::count_side` meets its contract: the two ways of Tests. Assumes nothing.
 use mathlib.Core.Path.{_∙_, ap}
 use Prim.Native.Nat.{_+_}
-use native.Mathlib.Omega.{arith}
 use borrow.Author.Needs.{needs}
 use Rattle.mesh_clean.proofs.Tests.{side-before, one-before, none-after, side-after, none-before, some-after}
 use Rattle.mesh_clean.proofs.count_side.Statement.{statement}
