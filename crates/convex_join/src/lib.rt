@@ -32,7 +32,7 @@ fn join_within(
 }
 
 // The parts of a tiny mesh that is accepted.
-fn join_tiny(mesh: &[[i32; 9]], starts: &mut [u32], corners: &mut [i32]) -> Counts
+pub fn join_tiny(mesh: &[[i32; 9]], starts: &mut [u32], corners: &mut [i32]) -> Counts
     requires { ⌜ (length (now mesh) ≤ tiny) × (firstFault (meshKinds (rowsMesh (now mesh))) ≡ 0) ⌝ }
     ensures counts { λ r. ⌜ r ≡ partsCounts (rowsMesh (now (mesh .entry))) (now (starts .entry)) (now (corners .entry)) ⌝ }
     ensures starts { λ r. ⌜ now (starts .exit) ≡ partsStarts (rowsMesh (now (mesh .entry))) (now (starts .entry)) (now (corners .entry)) ⌝ }
@@ -79,26 +79,6 @@ fn join_large(mesh: &[[i32; 9]], starts: &mut [u32], corners: &mut [i32]) -> Cou
     join_within(mesh, &mut begins, &mut points, starts, corners)
 }
 
-// The parts of an accepted mesh: starts and corners (x, y in turn) on the front of the lent buffers, or refused with 22 or 21.
-pub fn join_accepted(mesh: &[[i32; 9]], starts: &mut [u32], corners: &mut [i32]) -> Counts
-    requires { ⌜ firstFault (meshKinds (rowsMesh (now mesh))) ≡ 0 ⌝ }
-    ensures counts { λ r. ⌜ r ≡ partsCounts (rowsMesh (now (mesh .entry))) (now (starts .entry)) (now (corners .entry)) ⌝ }
-    ensures starts { λ r. ⌜ now (starts .exit) ≡ partsStarts (rowsMesh (now (mesh .entry))) (now (starts .entry)) (now (corners .entry)) ⌝ }
-    ensures corners { λ r. ⌜ now (corners .exit) ≡ partsCorners (rowsMesh (now (mesh .entry))) (now (starts .entry)) (now (corners .entry)) ⌝ }
-{
-    let n = mesh.len();
-    if n <= TINY {
-        return join_tiny(mesh, starts, corners);
-    }
-    if n <= SMALL {
-        return join_small(mesh, starts, corners);
-    }
-    if n <= MEDIUM {
-        return join_medium(mesh, starts, corners);
-    }
-    join_large(mesh, starts, corners)
-}
-
 // The convex parts of a mesh, joined from its triangles: starts and corners (x, y in turn) on the front of the lent buffers. A refusal (1, 2, 3, 4, 5,
 // 6, 11, 22 or 21) gives zero counts and changes nothing.
 pub fn to_convex_polygons(mesh: &[[i32; 9]], starts: &mut [u32], corners: &mut [i32]) -> Counts
@@ -110,5 +90,15 @@ pub fn to_convex_polygons(mesh: &[[i32; 9]], starts: &mut [u32], corners: &mut [
     if fault != 0 {
         return convex_gather::refusal(fault);
     }
-    join_accepted(mesh, starts, corners)
+    let n = mesh.len();
+    if n <= TINY {
+        return join_tiny(mesh, starts, corners);
+    }
+    if n <= SMALL {
+        return join_small(mesh, starts, corners);
+    }
+    if n <= MEDIUM {
+        return join_medium(mesh, starts, corners);
+    }
+    join_large(mesh, starts, corners)
 }

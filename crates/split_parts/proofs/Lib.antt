@@ -1,3 +1,3 @@
--- Joined parts split one after another; a limit that leaves them whole.
+-- Joined parts split one after another; calls that answer alike.
 pub mod Each
-pub mod Whole
+pub mod Alike

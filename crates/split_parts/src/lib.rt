@@ -1,6 +1,6 @@
 // Joining with parts past a corner limit split (advanced/convex.rs): `to_convex_polygons_with_max_vertices`, with no `requires`. Its answer and both lent
-// buffers equal `splitCounts`, `splitStarts` and `splitCorners` of split/specs/Splitting.antt. Where no part can have more corners than the limit, that is joining.
-// Else the joined parts are gathered, each is split into further buffers, and all are handed out once there is room. The work arrays come in four sizes by the mesh's, so that a small mesh does not wait for
+// buffers equal `splitCounts`, `splitStarts` and `splitCorners` of split/specs/Splitting.antt. Where a mesh is tiny and no part
+// can have more corners than the limit, that is joining. Else the joined parts are gathered, each is split into further buffers, and all are handed out once there is room. The work arrays come in four sizes by the mesh's, so that a small mesh does not wait for
 // the filling of large ones. Leans on convex_join, convex_regions, split_contour and convex_gather.
 ghost use mathlib.Core.Path.{_≡_};
 ghost use Prim.Native.Nat.{_+_, _<_, _≤_};
@@ -209,8 +209,32 @@ fn split_large(
     )
 }
 
+// The parts of an accepted mesh that is not tiny.
+fn split_more(
+    mesh: &[[i32; 9]],
+    limit: u32,
+    strategy: ConvexSplitStrategy,
+    starts: &mut [u32],
+    corners: &mut [i32],
+) -> Counts
+    requires { ⌜ firstFault (meshKinds (rowsMesh (now mesh))) ≡ 0 ⌝ }
+    ensures counts { λ r. ⌜ r ≡ splitCounts strategy limit (rowsMesh (now (mesh .entry))) (now (starts .entry)) (now (corners .entry)) ⌝ }
+    ensures starts { λ r. ⌜ now (starts .exit) ≡ splitStarts strategy limit (rowsMesh (now (mesh .entry))) (now (starts .entry)) (now (corners .entry)) ⌝ }
+    ensures corners { λ r. ⌜ now (corners .exit) ≡ splitCorners strategy limit (rowsMesh (now (mesh .entry))) (now (starts .entry)) (now (corners .entry)) ⌝ }
+{
+    let n = mesh.len();
+    if n <= SMALL {
+        return split_small(mesh, limit, strategy, starts, corners);
+    }
+    if n <= MEDIUM {
+        return split_medium(mesh, limit, strategy, starts, corners);
+    }
+    split_large(mesh, limit, strategy, starts, corners)
+}
+
 // The convex parts of a mesh, those past `limit` corners split by `strategy`: starts and corners (x, y in turn) on the front of the lent buffers. A refusal
-// (1, 2, 3, 4, 5, 6, 11, 22 or 21) gives zero counts and changes nothing.
+// (1, 2, 3, 4, 5, 6, 11, 22 or 21) gives zero counts and changes nothing. `split_more` has two callers here so that it stays a function of its own: with its arrays
+// in this frame, the stack is touched page by page, 86 KB of it, before one triangle is looked at.
 pub fn to_convex_polygons_with_max_vertices(
     mesh: &[[i32; 9]],
     limit: u32,
@@ -227,17 +251,14 @@ pub fn to_convex_polygons_with_max_vertices(
         return convex_gather::refusal(fault);
     }
     let n = mesh.len();
-    if n <= split::raised(limit) - 2 {
-        return convex_join::join_accepted(mesh, starts, corners);
-    }
     if n <= TINY {
+        if n <= split::raised(limit) - 2 {
+            return convex_join::join_tiny(mesh, starts, corners);
+        }
         return split_tiny(mesh, limit, strategy, starts, corners);
     }
-    if n <= SMALL {
-        return split_small(mesh, limit, strategy, starts, corners);
+    if limit < split::MIN_LIMIT {
+        return split_more(mesh, split::MIN_LIMIT, strategy, starts, corners);
     }
-    if n <= MEDIUM {
-        return split_medium(mesh, limit, strategy, starts, corners);
-    }
-    split_large(mesh, limit, strategy, starts, corners)
+    split_more(mesh, limit, strategy, starts, corners)
 }

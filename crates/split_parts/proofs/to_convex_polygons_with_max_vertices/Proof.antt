@@ -1,14 +1,13 @@
--- `split_parts::to_convex_polygons_with_max_vertices` meets its contract: a refusal by convex_gather's `mesh-refused`, an answer by
--- joining where no part can be past the limit (`left-whole`), else by the four sizes. Assumes nothing.
+-- `split_parts::to_convex_polygons_with_max_vertices` meets its contract: a refusal by convex_gather's `mesh-refused`, an answer by joining where no part of a tiny mesh can
+-- be past the limit (`left-whole`), by `split_tiny`, or by `split_more` with the limit raised (`same-limit`). Assumes nothing.
 use mathlib.Core.Path.{sym, _∙_}
 use native.Mathlib.Omega.{arith}
 use Rattle.mesh.specs.Rows.{rowsMesh}
 use Rattle.mesh.proofs.Rows.{length-rows}
 use Rattle.split.specs.Splitting.{splitParts, splitFault}
 use Rattle.convex_gather.proofs.Answer.{mesh-refused}
-use Rattle.convex_regions.proofs.Regions.{few-rows}
 use borrow.Author.Needs.{needs}
-use Rattle.split_parts.proofs.Whole.{left-whole}
+use Rattle.split_parts.proofs.Alike.{left-whole, same-limit}
 use Rattle.split_parts.proofs.to_convex_polygons_with_max_vertices.Statement.{statement}
 use Rattle.split_parts.proofs.to_convex_polygons_with_max_vertices.Tie as tie
 
@@ -30,11 +29,14 @@ returns c =
 raised-requires : tie.Need-raised-requires
 raised-requires c κs = search needs
 
-sub-if2 : tie.Need-sub-if2
-sub-if2 c = search needs
+sub-if3 : tie.Need-sub-if3
+sub-if3 c = search needs
 
-join-accepted-requires : tie.Need-join-accepted-requires
-join-accepted-requires c κs = let f = c .before .before .before .before in sym (f .before .mesh-fault .ensures) ∙ f .if1 .left
+join-tiny-requires : tie.Need-join-tiny-requires
+join-tiny-requires c κs =
+    let t = c .before .before .before .before in
+    let f = t .before in
+    (t .if2 .taken, sym (f .before .mesh-fault .ensures) ∙ f .if1 .left)
 
 same-length : tie.Need-same-length
 same-length c = search needs
@@ -46,11 +48,11 @@ returns-2 : tie.Need-returns-2
 returns-2 c =
     let j = c .before .before .before in
     let l = j .before .before .before in
-    let f = l .before .before in
-    let s = f .before .before .before in
-    let g = s .args in
-    let w = left-whole (g .strategy) (g .limit) (rowsMesh (g .mesh .now)) (g .starts .now) (g .corners .now) (sym (f .before .mesh-fault .ensures) ∙ f .if1 .left) (omega (arith, length-rows (g .mesh .now), l .if2 .taken, l .before .raised .ensures)) in
-    (j .join-accepted .ensures .0 ∙ w .0, (j .join-accepted .ensures .1 .0 ∙ w .1, j .join-accepted .ensures .1 .1 ∙ w .2))
+    let f = l .before .before .before in
+    let g = f .before .before .before .args in
+    let a = sym (f .before .mesh-fault .ensures) ∙ f .if1 .left in
+    let w = left-whole (g .strategy) (g .limit) (rowsMesh (g .mesh .now)) (g .starts .now) (g .corners .now) a (omega (arith, length-rows (g .mesh .now), l .if3 .taken, l .before .raised .ensures)) in
+    (j .join-tiny .ensures .0 ∙ w .0, (j .join-tiny .ensures .1 .0 ∙ w .1, j .join-tiny .ensures .1 .1 ∙ w .2))
 
 split-tiny-requires : tie.Need-split-tiny-requires
 split-tiny-requires c κs = search needs
@@ -64,8 +66,8 @@ same-length-4 c = search needs
 returns-3 : tie.Need-returns-3
 returns-3 c = search needs
 
-split-small-requires : tie.Need-split-small-requires
-split-small-requires c κs = search needs
+split-more-requires : tie.Need-split-more-requires
+split-more-requires c κs = let f = c .before .before .before .before in sym (f .before .mesh-fault .ensures) ∙ f .if1 .left
 
 same-length-5 : tie.Need-same-length-5
 same-length-5 c = search needs
@@ -74,10 +76,15 @@ same-length-6 : tie.Need-same-length-6
 same-length-6 c = search needs
 
 returns-4 : tie.Need-returns-4
-returns-4 c = search needs
+returns-4 c =
+    let j = c .before .before .before in
+    let l = j .before .before .before in
+    let g = l .before .before .before .before .before .args in
+    let w = same-limit (g .strategy) (g .limit) (rowsMesh (g .mesh .now)) (g .starts .now) (g .corners .now) 3 (omega (arith, l .if4 .taken)) in
+    (j .split-more .ensures .0 ∙ w .0, (j .split-more .ensures .1 .0 ∙ w .1, j .split-more .ensures .1 .1 ∙ w .2))
 
-split-medium-requires : tie.Need-split-medium-requires
-split-medium-requires c κs = search needs
+split-more-requires-2 : tie.Need-split-more-requires-2
+split-more-requires-2 c κs = let f = c .before .before .before .before in sym (f .before .mesh-fault .ensures) ∙ f .if1 .left
 
 same-length-7 : tie.Need-same-length-7
 same-length-7 c = search needs
@@ -88,21 +95,6 @@ same-length-8 c = search needs
 returns-5 : tie.Need-returns-5
 returns-5 c = search needs
 
-split-large-requires : tie.Need-split-large-requires
-split-large-requires c κs =
-    let f = c .before .before .before .before .before .before .before in
-    let e = sym (f .before .mesh-fault .ensures) ∙ f .if1 .left in
-    (few-rows (f .before .before .before .args .mesh .now) e, e)
-
-same-length-9 : tie.Need-same-length-9
-same-length-9 c = search needs
-
-same-length-10 : tie.Need-same-length-10
-same-length-10 c = search needs
-
-returns-6 : tie.Need-returns-6
-returns-6 c = search needs
-
 pub to-convex-polygons-with-max-vertices-spec : {M : Type 1} → statement M
 to-convex-polygons-with-max-vertices-spec =
     tie.close
@@ -111,8 +103,8 @@ to-convex-polygons-with-max-vertices-spec =
     refusal-requires
     returns
     raised-requires
-    sub-if2
-    join-accepted-requires
+    sub-if3
+    join-tiny-requires
     same-length
     same-length-2
     returns-2
@@ -120,15 +112,11 @@ to-convex-polygons-with-max-vertices-spec =
     same-length-3
     same-length-4
     returns-3
-    split-small-requires
+    split-more-requires
     same-length-5
     same-length-6
     returns-4
-    split-medium-requires
+    split-more-requires-2
     same-length-7
     same-length-8
-    returns-5
-    split-large-requires
-    same-length-9
-    same-length-10
-    returns-6)
+    returns-5)
