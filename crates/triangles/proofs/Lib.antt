@@ -1,4 +1,7 @@
+pub mod BySize
+pub mod Literal
 pub mod Local
+pub mod PartsBySize
 pub mod Reading
 pub mod RowsCall
 pub mod RowsOf

@@ -49,7 +49,7 @@ use Rattle.triangles.specs.declared.IntTriangle.{IntTriangle}
 use Rattle.triangles.specs.Triangles.{trianglesMesh, AreRead}
 use Rattle.triangles.proofs.IntTriangle as T
 use Rattle.triangles.proofs.RowsCall.{Big, big, sl, Rows, big-lawful, Own, Token, to-rows, goes-rows, RowsSaid, rows-said}
-use Rattle.triangles_faults.proofs.Literal.{big-lit}
+use Rattle.triangles.proofs.Literal.{big-lit}
 use Rattle.triangles_faults.proofs.Front.{too-many}
 use Rattle.triangles.proofs.rows_tiny.Symbol as read-tiny
 use Rattle.triangles.proofs.rows_tiny.Symbol.{name as #read-tiny}
