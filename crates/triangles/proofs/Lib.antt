@@ -1,4 +1,5 @@
 pub mod BySize
+pub mod Known
 pub mod Literal
 pub mod Local
 pub mod PartsBySize

@@ -56,26 +56,15 @@ use Rattle.mesh.specs.Rows.{rowsMesh}
 use Rattle.triangles.specs.declared.IntTriangle.{IntTriangle}
 use Rattle.triangles.specs.Triangles.{trianglesMesh}
 use Rattle.triangles.proofs.IntTriangle as T
-use Rattle.triangles.proofs.RowsCall.{Big, big, sl, Rows, lent, Own}
+use Rattle.triangles.proofs.RowsCall.{Big, big, sl, lent, Own}
+use Rattle.triangles.proofs.Known.{known-in}
 use Rattle.triangles.proofs.BySize.{Known, lies, freed, held}
 use Rattle.triangles.proofs.PartsBySize.{num, ref, slice, starts-ty, corners-ty, OwnStarts, OwnCorners, Tokens₂, refusedCounts, Refuse, Five, Four, five, four, rooms, Before, Ends, Callee, by-size}
 use Rattle.triangles_faults.proofs.Front.{too-many}
-use Rattle.triangles.proofs.rows_tiny.Symbol as read-tiny
-use Rattle.triangles.proofs.rows_tiny.Symbol.{name as #read-tiny}
-use Rattle.triangles.proofs.rows_tiny.Met as read-tiny-thm
-use Rattle.triangles_split.proofs.split_tiny.Symbol as rest-tiny
 use Rattle.triangles_split.proofs.split_tiny.Symbol.{name as #rest-tiny}
 use Rattle.triangles_split.proofs.split_tiny.Met as rest-tiny-thm
-use Rattle.triangles.proofs.rows_small.Symbol as read-small
-use Rattle.triangles.proofs.rows_small.Symbol.{name as #read-small}
-use Rattle.triangles.proofs.rows_small.Met as read-small-thm
-use Rattle.triangles_split.proofs.split_small.Symbol as rest-small
 use Rattle.triangles_split.proofs.split_small.Symbol.{name as #rest-small}
 use Rattle.triangles_split.proofs.split_small.Met as rest-small-thm
-use Rattle.triangles.proofs.rows_large.Symbol as read-large
-use Rattle.triangles.proofs.rows_large.Symbol.{name as #read-large}
-use Rattle.triangles.proofs.rows_large.Met as read-large-thm
-use Rattle.triangles_split.proofs.split_large.Symbol as rest-large
 use Rattle.triangles_split.proofs.split_large.Symbol.{name as #rest-large}
 use Rattle.triangles_split.proofs.split_large.Met as rest-large-thm
 use Rattle.triangles_split.proofs.to_convex_polygons_with_max_vertices.Key.{name as #self}
@@ -278,13 +267,7 @@ to-convex-polygons-with-max-vertices-spec 𝓤 H 𝓜 𝓖 𝓡 =
     entered 𝓤 H (tripleOf 𝓤 H (𝓖 .A) self.signature (self.spec 𝓤 H (𝓖 .A) (𝓜 .mem) (𝓡 .run)))
     (tables 𝓤 H 𝓜 𝓡 code.env .C) (tables 𝓤 H 𝓜 𝓡 code.env .Λ) #self code.function (code.unfolded 𝓤 H 𝓜 𝓡)
     (meets 𝓤 H (𝓖 .A) (givenOf 𝓤 H 𝓜 𝓖) (𝓜 .mem) (𝓡 .run) (tablesOf 𝓤 H 𝓜 (tables 𝓤 H 𝓜 𝓡 code.env)) (
-      record {
-        read-tiny = cited 𝓤 H (Rows 𝓤 H (𝓖 .A) tiny) 𝓜 𝓡 code.env #read-tiny read-tiny.routine code.calls-triangles·rows-tiny (read-tiny-thm.met 𝓤 H 𝓜 𝓖 𝓡);
-        rest-tiny = cited 𝓤 H (Rest 𝓤 H (𝓖 .A) (𝓜 .mem) (𝓡 .run) tiny) 𝓜 𝓡 code.env #rest-tiny rest-tiny.routine code.calls-triangles-split·split-tiny (rest-tiny-thm.met 𝓤 H 𝓜 𝓖 𝓡);
-        read-small = cited 𝓤 H (Rows 𝓤 H (𝓖 .A) small) 𝓜 𝓡 code.env #read-small read-small.routine code.calls-triangles·rows-small (read-small-thm.met 𝓤 H 𝓜 𝓖 𝓡);
-        rest-small = cited 𝓤 H (Rest 𝓤 H (𝓖 .A) (𝓜 .mem) (𝓡 .run) small) 𝓜 𝓡 code.env #rest-small rest-small.routine code.calls-triangles-split·split-small (rest-small-thm.met 𝓤 H 𝓜 𝓖 𝓡);
-        read-large = cited 𝓤 H (Rows 𝓤 H (𝓖 .A) maxTriangles) 𝓜 𝓡 code.env #read-large read-large.routine code.calls-triangles·rows-large (read-large-thm.met 𝓤 H 𝓜 𝓖 𝓡);
-        rest-large = cited 𝓤 H (Rest 𝓤 H (𝓖 .A) (𝓜 .mem) (𝓡 .run) maxTriangles) 𝓜 𝓡 code.env #rest-large rest-large.routine code.calls-triangles-split·split-large (rest-large-thm.met 𝓤 H 𝓜 𝓖 𝓡);
-      },
+      known-in 𝓤 H 𝓜 𝓖 𝓡 code.env (Rest 𝓤 H (𝓖 .A) (𝓜 .mem) (𝓡 .run)) #rest-tiny #rest-small #rest-large code.calls-triangles·rows-tiny code.calls-triangles·rows-small code.calls-triangles·rows-large
+          code.calls-triangles-split·split-tiny code.calls-triangles-split·split-small code.calls-triangles-split·split-large (rest-tiny-thm.met 𝓤 H 𝓜 𝓖 𝓡) (rest-small-thm.met 𝓤 H 𝓜 𝓖 𝓡) (rest-large-thm.met 𝓤 H 𝓜 𝓖 𝓡),
       cited 𝓤 H (Refuse 𝓤 H (𝓖 .A) (𝓜 .mem) (𝓡 .run)) 𝓜 𝓡 code.env #refuse refuse-def.routine code.calls-convex-gather·refusal (refuse-thm.met 𝓤 H 𝓜 𝓖 𝓡),
     ))
