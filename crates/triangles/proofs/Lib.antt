@@ -2,6 +2,7 @@ pub mod BySize
 pub mod Known
 pub mod Literal
 pub mod Local
+pub mod Locals
 pub mod PartsBySize
 pub mod Reading
 pub mod RowsCall
