@@ -1,6 +1,6 @@
 -- An entry point over a lent slice of triangle structs, by the mesh's size: what its code does at one size, whatever the size, the locals' places and what is called over the rows.
 --     Known           what is known of the calls
---     lies            a local is found where the environment has it
+--     lies            a local is found where the environment has it, and read there
 --     tests           n <= size: one arm where it holds, the rest of the code where it does not
 --     reads-rows      the mesh's rows are read into a local array
 --     lends           a lent slice is lent on, by a pointer and a length
@@ -23,7 +23,7 @@ use ghost.Atoms.{Atoms, sem}
 use contract.Monad.{fact}
 use types.Kit.{Given, Item, ‵, raw, _⊛_, some, later, Post, post, runs, atRet, Go, Sq, _$_, _∵_, !, qed, move, keep, drop as forgo, use1, use2, split, pick, fsplit, await, done}
 use types.Part.{agg, whole, sub, look-in}
-use types.Run.{Walks, Finds, Opd, look, init, forget, stop, fld, hop, from, addr, load, bin, and-then, no-more, assigns, first, branches, skips, land, exec}
+use types.Run.{Reads, Walks, Finds, Opd, look, init, forget, stop, fld, hop, from, addr, load, bin, and-then, no-more, assigns, first, branches, skips, land, exec}
 use sound.WpLaws.{fmOf}
 use denote.RattleType.{RattleType}
 use denote.Laws.{Is, shows}
@@ -57,6 +57,10 @@ held x = sliceVal (x .ptr) (length (x .now))
 module _ {M : Type 1} {𝓤 : URA M} {H : Heap 𝓤} {A : Atoms 𝓤} {K : Type 0} {W : Given 𝓤 H A} {Γ : List (Item 𝓤)} {E : Env 𝓤 H} where
   pub lies : K → {i : ℕ} {st : List PStep} {sp sp′ : Spot 𝓤 H} → spotOf 𝓤 H E i ≡ sp → Walks K W Γ E sp st sp′ → Finds K W Γ E (place i st) sp′
   lies t {i} {st} {sp} {sp′} e w = from t (subst (λ (sp₀ : Spot 𝓤 H). Walks K W Γ E sp₀ st sp′) (sym e) w)
+
+module _ {M : Type 1} {𝓤 : URA M} {H : Heap 𝓤} {A : Atoms 𝓤} {K : Type 0} {W : Given 𝓤 H A} {Γ : List (Item 𝓤)} (E : Env 𝓤 H) (i : ℕ) where
+  pub lies-read : {sp : Spot 𝓤 H} {v : Val} → spotOf 𝓤 H E i ≡ sp → Reads K W Γ (sp .0) (sp .1) 0 v → Reads K W Γ (spotOf 𝓤 H E i .0) (spotOf 𝓤 H E i .1) 0 v
+  lies-read {sp} {v} e r = subst (λ (sp₀ : Spot 𝓤 H). Reads K W Γ (sp₀ .0) (sp₀ .1) 0 v) (sym e) r
 
 module _ {M : Type 1} (𝓤 : URA M) (H : Heap 𝓤) (En : Env 𝓤 H) where
   -- where local i lies

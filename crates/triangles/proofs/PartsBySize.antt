@@ -22,15 +22,16 @@ use prog.Routine.{Routine}
 use prog.Wp.{Heap, Env, Tables}
 use ghost.Atoms.{Atoms, sem}
 use contract.Monad.{Fun, fact}
-use types.Kit.{Given, Item, ‵, raw, _⊛_, ⋆, mean, some, later, Post, Goal, runs, lands, atRet, Go, Sq, _$_, _∵_, !, qed, move, drop as forgo, use1, split, join, group, pick, fjoin, frame, await, done}
-use types.Run.{Opd, Opds, forget, lit, and-then, no-more}
+use types.Kit.{Given, Item, ‵, raw, _⊛_, ⋆, mean, some, later, Post, Goal, prop, runs, lands, frees, atRet, Go, Sq, _$_, _∵_, !, qed, move, drop as forgo, use1, split, join, group, pick, fjoin, frame, await, done}
+use types.Run.{Opd, Opds, look, init, forget, stop, land, returns-within, lit, and-then, no-more}
 use sound.WpLaws.{fmOf}
-use denote.Laws.{Is}
+use denote.Laws.{Is, shows}
 use denote.Plain.{uint-makes}
 use denote.Ref.{RefT}
 use denote.Slice.{sliceTy, MutSlice, finally}
 use denote.Builtin.{i32, u32}
-use denote.Steps.{nothing, owned, heard}
+use denote.Steps.{nothing, owned, peeks, heard}
+use denote.Struct.Laws as LL
 use denote.Triple.Statement.{Contract, Triple}
 use denote.Triple.Call.{calls-at}
 use denote.Triple.Spec.{tripleOf}
@@ -40,6 +41,7 @@ use Rattle.mesh.specs.Rows.{rowsMesh}
 use Rattle.convex_regions.specs.Parts.{tiny, small}
 use Rattle.table.specs.declared.Counts.{Counts}
 use Rattle.table.proofs.Counts as N
+use Rattle.table.proofs.Counts.Laws as N′
 use Rattle.convex_gather.proofs.refusal as refuse
 use Rattle.convex_gather.proofs.refusal.Symbol.{name as #refuse}
 use Rattle.triangles.specs.declared.IntTriangle.{IntTriangle}
@@ -49,7 +51,7 @@ use Rattle.triangles.proofs.rows_small.Symbol.{name as #rows-small}
 use Rattle.triangles.proofs.rows_large.Symbol.{name as #rows-large}
 use Rattle.triangles.proofs.Literal.{big-lit}
 use Rattle.triangles.proofs.RowsCall.{Big, big, sl, Rows, lent, Own, Token}
-use Rattle.triangles.proofs.BySize.{Known, held, Lies, room, holds, Back, tests, reads-rows, lends, unwritten}
+use Rattle.triangles.proofs.BySize.{Known, held, lies, lies-read, Lies, room, holds, Back, tests, reads-rows, lends, unwritten}
 
 abbrev pub num : Ty
 num = tyInt w32
@@ -97,12 +99,12 @@ module _ {M : Type 1} (𝓤 : URA M) (H : Heap 𝓤) (A : Atoms 𝓤) (mem : Mem
   refuse-said : (r : Counts) → ent 𝓤 (RefuseSaid r) (fact 𝓤 (r ≡ refusedCounts))
   refuse-said r = exE 𝓤 _ (λ ws. snd∗ 𝓤 (sem 𝓤 H A (lasts refuse.ended tt (1, tt) ws)) (fact 𝓤 (r ≡ refusedCounts)))
 
--- the locals of the first size change places with those of the second, and with those of the third: five things stand before them, and five between them and the others
+-- the locals of the first size change places with those of the second, and with those of the third: five things stand before them, and six between them and the others
 abbrev second : List ℕ
-second = 0 ∷ 1 ∷ 2 ∷ 3 ∷ 4 ∷ 15 ∷ 16 ∷ 17 ∷ 18 ∷ 19 ∷ 10 ∷ 11 ∷ 12 ∷ 13 ∷ 14 ∷ []
+second = 0 ∷ 1 ∷ 2 ∷ 3 ∷ 4 ∷ 16 ∷ 17 ∷ 18 ∷ 19 ∷ 20 ∷ 10 ∷ 11 ∷ 12 ∷ 13 ∷ 14 ∷ 15 ∷ []
 
 abbrev third : List ℕ
-third = 0 ∷ 1 ∷ 2 ∷ 3 ∷ 4 ∷ 20 ∷ 21 ∷ 22 ∷ 23 ∷ 24 ∷ 10 ∷ 11 ∷ 12 ∷ 13 ∷ 14 ∷ 15 ∷ 16 ∷ 17 ∷ 18 ∷ 19 ∷ []
+third = 0 ∷ 1 ∷ 2 ∷ 3 ∷ 4 ∷ 21 ∷ 22 ∷ 23 ∷ 24 ∷ 25 ∷ 10 ∷ 11 ∷ 12 ∷ 13 ∷ 14 ∷ 15 ∷ 16 ∷ 17 ∷ 18 ∷ 19 ∷ 20 ∷ []
 
 -- ---- the places of the locals
 module _ {M : Type 1} (𝓤 : URA M) (H : Heap 𝓤) (En : Env 𝓤 H) where
@@ -125,6 +127,7 @@ module _ {M : Type 1} (𝓤 : URA M) (H : Heap 𝓤) (En : Env 𝓤 H) where
     pub corners : ℕ
     pub count : ℕ
     pub test : ℕ
+    pub at-answer : Lies 𝓤 H En 0 N′.mir
     pub at-mesh : Lies 𝓤 H En 1 sl
     pub at-starts : Lies 𝓤 H En starts starts-ty
     pub at-corners : Lies 𝓤 H En corners corners-ty
@@ -136,8 +139,8 @@ module _ {M : Type 1} (𝓤 : URA M) (H : Heap 𝓤) (En : Env 𝓤 H) where
   five r i e₀ e₁ e₂ e₃ e₄ = record { rows = r; to-starts = i; starts = 1 + i; to-corners = 2 + i; corners = 3 + i; at-rows = e₀; at-to-starts = e₁; at-starts = e₂; at-to-corners = e₃; at-corners = e₄ }
 
   -- starts, corners and the length stand in a row
-  abbrev pub four : (i t : ℕ) → Lies 𝓤 H En 1 sl → Lies 𝓤 H En i starts-ty → Lies 𝓤 H En (1 + i) corners-ty → Lies 𝓤 H En (2 + i) (tyInt w64) → Lies 𝓤 H En t tyBool → Four
-  four i t e₀ e₁ e₂ e₃ e₄ = record { starts = i; corners = 1 + i; count = 2 + i; test = t; at-mesh = e₀; at-starts = e₁; at-corners = e₂; at-count = e₃; at-test = e₄ }
+  abbrev pub four : (i t : ℕ) → Lies 𝓤 H En 0 N′.mir → Lies 𝓤 H En 1 sl → Lies 𝓤 H En i starts-ty → Lies 𝓤 H En (1 + i) corners-ty → Lies 𝓤 H En (2 + i) (tyInt w64) → Lies 𝓤 H En t tyBool → Four
+  four i t e e₀ e₁ e₂ e₃ e₄ = record { starts = i; corners = 1 + i; count = 2 + i; test = t; at-answer = e; at-mesh = e₀; at-starts = e₁; at-corners = e₂; at-count = e₃; at-test = e₄ }
 
   abbrev pub rooms : {size : ℕ} → Five size → List (Item 𝓤)
   rooms {size} g = room 𝓤 H En (g .corners) slice ∷ room 𝓤 H En (g .to-corners) ref ∷ room 𝓤 H En (g .starts) slice ∷ room 𝓤 H En (g .to-starts) ref ∷ room 𝓤 H En (g .rows) (big size) ∷ []
@@ -167,7 +170,7 @@ module _ {M : Type 1} (𝓤 : URA M) (H : Heap 𝓤) (A : Atoms 𝓤) (W : Given
 
   -- the locals, those of one size first
   abbrev pub Cells : {size : ℕ} → Five 𝓤 H En size → List (Item 𝓤) → List (Item 𝓤)
-  Cells g Γ = rooms 𝓤 H En g ++ (room 𝓤 H En (o .test) tyBool ∷ holds 𝓤 H En (o .count) (tyInt w64) (vint w64 n) ∷ holds 𝓤 H En (o .corners) corners-ty (held y) ∷ holds 𝓤 H En (o .starts) starts-ty (held x) ∷ holds 𝓤 H En 1 sl (lent s) ∷ Γ)
+  Cells g Γ = rooms 𝓤 H En g ++ (room 𝓤 H En (o .test) tyBool ∷ holds 𝓤 H En (o .count) (tyInt w64) (vint w64 n) ∷ holds 𝓤 H En (o .corners) corners-ty (held y) ∷ holds 𝓤 H En (o .starts) starts-ty (held x) ∷ holds 𝓤 H En 1 sl (lent s) ∷ room 𝓤 H En 0 N′.mir ∷ Γ)
 
   -- what is had between the tests
   abbrev pub Before : {size : ℕ} → Five 𝓤 H En size → List (Item 𝓤) → List (Item 𝓤)
@@ -182,12 +185,23 @@ module _ {M : Type 1} (𝓤 : URA M) (H : Heap 𝓤) (A : Atoms 𝓤) (W : Given
   Ready {size} g u Γ =
       holds 𝓤 H En (g .corners) slice (held y) ∷ holds 𝓤 H En (g .to-corners) ref (vptr (y .ptr .0) (y .ptr .1)) ∷ holds 𝓤 H En (o .corners) corners-ty (held y)
       ∷ holds 𝓤 H En (g .starts) slice (held x) ∷ holds 𝓤 H En (g .to-starts) ref (vptr (x .ptr .0) (x .ptr .1)) ∷ holds 𝓤 H En (o .starts) starts-ty (held x)
-      ∷ Token 𝓤 κ q ∷ ‵ (Own κ s) ∷ holds 𝓤 H En (g .rows) (big size) u ∷ holds 𝓤 H En 1 sl (lent s) ∷ room 𝓤 H En (o .test) tyBool ∷ holds 𝓤 H En (o .count) (tyInt w64) (vint w64 n) ∷ Γ
+      ∷ Token 𝓤 κ q ∷ ‵ (Own κ s) ∷ holds 𝓤 H En (g .rows) (big size) u ∷ holds 𝓤 H En 1 sl (lent s) ∷ room 𝓤 H En (o .test) tyBool ∷ holds 𝓤 H En (o .count) (tyInt w64) (vint w64 n) ∷ room 𝓤 H En 0 N′.mir ∷ Γ
 
-  -- an answer is returned, and the locals are freed
-  abbrev pub Ends : {size : ℕ} → Five 𝓤 H En size → List (Item 𝓤) → Type 2
+  -- an answer is stored and returned
+  abbrev Ends : {size : ℕ} → Five 𝓤 H En size → List (Item 𝓤) → Type 2
   Ends l Γ = (r : Counts) (w : Val) (f : List ℕ) (g : List ℤ) → length f ≡ length (x .now) → length g ≡ length (y .now) → Answers (trianglesMesh (s .now)) r f g
       → (Q : Post 𝓤 H) → Back 𝓤 H En Q Kf → Sq W (After r w f g l Γ) (lands (𝓣 .C) (𝓣 .Λ) En (place 0 []) w return Q)
+
+  -- the locals, all of them room, are freed
+  abbrev pub Frees : {size : ℕ} → Five 𝓤 H En size → List (Item 𝓤) → Type 1
+  Frees l Γ = (r : Counts) (w : Val) (f : List ℕ) (g : List ℤ) → length f ≡ length (x .now) → length g ≡ length (y .now) → Answers (trianglesMesh (s .now)) r f g
+      → Sq W (‵ (N.the-row .own r (w ∷ [])) ∷ (‵ (flft κ q) ⊛ tok₂) ∷ ‵ (Own κ s) ∷ ‵ (finally u32 (x .name) f) ∷ ‵ (finally i32 (y .name) g) ∷ (rooms 𝓤 H En l
+      ++ (room 𝓤 H En (o .test) tyBool ∷ room 𝓤 H En (o .count) (tyInt w64) ∷ room 𝓤 H En (o .corners) corners-ty ∷ room 𝓤 H En (o .starts) starts-ty ∷ room 𝓤 H En 1 sl ∷ room 𝓤 H En 0 N′.mir ∷ Γ))) (frees En (prop (Kf w)))
+
+  answered : {size : ℕ} (l : Five 𝓤 H En size) (Γ : List (Item 𝓤)) → Frees l Γ → Ends l Γ
+  answered l Γ freeing r w f g lf lg so Q back =
+      peeks ! N.the-row (Is N.the-row) (shows 𝓤 H A N.the-row) r (w ∷ []) (λ is. land ! (lies ! (o .at-answer) (stop !)) (init ! 15 refl (LL.lawful N.the-type N′.the-laws 𝓤 H A W .typed r _ is .0)) $
+      returns-within ! Kf back (lies-read En 0 (o .at-answer) (look ! 15 refl)) $ forget ! 11 refl $ forget ! 12 refl $ forget ! 13 refl $ forget ! 14 refl $ forget ! 15 refl $ freeing r w f g lf lg so)
 
   -- the function that the rows are handed to
   pub record Callee : Type 2 where
@@ -241,12 +255,13 @@ module _ {M : Type 1} (𝓤 : URA M) (H : Heap 𝓤) (A : Atoms 𝓤) (W : Given
 
     pub by-size : (l₁ : Five 𝓤 H En tiny) (l₂ : Five 𝓤 H En small) (l₃ : Five 𝓤 H En maxTriangles) {#tiny #small #large : Name}
         → Known 𝓤 H A 𝓣 (c .Rest) #tiny #small #large → Triple 𝓤 (𝓣 .C #refuse) (Refuse 𝓤 H A mem run) → (maxTriangles < n → (r : Counts) → r ≡ refusedCounts → Answers (trianglesMesh (s .now)) r (x .now) (y .now))
-        → Ends l₁ (rooms 𝓤 H En l₂ ++ (rooms 𝓤 H En l₃ ++ Γ₀))
+        → Frees l₁ (rooms 𝓤 H En l₂ ++ (rooms 𝓤 H En l₃ ++ Γ₀))
         → Sq W (Before l₁ (rooms 𝓤 H En l₂ ++ (rooms 𝓤 H En l₃ ++ Γ₀))) (runs (𝓣 .C) (𝓣 .Λ) En
         (sized 𝓤 H En o l₁ #rows-tiny #tiny (c .args (l₁ .rows) (l₁ .starts) (l₁ .corners)) (int w64 tiny)
         (sized 𝓤 H En o l₂ #rows-small #small (c .args (l₂ .rows) (l₂ .starts) (l₂ .corners)) (int w64 small)
         (sized 𝓤 H En o l₃ #rows-large #large (c .args (l₃ .rows) (l₃ .starts) (l₃ .corners)) (intBig w64 maxTriangles) refusing))) (atRet En Kf))
-    by-size l₁ l₂ l₃ known known-refuse refused ends =
+    by-size l₁ l₂ l₃ known known-refuse refused freeing =
+        let ends : Ends l₁ (rooms 𝓤 H En l₂ ++ (rooms 𝓤 H En l₃ ++ Γ₀)) = answered l₁ (rooms 𝓤 H En l₂ ++ (rooms 𝓤 H En l₃ ++ Γ₀)) freeing in
         at-size tiny l₁ l₂ l₃ (known .read-tiny) (known .rest-tiny) (λ Δ. lit ! tt) ends (λ _. move ! second $
         at-size small l₂ l₁ l₃ (known .read-small) (known .rest-small) (λ Δ. lit ! tt) (λ r w f g lf lg so Q back. move ! second $ ends r w f g lf lg so Q back) (λ _. move ! second $ move ! third $
         at-size maxTriangles l₃ l₂ l₁ (known .read-large) (known .rest-large) (λ Δ. big-lit ! (record { fits = lit< tt })) (λ r w f g lf lg so Q back. move ! third $ ends r w f g lf lg so Q back) (λ h. move ! third $

@@ -19,17 +19,16 @@ use contract.Monad.{Fun, fact}
 use contract.Running.{givenOf, tables, tablesOf}
 use types.Kit.{Given, Item, ‵, raw, _⊛_, ⋆, some, Goal, runs, atRet, Sq, _$_, _∵_, !, qed, by, move, drop as forgo, use1, split, join, pick, fsplit, fjoin, feqL, suffices, frame, done}
 use types.Part.{whole, sub, look-in}
-use types.Run.{look, init, forget, stop, fld, from, load, of-opd, and-then, no-more, assigns, land, returns-within, enter, params1, pass1, pass0}
+use types.Run.{look, init, stop, fld, from, load, of-opd, and-then, no-more, assigns, enter, params1, pass1, pass0}
 use sound.WpLaws.{WpFn-mono}
 use denote.RattleType.{owns}
-use denote.Laws.{Is, shows}
+use denote.Laws.{Is}
 use denote.Plain.{uint-makes}
 use denote.Ref.{RefT, now}
 use denote.Slice.{sliceVal, ShrSlice, MutSlice, Room, finally, slice-vals, mut-slice-tells, mut-slice-lawful, shr-slice-tells, shr-slice-lawful}
 use denote.Signature.{plain}
 use denote.Builtin.{i32, u32, usize, ArrayOf, SliceRefMutOf}
-use denote.Steps.{nothing, owned, peeks, heard}
-use denote.Struct.Laws as LL
+use denote.Steps.{nothing, owned, heard}
 use denote.Triple.Statement.{Contract, Triple}
 use denote.Triple.Entry.{Vals, onEntry}
 use denote.Triple.Spec.{Meets, tripleOf}
@@ -46,7 +45,6 @@ use Rattle.convex_gather.proofs.refusal.Symbol.{name as #refuse}
 use Rattle.convex_gather.proofs.refusal.Met as refuse-thm
 use Rattle.table.specs.declared.Counts.{Counts}
 use Rattle.table.proofs.Counts as N
-use Rattle.table.proofs.Counts.Laws as N′
 use Rattle.mesh.specs.Rows.{rowsMesh}
 use Rattle.triangles.specs.declared.IntTriangle.{IntTriangle}
 use Rattle.triangles.specs.Triangles.{trianglesMesh}
@@ -54,8 +52,8 @@ use Rattle.triangles.proofs.IntTriangle as T
 use Rattle.triangles.proofs.RowsCall.{Big, lent, Own}
 use Rattle.triangles.proofs.Locals.{Homes, env, allocated, gone, freed}
 use Rattle.triangles.proofs.Known.{known-in}
-use Rattle.triangles.proofs.BySize.{Known, lies, held, room}
-use Rattle.triangles.proofs.PartsBySize.{OwnStarts, OwnCorners, Tokens₂, refusedCounts, Refuse, Five, Four, five, four, rooms, Before, Ends, Callee, by-size}
+use Rattle.triangles.proofs.BySize.{Known, lies, held}
+use Rattle.triangles.proofs.PartsBySize.{OwnStarts, OwnCorners, Tokens₂, refusedCounts, Refuse, Five, Four, five, four, rooms, Before, Frees, Callee, by-size}
 use Rattle.triangles_faults.proofs.Front.{too-many}
 use Rattle.triangles_join.proofs.join_tiny.Symbol.{name as #rest-tiny}
 use Rattle.triangles_join.proofs.join_tiny.Met as rest-tiny-thm
@@ -190,7 +188,7 @@ module _ {M : Type 1} (𝓤 : URA M) (H : Heap 𝓤) (A : Atoms 𝓤) (W : Given
     En = env 𝓤 H (code.function .locals) h
 
     abbrev others : Four 𝓤 H En
-    others = four 𝓤 H En 2 8 refl refl refl refl refl
+    others = four 𝓤 H En 2 8 refl refl refl refl refl refl
 
     abbrev of-tiny : Five 𝓤 H En tiny
     of-tiny = five 𝓤 H En 5 9 refl refl refl refl refl
@@ -201,9 +199,9 @@ module _ {M : Type 1} (𝓤 : URA M) (H : Heap 𝓤) (A : Atoms 𝓤) (W : Given
     abbrev of-large : Five 𝓤 H En maxTriangles
     of-large = five 𝓤 H En 7 17 refl refl refl refl refl
 
-    -- the answer's room, and what is left of the locals until they are freed
+    -- what is left of the locals until they are freed
     abbrev Γ₀ : List (Item 𝓤)
-    Γ₀ = room 𝓤 H En 0 N′.mir ∷ gone 𝓤 H En []
+    Γ₀ = gone 𝓤 H En []
 
     abbrev Others : List (Item 𝓤)
     Others = rooms 𝓤 H En of-small ++ (rooms 𝓤 H En of-large ++ Γ₀)
@@ -220,18 +218,16 @@ module _ {M : Type 1} (𝓤 : URA M) (H : Heap 𝓤) (A : Atoms 𝓤) (W : Given
       said = rest-said;
     }
 
-    -- [what the answer owns; the tokens; what mesh owns; starts' and corners' last lists; _12, …, _9, _5; _8, _4, …, _1; _16, …, _13, _6; _20, …, _17, _7; _0; the ends of _20, …, _0]
-    ends : Ends 𝓤 H A W mem run 𝓣 κ κ₁ κ₂ q q₁ q₂ s x y Told Post En others Γ₀ of-tiny Others
-    ends r w f g lf lg so Q back =
-        peeks ! N.the-row (Is N.the-row) (shows 𝓤 H A N.the-row) r (w ∷ []) (λ is. land ! (from ! (stop !)) (init ! 25 refl (LL.lawful N.the-type N′.the-laws 𝓤 H A W .typed r _ is .0)) $
-        returns-within ! Post back (look ! 25 refl) $ forget ! 11 refl $ forget ! 12 refl $ forget ! 13 refl $ forget ! 14 refl $ forget ! 25 refl $
-        move ! (25 ∷ 46 ∷ 14 ∷ 45 ∷ 13 ∷ 44 ∷ 12 ∷ 43 ∷ 11 ∷ 42 ∷ 9 ∷ 41 ∷ 19 ∷ 40 ∷ 24 ∷ 39 ∷ 10 ∷ 38 ∷ 8 ∷ 37 ∷ 7 ∷ 36 ∷ 6 ∷ 35 ∷ 5 ∷ 34 ∷ 18 ∷ 33 ∷ 17 ∷ 32 ∷ 16 ∷ 31 ∷ 15 ∷ 30 ∷ 23 ∷ 29 ∷ 22 ∷ 28 ∷ 21 ∷ 27 ∷ 20 ∷ 26 ∷ []) $
-        freed En (move ! (1 ∷ 2 ∷ 3 ∷ 4 ∷ 0 ∷ []) $ by ! (exits r w f g lf lg so)))
+    -- [what the answer owns; the tokens; what mesh owns; starts' and corners' last lists; _12, …, _9, _5; _8, _4, …, _0; _16, …, _13, _6; _20, …, _17, _7; the ends of _20, …, _0]
+    freeing : Frees 𝓤 H A W mem run 𝓣 κ κ₁ κ₂ q q₁ q₂ s x y Told Post En others Γ₀ of-tiny Others
+    freeing r w f g lf lg so =
+        move ! (15 ∷ 46 ∷ 14 ∷ 45 ∷ 13 ∷ 44 ∷ 12 ∷ 43 ∷ 11 ∷ 42 ∷ 9 ∷ 41 ∷ 20 ∷ 40 ∷ 25 ∷ 39 ∷ 10 ∷ 38 ∷ 8 ∷ 37 ∷ 7 ∷ 36 ∷ 6 ∷ 35 ∷ 5 ∷ 34 ∷ 19 ∷ 33 ∷ 18 ∷ 32 ∷ 17 ∷ 31 ∷ 16 ∷ 30 ∷ 24 ∷ 29 ∷ 23 ∷ 28 ∷ 22 ∷ 27 ∷ 21 ∷ 26 ∷ []) $
+        freed En (move ! (1 ∷ 2 ∷ 3 ∷ 4 ∷ 0 ∷ []) $ by ! (exits r w f g lf lg so))
 
     from-tiny : Sq W (Before 𝓤 H A W mem run 𝓣 κ κ₁ κ₂ q q₁ q₂ s x y Told Post En others Γ₀ of-tiny Others) (runs (𝓣 .C) (𝓣 .Λ) En mirs.t-2 (atRet En Post))
     unfolding callee
     from-tiny =
-        by-size 𝓤 H A W mem run 𝓣 κ κ₁ κ₂ q q₁ q₂ s x y Told Post En others Γ₀ callee (room-x .0) (room-y .0) of-tiny of-small of-large (known .0) (known .1) (λ many r er. refused ys (x .now) (y .now) many er) ends
+        by-size 𝓤 H A W mem run 𝓣 κ κ₁ κ₂ q q₁ q₂ s x y Told Post En others Γ₀ callee (room-x .0) (room-y .0) of-tiny of-small of-large (known .0) (known .1) (λ many r er. refused ys (x .now) (y .now) many er) freeing
 
   walk : (𝓣 : Tables 𝓤 H) → Calls 𝓤 H A mem run 𝓣
       → ent 𝓤 (onEntry 𝓤 H A self.signature (κ, (κ₁, (κ₂, tt))) (q, (q₁, (q₂, tt))) a at) (WpFn 𝓤 H (𝓣 .C) (𝓣 .Λ) code.function (lent s ∷ held x ∷ held y ∷ []) Post)
@@ -240,7 +236,7 @@ module _ {M : Type 1} (𝓤 : URA M) (H : Heap 𝓤) (A : Atoms 𝓤) (W : Given
       allocated (code.function .locals) (λ h. params1 ! $
       pass1 ! (init ! 38 refl (shr-slice-lawful 𝓤 H A W (named 0) κ T.the-row .typed s (lent s ∷ []) p .0)) $ pass1 ! (init ! 36 refl (mut-slice-lawful 𝓤 H A W (named 1) κ₁ u32 .typed x (held x ∷ []) px .0)) $ pass1 ! (init ! 34 refl (mut-slice-lawful 𝓤 H A W (named 2) κ₂ i32 .typed y (held y ∷ []) py .0)) $ pass0 ! $
       assigns ! (of-opd ! (load ! (from ! (fld ! refl (stop !))) (look-in ! 38 (sub ! 1 refl (whole !))))) (from ! (stop !)) (init ! 32 refl (tt, record { fits = fits-len })) $
-      move ! (43 ∷ []) $ fsplit ! $ move ! (1 ∷ []) $ fsplit ! $ move ! (1 ∷ []) $ fsplit ! $ move ! (46 ∷ []) $ split ! $ move ! (0 ∷ 3 ∷ []) $ join ! $ move ! (0 ∷ 4 ∷ 1 ∷ 3 ∷ 2 ∷ 21 ∷ 23 ∷ 25 ∷ 27 ∷ 35 ∷ 29 ∷ 37 ∷ 39 ∷ 41 ∷ 43 ∷ 13 ∷ 15 ∷ 17 ∷ 19 ∷ 33 ∷ 5 ∷ 7 ∷ 9 ∷ 11 ∷ 31 ∷ 45 ∷ []) $
+      move ! (43 ∷ []) $ fsplit ! $ move ! (1 ∷ []) $ fsplit ! $ move ! (1 ∷ []) $ fsplit ! $ move ! (46 ∷ []) $ split ! $ move ! (0 ∷ 3 ∷ []) $ join ! $ move ! (0 ∷ 4 ∷ 1 ∷ 3 ∷ 2 ∷ 21 ∷ 23 ∷ 25 ∷ 27 ∷ 35 ∷ 29 ∷ 37 ∷ 39 ∷ 41 ∷ 43 ∷ 45 ∷ 13 ∷ 15 ∷ 17 ∷ 19 ∷ 33 ∷ 5 ∷ 7 ∷ 9 ∷ 11 ∷ 31 ∷ []) $
       from-tiny 𝓣 known h)
 
 module _ {M : Type 1} (𝓤 : URA M) (H : Heap 𝓤) (A : Atoms 𝓤) (W : Given 𝓤 H A) (mem : Memory → SProp 𝓤) (run : Routine → Fun 𝓤) (𝓣 : Tables 𝓤 H) (known : Calls 𝓤 H A mem run 𝓣) where

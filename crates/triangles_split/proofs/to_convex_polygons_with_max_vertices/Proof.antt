@@ -19,17 +19,16 @@ use contract.Monad.{Fun, fact}
 use contract.Running.{givenOf, tables, tablesOf}
 use types.Kit.{Given, Item, ‵, raw, _⊛_, ⋆, some, Goal, runs, atRet, Sq, _$_, _∵_, !, qed, by, move, drop as forgo, use1, split, join, pick, fsplit, fjoin, feqL, suffices, frame, done}
 use types.Part.{whole, sub, look-in}
-use types.Run.{look, init, forget, stop, fld, from, load, of-opd, and-then, no-more, assigns, land, returns-within, enter, params1, pass1, pass0}
+use types.Run.{look, init, forget, stop, fld, from, load, of-opd, and-then, no-more, assigns, enter, params1, pass1, pass0}
 use sound.WpLaws.{WpFn-mono}
 use denote.RattleType.{owns}
-use denote.Laws.{Is, shows}
+use denote.Laws.{Is}
 use denote.Plain.{uint-vals, uint-tells, uint-makes, uint-lawful}
 use denote.Ref.{RefT, now}
 use denote.Slice.{sliceVal, ShrSlice, MutSlice, Room, finally, slice-vals, mut-slice-tells, mut-slice-lawful, shr-slice-tells, shr-slice-lawful}
 use denote.Signature.{plain}
 use denote.Builtin.{i32, u32, usize, ArrayOf, SliceRefMutOf}
-use denote.Steps.{nothing, owned, peeks, heard}
-use denote.Struct.Laws as LL
+use denote.Steps.{nothing, owned, heard}
 use denote.Enum.Laws as EL
 use denote.Triple.Statement.{Contract, Triple}
 use denote.Triple.Entry.{Vals, onEntry}
@@ -50,7 +49,6 @@ use Rattle.convex_gather.proofs.refusal.Symbol.{name as #refuse}
 use Rattle.convex_gather.proofs.refusal.Met as refuse-thm
 use Rattle.table.specs.declared.Counts.{Counts}
 use Rattle.table.proofs.Counts as N
-use Rattle.table.proofs.Counts.Laws as N′
 use Rattle.mesh.specs.Rows.{rowsMesh}
 use Rattle.triangles.specs.declared.IntTriangle.{IntTriangle}
 use Rattle.triangles.specs.Triangles.{trianglesMesh}
@@ -58,8 +56,8 @@ use Rattle.triangles.proofs.IntTriangle as T
 use Rattle.triangles.proofs.RowsCall.{Big, lent, Own}
 use Rattle.triangles.proofs.Locals.{Homes, env, allocated, gone, freed}
 use Rattle.triangles.proofs.Known.{known-in}
-use Rattle.triangles.proofs.BySize.{Known, lies, held, room, holds}
-use Rattle.triangles.proofs.PartsBySize.{num, OwnStarts, OwnCorners, Tokens₂, refusedCounts, Refuse, Five, Four, five, four, rooms, Before, Ends, Callee, by-size}
+use Rattle.triangles.proofs.BySize.{Known, lies, held, holds}
+use Rattle.triangles.proofs.PartsBySize.{num, OwnStarts, OwnCorners, Tokens₂, refusedCounts, Refuse, Five, Four, five, four, rooms, Before, Frees, Callee, by-size}
 use Rattle.triangles_faults.proofs.Front.{too-many}
 use Rattle.triangles_split.proofs.split_tiny.Symbol.{name as #rest-tiny}
 use Rattle.triangles_split.proofs.split_tiny.Met as rest-tiny-thm
@@ -197,7 +195,7 @@ module _ {M : Type 1} (𝓤 : URA M) (H : Heap 𝓤) (A : Atoms 𝓤) (W : Given
     En = env 𝓤 H (code.function .locals) h
 
     abbrev others : Four 𝓤 H En
-    others = four 𝓤 H En 4 10 refl refl refl refl refl
+    others = four 𝓤 H En 4 10 refl refl refl refl refl refl
 
     abbrev of-tiny : Five 𝓤 H En tiny
     of-tiny = five 𝓤 H En 7 11 refl refl refl refl refl
@@ -208,9 +206,9 @@ module _ {M : Type 1} (𝓤 : URA M) (H : Heap 𝓤) (A : Atoms 𝓤) (W : Given
     abbrev of-large : Five 𝓤 H En maxTriangles
     of-large = five 𝓤 H En 9 19 refl refl refl refl refl
 
-    -- the strategy and the limit; the answer's room, and what is left of the locals until they are freed
+    -- the strategy and the limit; what is left of the locals until they are freed
     abbrev Γ₀ : List (Item 𝓤)
-    Γ₀ = holds 𝓤 H En 3 S′.mir vh ∷ holds 𝓤 H En 2 num (vint w32 most) ∷ room 𝓤 H En 0 N′.mir ∷ gone 𝓤 H En []
+    Γ₀ = holds 𝓤 H En 3 S′.mir vh ∷ holds 𝓤 H En 2 num (vint w32 most) ∷ gone 𝓤 H En []
 
     abbrev Others : List (Item 𝓤)
     Others = rooms 𝓤 H En of-small ++ (rooms 𝓤 H En of-large ++ Γ₀)
@@ -222,23 +220,21 @@ module _ {M : Type 1} (𝓤 : URA M) (H : Heap 𝓤) (A : Atoms 𝓤) (W : Given
       Said = RestSaid;
       args = λ rows starts corners. copy (place rows []) ∷ copy (place 6 []) ∷ copy (place 2 []) ∷ copy (place 3 []) ∷ copy (place starts []) ∷ copy (place corners []) ∷ [];
       asks = goes-rest;
-      opds = λ l l₂ l₃ z u. and-then ! (load ! (lies ! (l .at-rows) (stop !)) (look ! 9 refl)) (and-then ! (load ! (from ! (stop !)) (look ! 12 refl)) (and-then ! (load ! (from ! (stop !)) (look ! 24 refl)) (and-then ! (load ! (from ! (stop !)) (look ! 23 refl)) (and-then ! (load ! (lies ! (l .at-starts) (stop !)) (look ! 4 refl)) (and-then ! (load ! (lies ! (l .at-corners) (stop !)) (look ! 1 refl)) (no-more !))))));
+      opds = λ l l₂ l₃ z u. and-then ! (load ! (lies ! (l .at-rows) (stop !)) (look ! 9 refl)) (and-then ! (load ! (from ! (stop !)) (look ! 12 refl)) (and-then ! (load ! (from ! (stop !)) (look ! 25 refl)) (and-then ! (load ! (from ! (stop !)) (look ! 24 refl)) (and-then ! (load ! (lies ! (l .at-starts) (stop !)) (look ! 4 refl)) (and-then ! (load ! (lies ! (l .at-corners) (stop !)) (look ! 1 refl)) (no-more !))))));
       tells = λ size z u w. id⊢ 𝓤 _;
       said = rest-said;
     }
 
-    -- [what the answer owns; the tokens; what mesh owns; starts' and corners' last lists; _14, …, _11, _7; _10, _6, _5, _4, _1; _18, …, _15, _8; _22, …, _19, _9; _3, _2; _0; the ends of _22, …, _0]
-    ends : Ends 𝓤 H A W mem run 𝓣 κ κ₁ κ₂ q q₁ q₂ s x y Told Post En others Γ₀ of-tiny Others
-    ends r w f g lf lg so Q back =
-        peeks ! N.the-row (Is N.the-row) (shows 𝓤 H A N.the-row) r (w ∷ []) (λ is. land ! (from ! (stop !)) (init ! 27 refl (LL.lawful N.the-type N′.the-laws 𝓤 H A W .typed r _ is .0)) $
-        returns-within ! Post back (look ! 27 refl) $ forget ! 11 refl $ forget ! 12 refl $ forget ! 13 refl $ forget ! 14 refl $ forget ! 25 refl $ forget ! 26 refl $ forget ! 27 refl $
-        move ! (27 ∷ 50 ∷ 14 ∷ 49 ∷ 26 ∷ 48 ∷ 25 ∷ 47 ∷ 13 ∷ 46 ∷ 12 ∷ 45 ∷ 11 ∷ 44 ∷ 9 ∷ 43 ∷ 19 ∷ 42 ∷ 24 ∷ 41 ∷ 10 ∷ 40 ∷ 8 ∷ 39 ∷ 7 ∷ 38 ∷ 6 ∷ 37 ∷ 5 ∷ 36 ∷ 18 ∷ 35 ∷ 17 ∷ 34 ∷ 16 ∷ 33 ∷ 15 ∷ 32 ∷ 23 ∷ 31 ∷ 22 ∷ 30 ∷ 21 ∷ 29 ∷ 20 ∷ 28 ∷ []) $
-        freed En (move ! (1 ∷ 2 ∷ 3 ∷ 4 ∷ 0 ∷ []) $ by ! (exits r w f g lf lg so)))
+    -- [what the answer owns; the tokens; what mesh owns; starts' and corners' last lists; _14, …, _11, _7; _10, _6, _5, _4, _1, _0; _18, …, _15, _8; _22, …, _19, _9; _3, _2; the ends of _22, …, _0]
+    freeing : Frees 𝓤 H A W mem run 𝓣 κ κ₁ κ₂ q q₁ q₂ s x y Told Post En others Γ₀ of-tiny Others
+    freeing r w f g lf lg so =
+        forget ! 26 refl $ forget ! 27 refl $ move ! (15 ∷ 50 ∷ 14 ∷ 49 ∷ 27 ∷ 48 ∷ 26 ∷ 47 ∷ 13 ∷ 46 ∷ 12 ∷ 45 ∷ 11 ∷ 44 ∷ 9 ∷ 43 ∷ 20 ∷ 42 ∷ 25 ∷ 41 ∷ 10 ∷ 40 ∷ 8 ∷ 39 ∷ 7 ∷ 38 ∷ 6 ∷ 37 ∷ 5 ∷ 36 ∷ 19 ∷ 35 ∷ 18 ∷ 34 ∷ 17 ∷ 33 ∷ 16 ∷ 32 ∷ 24 ∷ 31 ∷ 23 ∷ 30 ∷ 22 ∷ 29 ∷ 21 ∷ 28 ∷ []) $
+        freed En (move ! (1 ∷ 2 ∷ 3 ∷ 4 ∷ 0 ∷ []) $ by ! (exits r w f g lf lg so))
 
     from-tiny : Sq W (Before 𝓤 H A W mem run 𝓣 κ κ₁ κ₂ q q₁ q₂ s x y Told Post En others Γ₀ of-tiny Others) (runs (𝓣 .C) (𝓣 .Λ) En mirs.t-2 (atRet En Post))
     unfolding callee
     from-tiny =
-        by-size 𝓤 H A W mem run 𝓣 κ κ₁ κ₂ q q₁ q₂ s x y Told Post En others Γ₀ callee (room-x .0) (room-y .0) of-tiny of-small of-large (known .0) (known .1) (λ many r er. refused how most ys (x .now) (y .now) many er) ends
+        by-size 𝓤 H A W mem run 𝓣 κ κ₁ κ₂ q q₁ q₂ s x y Told Post En others Γ₀ callee (room-x .0) (room-y .0) of-tiny of-small of-large (known .0) (known .1) (λ many r er. refused how most ys (x .now) (y .now) many er) freeing
 
   walk : (𝓣 : Tables 𝓤 H) → Calls 𝓤 H A mem run 𝓣
       → ent 𝓤 (onEntry 𝓤 H A self.signature (κ, (κ₁, (κ₂, tt))) (q, (q₁, (q₂, tt))) a at) (WpFn 𝓤 H (𝓣 .C) (𝓣 .Λ) code.function (lent s ∷ vint w32 most ∷ vh ∷ held x ∷ held y ∷ []) Post)
@@ -248,7 +244,7 @@ module _ {M : Type 1} (𝓤 : URA M) (H : Heap 𝓤) (A : Atoms 𝓤) (W : Given
       pass1 ! (init ! 42 refl (shr-slice-lawful 𝓤 H A W (named 0) κ T.the-row .typed s (lent s ∷ []) p .0)) $ pass1 ! (init ! 40 refl (uint-lawful 𝓤 H A W w32 .typed most (vint w32 most ∷ []) pm .0)) $ pass1 ! (init ! 38 refl (EL.lawful S.the-type S′.the-laws 𝓤 H A W tt .typed how (vh ∷ []) ph .0)) $
       pass1 ! (init ! 36 refl (mut-slice-lawful 𝓤 H A W (named 1) κ₁ u32 .typed x (held x ∷ []) px .0)) $ pass1 ! (init ! 34 refl (mut-slice-lawful 𝓤 H A W (named 2) κ₂ i32 .typed y (held y ∷ []) py .0)) $ pass0 ! $
       assigns ! (of-opd ! (load ! (from ! (fld ! refl (stop !))) (look-in ! 42 (sub ! 1 refl (whole !))))) (from ! (stop !)) (init ! 32 refl (tt, record { fits = fits-len })) $
-      move ! (47 ∷ []) $ fsplit ! $ move ! (1 ∷ []) $ fsplit ! $ forgo ! $ fsplit ! $ forgo ! $ fsplit ! $ move ! (1 ∷ []) $ fsplit ! $ move ! (50 ∷ []) $ split ! $ move ! (0 ∷ 3 ∷ []) $ join ! $ move ! (0 ∷ 4 ∷ 1 ∷ 3 ∷ 2 ∷ 21 ∷ 23 ∷ 25 ∷ 27 ∷ 35 ∷ 29 ∷ 37 ∷ 39 ∷ 41 ∷ 47 ∷ 13 ∷ 15 ∷ 17 ∷ 19 ∷ 33 ∷ 5 ∷ 7 ∷ 9 ∷ 11 ∷ 31 ∷ 43 ∷ 45 ∷ 49 ∷ []) $
+      move ! (47 ∷ []) $ fsplit ! $ move ! (1 ∷ []) $ fsplit ! $ forgo ! $ fsplit ! $ forgo ! $ fsplit ! $ move ! (1 ∷ []) $ fsplit ! $ move ! (50 ∷ []) $ split ! $ move ! (0 ∷ 3 ∷ []) $ join ! $ move ! (0 ∷ 4 ∷ 1 ∷ 3 ∷ 2 ∷ 21 ∷ 23 ∷ 25 ∷ 27 ∷ 35 ∷ 29 ∷ 37 ∷ 39 ∷ 41 ∷ 47 ∷ 49 ∷ 13 ∷ 15 ∷ 17 ∷ 19 ∷ 33 ∷ 5 ∷ 7 ∷ 9 ∷ 11 ∷ 31 ∷ 43 ∷ 45 ∷ []) $
       from-tiny 𝓣 known h)
 
 module _ {M : Type 1} (𝓤 : URA M) (H : Heap 𝓤) (A : Atoms 𝓤) (W : Given 𝓤 H A) (mem : Memory → SProp 𝓤) (run : Routine → Fun 𝓤) (𝓣 : Tables 𝓤 H) (known : Calls 𝓤 H A mem run 𝓣) where
