@@ -1,10 +1,11 @@
 -- An entry point that answers the parts of a lent slice of triangle structs, into lent starts and corners: by the mesh's size it reads the rows into a local array and hands them on, with starts and corners; past the
 -- last size it refuses. `triangles_join` and `triangles_split` have one each; what differs is the function that the rows are handed to, and what the parts are.
---     Five            the locals of one size
+--     Refuse          the contract of the call that refuses
+--     OfSize, OfAll   the locals of one size, and those of all sizes
+--     Before          what is had between the tests
+--     Frees           what is left to show once an answer is returned
 --     Callee          what is known of the function that the rows are handed to, at any size
---     at-size         the code at one size
---     past            the code past the last size
---     by-size         the code: three sizes, and past them
+--     by-size         the code: three sizes, each by `at-size`, and past them, by `past`
 -- Assumes `Given`.
 use mathlib.Core.Path.{_≡_, refl, subst}
 use mathlib.Core.List.{List, [], _∷_, _++_}
@@ -109,7 +110,7 @@ third = 0 ∷ 1 ∷ 2 ∷ 3 ∷ 4 ∷ 21 ∷ 22 ∷ 23 ∷ 24 ∷ 25 ∷ 10 ∷ 
 -- ---- the places of the locals
 module _ {M : Type 1} (𝓤 : URA M) (H : Heap 𝓤) (En : Env 𝓤 H) where
   -- of one size: the array of rows, and by which locals starts and corners are lent on
-  pub record Five (size : ℕ) : Type 0 where
+  pub record OfSize (size : ℕ) : Type 0 where
     pub rows : ℕ
     pub to-starts : ℕ
     pub starts : ℕ
@@ -122,7 +123,7 @@ module _ {M : Type 1} (𝓤 : URA M) (H : Heap 𝓤) (En : Env 𝓤 H) where
     pub at-corners : Lies 𝓤 H En corners slice
 
   -- of every size: starts, corners, the mesh's length and the test (the answer is local 0, the mesh local 1)
-  pub record Four : Type 0 where
+  pub record OfAll : Type 0 where
     pub starts : ℕ
     pub corners : ℕ
     pub count : ℕ
@@ -135,25 +136,25 @@ module _ {M : Type 1} (𝓤 : URA M) (H : Heap 𝓤) (En : Env 𝓤 H) where
     pub at-test : Lies 𝓤 H En test tyBool
 
   -- the four by which starts and corners are lent on stand in a row
-  abbrev pub five : {size : ℕ} (r i : ℕ) → Lies 𝓤 H En r (big size) → Lies 𝓤 H En i ref → Lies 𝓤 H En (1 + i) slice → Lies 𝓤 H En (2 + i) ref → Lies 𝓤 H En (3 + i) slice → Five size
-  five r i e₀ e₁ e₂ e₃ e₄ = record { rows = r; to-starts = i; starts = 1 + i; to-corners = 2 + i; corners = 3 + i; at-rows = e₀; at-to-starts = e₁; at-starts = e₂; at-to-corners = e₃; at-corners = e₄ }
+  abbrev pub of-size : {size : ℕ} (r i : ℕ) → Lies 𝓤 H En r (big size) → Lies 𝓤 H En i ref → Lies 𝓤 H En (1 + i) slice → Lies 𝓤 H En (2 + i) ref → Lies 𝓤 H En (3 + i) slice → OfSize size
+  of-size r i e₀ e₁ e₂ e₃ e₄ = record { rows = r; to-starts = i; starts = 1 + i; to-corners = 2 + i; corners = 3 + i; at-rows = e₀; at-to-starts = e₁; at-starts = e₂; at-to-corners = e₃; at-corners = e₄ }
 
   -- starts, corners and the length stand in a row
-  abbrev pub four : (i t : ℕ) → Lies 𝓤 H En 0 N′.mir → Lies 𝓤 H En 1 sl → Lies 𝓤 H En i starts-ty → Lies 𝓤 H En (1 + i) corners-ty → Lies 𝓤 H En (2 + i) (tyInt w64) → Lies 𝓤 H En t tyBool → Four
-  four i t e e₀ e₁ e₂ e₃ e₄ = record { starts = i; corners = 1 + i; count = 2 + i; test = t; at-answer = e; at-mesh = e₀; at-starts = e₁; at-corners = e₂; at-count = e₃; at-test = e₄ }
+  abbrev pub of-all : (i t : ℕ) → Lies 𝓤 H En 0 N′.mir → Lies 𝓤 H En 1 sl → Lies 𝓤 H En i starts-ty → Lies 𝓤 H En (1 + i) corners-ty → Lies 𝓤 H En (2 + i) (tyInt w64) → Lies 𝓤 H En t tyBool → OfAll
+  of-all i t e e₀ e₁ e₂ e₃ e₄ = record { starts = i; corners = 1 + i; count = 2 + i; test = t; at-answer = e; at-mesh = e₀; at-starts = e₁; at-corners = e₂; at-count = e₃; at-test = e₄ }
 
-  abbrev pub rooms : {size : ℕ} → Five size → List (Item 𝓤)
+  abbrev pub rooms : {size : ℕ} → OfSize size → List (Item 𝓤)
   rooms {size} g = room 𝓤 H En (g .corners) slice ∷ room 𝓤 H En (g .to-corners) ref ∷ room 𝓤 H En (g .starts) slice ∷ room 𝓤 H En (g .to-starts) ref ∷ room 𝓤 H En (g .rows) (big size) ∷ []
 
 -- ---- the code
-abbrev pub passing : {M : Type 1} (𝓤 : URA M) (H : Heap 𝓤) (En : Env 𝓤 H) (o : Four 𝓤 H En) {size : ℕ} (g : Five 𝓤 H En size) → Name → Name → List Operand → Body
+abbrev pub passing : {M : Type 1} (𝓤 : URA M) (H : Heap 𝓤) (En : Env 𝓤 H) (o : OfAll 𝓤 H En) {size : ℕ} (g : OfSize 𝓤 H En size) → Name → Name → List Operand → Body
 passing 𝓤 H En o g #rows #rest args =
     seq (call #rows (copy (place 1 []) ∷ []) (place (g .rows) [])) (seq (assign (place (g .to-starts) []) (addrOf (place (o .starts) (field 0 ∷ deref num ∷ []))))
     (seq (assign (place (g .starts) []) (aggregate (copy (place (g .to-starts) []) ∷ copy (place (o .starts) (field 1 ∷ [])) ∷ [])))
     (seq (assign (place (g .to-corners) []) (addrOf (place (o .corners) (field 0 ∷ deref num ∷ []))))
     (seq (assign (place (g .corners) []) (aggregate (copy (place (g .to-corners) []) ∷ copy (place (o .corners) (field 1 ∷ [])) ∷ []))) (seq (call #rest args (place 0 [])) return)))))
 
-abbrev pub sized : {M : Type 1} (𝓤 : URA M) (H : Heap 𝓤) (En : Env 𝓤 H) (o : Four 𝓤 H En) {size : ℕ} (g : Five 𝓤 H En size) → Name → Name → List Operand → Operand → Body → Body
+abbrev pub sized : {M : Type 1} (𝓤 : URA M) (H : Heap 𝓤) (En : Env 𝓤 H) (o : OfAll 𝓤 H En) {size : ℕ} (g : OfSize 𝓤 H En size) → Name → Name → List Operand → Operand → Body → Body
 sized 𝓤 H En o g #rows #rest args bound more =
     seq (assign (place (o .test) []) (op2 (le unsigned) (copy (place (o .count) [])) bound)) (seq (cond (copy (place (o .test) [])) (passing 𝓤 H En o g #rows #rest args) skip) more)
 
@@ -161,7 +162,7 @@ abbrev pub refusing : Body
 refusing = seq (call #refuse (int w32 1 ∷ []) (place 0 [])) return
 
 module _ {M : Type 1} (𝓤 : URA M) (H : Heap 𝓤) (A : Atoms 𝓤) (W : Given 𝓤 H A) (mem : Memory → SProp 𝓤) (run : Routine → Fun 𝓤) (𝓣 : Tables 𝓤 H) (κ κ₁ κ₂ : Lft) (q q₁ q₂ : Share) (s : RefT (List IntTriangle)) (x : RefT (List ℕ)) (y : RefT (List ℤ))
-    (Answers : Mesh → Counts → List ℕ → List ℤ → Type 0) (Kf : Val → SProp 𝓤) (En : Env 𝓤 H) (o : Four 𝓤 H En) (Γ₀ : List (Item 𝓤)) where
+    (Answers : Mesh → Counts → List ℕ → List ℤ → Type 0) (Kf : Val → SProp 𝓤) (En : Env 𝓤 H) (o : OfAll 𝓤 H En) (Γ₀ : List (Item 𝓤)) where
   abbrev n : ℕ
   n = length (s .now)
 
@@ -169,48 +170,49 @@ module _ {M : Type 1} (𝓤 : URA M) (H : Heap 𝓤) (A : Atoms 𝓤) (W : Given
   tok₂ = Tokens₂ 𝓤 κ₁ κ₂ q₁ q₂
 
   -- the locals, those of one size first
-  abbrev pub Cells : {size : ℕ} → Five 𝓤 H En size → List (Item 𝓤) → List (Item 𝓤)
+  abbrev Cells : {size : ℕ} → OfSize 𝓤 H En size → List (Item 𝓤) → List (Item 𝓤)
   Cells g Γ = rooms 𝓤 H En g ++ (room 𝓤 H En (o .test) tyBool ∷ holds 𝓤 H En (o .count) (tyInt w64) (vint w64 n) ∷ holds 𝓤 H En (o .corners) corners-ty (held y) ∷ holds 𝓤 H En (o .starts) starts-ty (held x) ∷ holds 𝓤 H En 1 sl (lent s) ∷ room 𝓤 H En 0 N′.mir ∷ Γ)
 
   -- what is had between the tests
-  abbrev pub Before : {size : ℕ} → Five 𝓤 H En size → List (Item 𝓤) → List (Item 𝓤)
+  abbrev pub Before : {size : ℕ} → OfSize 𝓤 H En size → List (Item 𝓤) → List (Item 𝓤)
   Before g Γ = Token 𝓤 κ q ∷ ‵ (Own κ s) ∷ tok₂ ∷ ‵ (OwnStarts κ₁ x) ∷ ‵ (OwnCorners κ₂ y) ∷ Cells g Γ
 
   -- what is had once there is an answer
-  abbrev pub After : Counts → Val → List ℕ → List ℤ → {size : ℕ} → Five 𝓤 H En size → List (Item 𝓤) → List (Item 𝓤)
+  abbrev After : Counts → Val → List ℕ → List ℤ → {size : ℕ} → OfSize 𝓤 H En size → List (Item 𝓤) → List (Item 𝓤)
   After r w f g l Γ = ‵ (N.the-row .own r (w ∷ [])) ∷ (‵ (flft κ q) ⊛ tok₂) ∷ ‵ (Own κ s) ∷ ‵ (finally u32 (x .name) f) ∷ ‵ (finally i32 (y .name) g) ∷ Cells l Γ
 
   -- what is had when the rows are handed on
-  abbrev pub Ready : {size : ℕ} → Five 𝓤 H En size → Val → List (Item 𝓤) → List (Item 𝓤)
+  abbrev pub Ready : {size : ℕ} → OfSize 𝓤 H En size → Val → List (Item 𝓤) → List (Item 𝓤)
   Ready {size} g u Γ =
       holds 𝓤 H En (g .corners) slice (held y) ∷ holds 𝓤 H En (g .to-corners) ref (vptr (y .ptr .0) (y .ptr .1)) ∷ holds 𝓤 H En (o .corners) corners-ty (held y)
       ∷ holds 𝓤 H En (g .starts) slice (held x) ∷ holds 𝓤 H En (g .to-starts) ref (vptr (x .ptr .0) (x .ptr .1)) ∷ holds 𝓤 H En (o .starts) starts-ty (held x)
       ∷ Token 𝓤 κ q ∷ ‵ (Own κ s) ∷ holds 𝓤 H En (g .rows) (big size) u ∷ holds 𝓤 H En 1 sl (lent s) ∷ room 𝓤 H En (o .test) tyBool ∷ holds 𝓤 H En (o .count) (tyInt w64) (vint w64 n) ∷ room 𝓤 H En 0 N′.mir ∷ Γ
 
   -- an answer is stored and returned
-  abbrev Ends : {size : ℕ} → Five 𝓤 H En size → List (Item 𝓤) → Type 2
+  abbrev Ends : {size : ℕ} → OfSize 𝓤 H En size → List (Item 𝓤) → Type 2
   Ends l Γ = (r : Counts) (w : Val) (f : List ℕ) (g : List ℤ) → length f ≡ length (x .now) → length g ≡ length (y .now) → Answers (trianglesMesh (s .now)) r f g
       → (Q : Post 𝓤 H) → Back 𝓤 H En Q Kf → Sq W (After r w f g l Γ) (lands (𝓣 .C) (𝓣 .Λ) En (place 0 []) w return Q)
 
   -- the locals, all of them room, are freed
-  abbrev pub Frees : {size : ℕ} → Five 𝓤 H En size → List (Item 𝓤) → Type 1
+  abbrev pub Frees : {size : ℕ} → OfSize 𝓤 H En size → List (Item 𝓤) → Type 1
   Frees l Γ = (r : Counts) (w : Val) (f : List ℕ) (g : List ℤ) → length f ≡ length (x .now) → length g ≡ length (y .now) → Answers (trianglesMesh (s .now)) r f g
       → Sq W (‵ (N.the-row .own r (w ∷ [])) ∷ (‵ (flft κ q) ⊛ tok₂) ∷ ‵ (Own κ s) ∷ ‵ (finally u32 (x .name) f) ∷ ‵ (finally i32 (y .name) g) ∷ (rooms 𝓤 H En l
       ++ (room 𝓤 H En (o .test) tyBool ∷ room 𝓤 H En (o .count) (tyInt w64) ∷ room 𝓤 H En (o .corners) corners-ty ∷ room 𝓤 H En (o .starts) starts-ty ∷ room 𝓤 H En 1 sl ∷ room 𝓤 H En 0 N′.mir ∷ Γ))) (frees En (prop (Kf w)))
 
-  answered : {size : ℕ} (l : Five 𝓤 H En size) (Γ : List (Item 𝓤)) → Frees l Γ → Ends l Γ
+  answered : {size : ℕ} (l : OfSize 𝓤 H En size) (Γ : List (Item 𝓤)) → Frees l Γ → Ends l Γ
   answered l Γ freeing r w f g lf lg so Q back =
       peeks ! N.the-row (Is N.the-row) (shows 𝓤 H A N.the-row) r (w ∷ []) (λ is. land ! (lies ! (o .at-answer) (stop !)) (init ! 15 refl (LL.lawful N.the-type N′.the-laws 𝓤 H A W .typed r _ is .0)) $
       returns-within ! Kf back (lies-read En 0 (o .at-answer) (look ! 15 refl)) $ forget ! 11 refl $ forget ! 12 refl $ forget ! 13 refl $ forget ! 14 refl $ forget ! 15 refl $ freeing r w f g lf lg so)
 
-  -- the function that the rows are handed to
+  -- the function that the rows are handed to: its contract, what it is handed, what it says of the rows, and its operands, of the places of the rows, of starts and of corners;
+  -- what it asks is had, its operands are read, and it tells what starts and corners hold at last
   pub record Callee : Type 2 where
     pub Rest : ℕ → Contract 𝓤
     pub to : (size : ℕ) → List (List ℤ) → Val → Rest size .Ghost
     pub Said : ℕ → List (List ℤ) → Counts → SProp 𝓤
     pub args : ℕ → ℕ → ℕ → List Operand
     pub asks : (size : ℕ) (z : List (List ℤ)) (u : Val) → n ≤ size → ent 𝓤 (⋆ 𝓤 H A (tok₂ ∷ ‵ (OwnStarts κ₁ x) ∷ ‵ (OwnCorners κ₂ y) ∷ ‵ (Big size .own z (u ∷ [])) ∷ [])) (Rest size .pre (to size z u))
-    pub opds : {size s₂ s₃ : ℕ} (l : Five 𝓤 H En size) (l₂ : Five 𝓤 H En s₂) (l₃ : Five 𝓤 H En s₃) (z : List (List ℤ)) (u : Val)
+    pub opds : {size s₂ s₃ : ℕ} (l : OfSize 𝓤 H En size) (l₂ : OfSize 𝓤 H En s₂) (l₃ : OfSize 𝓤 H En s₃) (z : List (List ℤ)) (u : Val)
         → Opds (Go {0}) W (raw (Rest size .pre (to size z u)) ∷ Ready l u (rooms 𝓤 H En l₂ ++ (rooms 𝓤 H En l₃ ++ Γ₀))) En (args (l .rows) (l .starts) (l .corners)) (Rest size .args (to size z u))
     pub tells : (size : ℕ) (z : List (List ℤ)) (u w : Val) → ent 𝓤 (Rest size .post (to size z u) w) (mean 𝓤 H A (later (some (λ (r : Counts). (tok₂ ⊛ ‵ (N.the-row .own r (w ∷ []))) ⊛ raw (Said size z r)))))
     pub said : (size : ℕ) (z : List (List ℤ)) (r : Counts) {Γ : List (Item 𝓤)} {G : Goal 𝓤 H}
@@ -218,7 +220,7 @@ module _ {M : Type 1} (𝓤 : URA M) (H : Heap 𝓤) (A : Atoms 𝓤) (W : Given
         → Sq W (raw (Said size z r) ∷ Γ) G
 
   module _ (c : Callee) (fits-x : length (x .now) < 2 ^ 64) (fits-y : length (y .now) < 2 ^ 64) where
-    pub at-size : (size : ℕ) {s₂ s₃ : ℕ} (l : Five 𝓤 H En size) (l₂ : Five 𝓤 H En s₂) (l₃ : Five 𝓤 H En s₃) {#rows #rest : Name} {bound : Operand} {more : Body}
+    at-size : (size : ℕ) {s₂ s₃ : ℕ} (l : OfSize 𝓤 H En size) (l₂ : OfSize 𝓤 H En s₂) (l₃ : OfSize 𝓤 H En s₃) {#rows #rest : Name} {bound : Operand} {more : Body}
         → Triple 𝓤 (𝓣 .C #rows) (Rows 𝓤 H A size) → Triple 𝓤 (𝓣 .C #rest) (c .Rest size) → ((Δ : List (Item 𝓤)) → Opd (Go {0}) W Δ En bound (vint w64 size))
         → Ends l (rooms 𝓤 H En l₂ ++ (rooms 𝓤 H En l₃ ++ Γ₀))
         → (size < n → Sq W (Before l (rooms 𝓤 H En l₂ ++ (rooms 𝓤 H En l₃ ++ Γ₀))) (runs (𝓣 .C) (𝓣 .Λ) En more (atRet En Kf)))
@@ -242,7 +244,7 @@ module _ {M : Type 1} (𝓤 : URA M) (H : Heap 𝓤) (A : Atoms 𝓤) (W : Given
         (λ h. move ! (2 ∷ 3 ∷ 4 ∷ 5 ∷ 6 ∷ 7 ∷ 8 ∷ 9 ∷ 10 ∷ 11 ∷ []) $ above h)
 
     -- nothing is written: starts and corners are given up as they were
-    pub past : {size : ℕ} (l : Five 𝓤 H En size) (Γ : List (Item 𝓤)) → Triple 𝓤 (𝓣 .C #refuse) (Refuse 𝓤 H A mem run) → ((r : Counts) → r ≡ refusedCounts → Answers (trianglesMesh (s .now)) r (x .now) (y .now))
+    past : {size : ℕ} (l : OfSize 𝓤 H En size) (Γ : List (Item 𝓤)) → Triple 𝓤 (𝓣 .C #refuse) (Refuse 𝓤 H A mem run) → ((r : Counts) → r ≡ refusedCounts → Answers (trianglesMesh (s .now)) r (x .now) (y .now))
         → Ends l Γ → Sq W (Before l Γ) (runs (𝓣 .C) (𝓣 .Λ) En refusing (atRet En Kf))
     past l Γ known refused ends =
         nothing ! $ use1 W (raw (Refuse 𝓤 H A mem run .pre (to-refuse 𝓤 H A mem run))) (goes-refuse 𝓤 H A mem run W) $
@@ -253,7 +255,7 @@ module _ {M : Type 1} (𝓤 : URA M) (H : Heap 𝓤) (A : Atoms 𝓤) (W : Given
         move ! (4 ∷ []) $ use1 W (‵ (finally u32 (x .name) (x .now))) (unwritten 𝓤 H A W (named 1) κ₁ u32 x) $ move ! (5 ∷ []) $ use1 W (‵ (finally i32 (y .name) (y .now))) (unwritten 𝓤 H A W (named 2) κ₂ i32 y) $
         move ! (3 ∷ []) $ split ! $ move ! (0 ∷ 6 ∷ []) $ join ! $ move ! (1 ∷ []) $ forgo ! $ move ! (3 ∷ 0 ∷ 4 ∷ 2 ∷ 1 ∷ []) $ ends r u (x .now) (y .now) refl refl (refused r er) _ refl)))
 
-    pub by-size : (l₁ : Five 𝓤 H En tiny) (l₂ : Five 𝓤 H En small) (l₃ : Five 𝓤 H En maxTriangles) {#tiny #small #large : Name}
+    pub by-size : (l₁ : OfSize 𝓤 H En tiny) (l₂ : OfSize 𝓤 H En small) (l₃ : OfSize 𝓤 H En maxTriangles) {#tiny #small #large : Name}
         → Known 𝓤 H A 𝓣 (c .Rest) #tiny #small #large → Triple 𝓤 (𝓣 .C #refuse) (Refuse 𝓤 H A mem run) → (maxTriangles < n → (r : Counts) → r ≡ refusedCounts → Answers (trianglesMesh (s .now)) r (x .now) (y .now))
         → Frees l₁ (rooms 𝓤 H En l₂ ++ (rooms 𝓤 H En l₃ ++ Γ₀))
         → Sq W (Before l₁ (rooms 𝓤 H En l₂ ++ (rooms 𝓤 H En l₃ ++ Γ₀))) (runs (𝓣 .C) (𝓣 .Λ) En

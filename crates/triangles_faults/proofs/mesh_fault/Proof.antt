@@ -1,5 +1,5 @@
 -- `triangles_faults::mesh_fault` meets its contract: a walk of its MIR, by hand. By the mesh's size it calls `rows_tiny` and `fault_tiny`, or the small or the large ones; past the limit it answers at once. What the calls ask and
--- tell is stated once, of any size. Assumes nothing.
+-- tell, and the code at a size, are stated once, of any size (BySize.antt). Assumes nothing.
 use mathlib.Core.Path.{_≡_, refl, ap, _∙_}
 use Prim.Native.Nat.{ℕ, _≤_, _<_, _^_}
 use mathlib.Core.List.{List, [], _∷_}

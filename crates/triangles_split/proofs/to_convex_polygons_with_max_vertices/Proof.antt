@@ -1,5 +1,5 @@
--- `triangles_split::to_convex_polygons_with_max_vertices` meets its contract: a walk of its MIR, by hand. By the mesh's size it calls `rows_tiny` and `split_tiny`, or the small or the large ones, to which starts and corners are passed on; past the
--- limit it refuses. What the calls ask and tell is stated once, of any size. Assumes nothing.
+-- `triangles_split::to_convex_polygons_with_max_vertices` meets its contract: PartsBySize.antt over `split_tiny`, `split_small` and `split_large`. Said here, once for any size: what these ask and tell; then where the locals lie, and how the walk of the MIR, by
+-- hand, begins and ends. Assumes nothing.
 use mathlib.Core.Path.{_≡_, refl}
 use Prim.Native.Nat.{ℕ, _≤_, _<_, _^_}
 use native.Mathlib.Nat.{suc-ne-zero}
@@ -57,7 +57,7 @@ use Rattle.triangles.proofs.RowsCall.{Big, lent, Own}
 use Rattle.triangles.proofs.Locals.{Homes, env, allocated, gone, freed}
 use Rattle.triangles.proofs.Known.{known-in}
 use Rattle.triangles.proofs.BySize.{Known, lies, held, holds}
-use Rattle.triangles.proofs.PartsBySize.{num, OwnStarts, OwnCorners, Tokens₂, refusedCounts, Refuse, Five, Four, five, four, rooms, Before, Frees, Callee, by-size}
+use Rattle.triangles.proofs.PartsBySize.{num, OwnStarts, OwnCorners, Tokens₂, refusedCounts, Refuse, OfSize, OfAll, of-size, of-all, rooms, Before, Frees, Callee, by-size}
 use Rattle.triangles_faults.proofs.Front.{too-many}
 use Rattle.triangles_split.proofs.split_tiny.Symbol.{name as #rest-tiny}
 use Rattle.triangles_split.proofs.split_tiny.Met as rest-tiny-thm
@@ -194,17 +194,17 @@ module _ {M : Type 1} (𝓤 : URA M) (H : Heap 𝓤) (A : Atoms 𝓤) (W : Given
     abbrev En : Env 𝓤 H
     En = env 𝓤 H (code.function .locals) h
 
-    abbrev others : Four 𝓤 H En
-    others = four 𝓤 H En 4 10 refl refl refl refl refl refl
+    abbrev shared : OfAll 𝓤 H En
+    shared = of-all 𝓤 H En 4 10 refl refl refl refl refl refl
 
-    abbrev of-tiny : Five 𝓤 H En tiny
-    of-tiny = five 𝓤 H En 7 11 refl refl refl refl refl
+    abbrev of-tiny : OfSize 𝓤 H En tiny
+    of-tiny = of-size 𝓤 H En 7 11 refl refl refl refl refl
 
-    abbrev of-small : Five 𝓤 H En small
-    of-small = five 𝓤 H En 8 15 refl refl refl refl refl
+    abbrev of-small : OfSize 𝓤 H En small
+    of-small = of-size 𝓤 H En 8 15 refl refl refl refl refl
 
-    abbrev of-large : Five 𝓤 H En maxTriangles
-    of-large = five 𝓤 H En 9 19 refl refl refl refl refl
+    abbrev of-large : OfSize 𝓤 H En maxTriangles
+    of-large = of-size 𝓤 H En 9 19 refl refl refl refl refl
 
     -- the strategy and the limit; what is left of the locals until they are freed
     abbrev Γ₀ : List (Item 𝓤)
@@ -213,7 +213,7 @@ module _ {M : Type 1} (𝓤 : URA M) (H : Heap 𝓤) (A : Atoms 𝓤) (W : Given
     abbrev Others : List (Item 𝓤)
     Others = rooms 𝓤 H En of-small ++ (rooms 𝓤 H En of-large ++ Γ₀)
 
-    callee : Callee 𝓤 H A W mem run 𝓣 κ κ₁ κ₂ q q₁ q₂ s x y Told Post En others Γ₀
+    callee : Callee 𝓤 H A W mem run 𝓣 κ κ₁ κ₂ q q₁ q₂ s x y Told Post En shared Γ₀
     callee = record {
       Rest = Rest 𝓤 H A mem run;
       to = to-rest;
@@ -226,15 +226,15 @@ module _ {M : Type 1} (𝓤 : URA M) (H : Heap 𝓤) (A : Atoms 𝓤) (W : Given
     }
 
     -- [what the answer owns; the tokens; what mesh owns; starts' and corners' last lists; _14, …, _11, _7; _10, _6, _5, _4, _1, _0; _18, …, _15, _8; _22, …, _19, _9; _3, _2; the ends of _22, …, _0]
-    freeing : Frees 𝓤 H A W mem run 𝓣 κ κ₁ κ₂ q q₁ q₂ s x y Told Post En others Γ₀ of-tiny Others
+    freeing : Frees 𝓤 H A W mem run 𝓣 κ κ₁ κ₂ q q₁ q₂ s x y Told Post En shared Γ₀ of-tiny Others
     freeing r w f g lf lg so =
         forget ! 26 refl $ forget ! 27 refl $ move ! (15 ∷ 50 ∷ 14 ∷ 49 ∷ 27 ∷ 48 ∷ 26 ∷ 47 ∷ 13 ∷ 46 ∷ 12 ∷ 45 ∷ 11 ∷ 44 ∷ 9 ∷ 43 ∷ 20 ∷ 42 ∷ 25 ∷ 41 ∷ 10 ∷ 40 ∷ 8 ∷ 39 ∷ 7 ∷ 38 ∷ 6 ∷ 37 ∷ 5 ∷ 36 ∷ 19 ∷ 35 ∷ 18 ∷ 34 ∷ 17 ∷ 33 ∷ 16 ∷ 32 ∷ 24 ∷ 31 ∷ 23 ∷ 30 ∷ 22 ∷ 29 ∷ 21 ∷ 28 ∷ []) $
         freed En (move ! (1 ∷ 2 ∷ 3 ∷ 4 ∷ 0 ∷ []) $ by ! (exits r w f g lf lg so))
 
-    from-tiny : Sq W (Before 𝓤 H A W mem run 𝓣 κ κ₁ κ₂ q q₁ q₂ s x y Told Post En others Γ₀ of-tiny Others) (runs (𝓣 .C) (𝓣 .Λ) En mirs.t-2 (atRet En Post))
+    from-tiny : Sq W (Before 𝓤 H A W mem run 𝓣 κ κ₁ κ₂ q q₁ q₂ s x y Told Post En shared Γ₀ of-tiny Others) (runs (𝓣 .C) (𝓣 .Λ) En mirs.t-2 (atRet En Post))
     unfolding callee
     from-tiny =
-        by-size 𝓤 H A W mem run 𝓣 κ κ₁ κ₂ q q₁ q₂ s x y Told Post En others Γ₀ callee (room-x .0) (room-y .0) of-tiny of-small of-large (known .0) (known .1) (λ many r er. refused how most ys (x .now) (y .now) many er) freeing
+        by-size 𝓤 H A W mem run 𝓣 κ κ₁ κ₂ q q₁ q₂ s x y Told Post En shared Γ₀ callee (room-x .0) (room-y .0) of-tiny of-small of-large (known .0) (known .1) (λ many r er. refused how most ys (x .now) (y .now) many er) freeing
 
   walk : (𝓣 : Tables 𝓤 H) → Calls 𝓤 H A mem run 𝓣
       → ent 𝓤 (onEntry 𝓤 H A self.signature (κ, (κ₁, (κ₂, tt))) (q, (q₁, (q₂, tt))) a at) (WpFn 𝓤 H (𝓣 .C) (𝓣 .Λ) code.function (lent s ∷ vint w32 most ∷ vh ∷ held x ∷ held y ∷ []) Post)
