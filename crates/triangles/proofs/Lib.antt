@@ -1,4 +1,9 @@
+pub mod BySize
+pub mod Known
+pub mod Literal
 pub mod Local
+pub mod Locals
+pub mod PartsBySize
 pub mod Reading
 pub mod RowsCall
 pub mod RowsOf
