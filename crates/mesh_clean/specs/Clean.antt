@@ -20,10 +20,11 @@ sharesBack u k a b =
     (cond (eqb (u .n1) k) (sameEdge (u .v2) (u .v0) b a)
     (cond (eqb (u .n2) k) (sameEdge (u .v0) (u .v1) b a) false))
 
--- a side of triangle k that names n: a triangle before its own; or another number than none, which where every edge is shared is a triangle after it
+-- a side of triangle k names n, a triangle before its own
 abbrev pub namesBefore : ℕ → ℕ → Bool
 namesBefore k n = ltb n k
 
+-- n is neither before k nor none: where every edge is shared a triangle after k, else perhaps k itself, or a number past the mesh
 abbrev pub namesAfter : ℕ → ℕ → Bool
 namesAfter k n = cond (ltb n k) false (not (eqb n none))
 

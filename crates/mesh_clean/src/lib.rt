@@ -1,7 +1,7 @@
-// Whether a mesh is clean (`is_clean`), which accepts most meshes at once; where it does not, mesh_faults tells the number. Two passes: the first (mesh_sound)
+// Whether a mesh is clean (`is_clean`): one that is has no fault (`clean-accepted`); of one that is not, mesh_faults tells the number. Two passes: the first (mesh_sound)
 // reads the rows in order, which brings a mesh that is not yet in the cache into it, so that the second's jumps from neighbour to neighbour cost little. The second
-// compares each shared edge once, from its later triangle, and counts: where the sides that name a later triangle are as many, none is left that was not asked
-// for (proofs/Pairing.antt). Leans on mesh_sound and mesh.
+// compares each shared edge once, from its later triangle, and counts: where no more sides name a later triangle than were compared, each of those was met
+// (proofs/Pairing.antt). Leans on mesh_sound and mesh.
 ghost use mathlib.Core.Path.{_≡_};
 ghost use mathlib.Core.Bool.{cond};
 ghost use Prim.Native.Nat.{_+_, _<_, _≤_, _^_};
@@ -61,7 +61,7 @@ pub struct Seen {
     pub after: usize,
 }
 
-// 1 where a test holds, else 0; no branch, for what cannot be foretold.
+// 1 where a test holds, else 0; compiled without a branch, for a test that cannot be foretold.
 fn one_if(test: bool) -> usize
     ensures { λ r. ⌜ (r ≡ cond test 1 0) × (r ≤ 1) ⌝ }
 {
@@ -72,7 +72,7 @@ fn one_if(test: bool) -> usize
 }
 
 // The side of triangle k across whose edge, from a to b, it names n: counted, and where n is before k, whether n's first side that names k runs from b to a.
-// A side that names a triangle after its own, or none, is only counted: one branch tells it from the rest, and each shared edge is compared once.
+// A side that names a triangle after its own is only counted, and one that names none passed over: one branch, n < k, tells both from the rest.
 fn count_side(mesh: &[[i32; 9]], k: usize, n: usize, a: u64, b: u64, s: Seen) -> Seen
     requires { ⌜ (k < length (now mesh)) × (s .before < 2 ^ 32) × (s .after < 2 ^ 32) ⌝ }
     ensures { λ r. ⌜ Counted (rowsMesh (now (mesh .entry))) k n a b s r ⌝ }
@@ -134,7 +134,7 @@ fn all_linked(mesh: &[[i32; 9]]) -> bool
     s.before == s.after
 }
 
-// Whether every triangle is sound, their doubled areas add up to at most 2^63 - 1, and every edge is shared. Then the mesh has no fault.
+// Whether every triangle is sound, their doubled areas add up to at most 2^63 - 1, and every edge that has a neighbour is shared. Then the mesh has no fault.
 pub fn is_clean(mesh: &[[i32; 9]]) -> bool
     requires { ⌜ length (now mesh) ≤ maxTriangles ⌝ }
     ensures { λ r. ⌜ r ≡ clean (rowsMesh (now (mesh .entry))) ⌝ }

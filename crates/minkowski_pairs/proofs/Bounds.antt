@@ -1,7 +1,7 @@
 -- Every corner of the result lies within the result bounds and on the grid (`result-within`). In order: what the test of bounds tells; a sum of corners within
 -- the sum of bounds; the parts of an operand within its bounds; what an accepted pair of operands is; all pairs. Assumes nothing.
-use mathlib.Core.Path.{_≡_, refl, sym, subst}
-use mathlib.Core.Bool.{Bool, true, false, cond}
+use mathlib.Core.Path.{_≡_, sym, subst}
+use mathlib.Core.Bool.{Bool, true, false}
 use mathlib.Core.List.{List, [], _∷_, map}
 use Prim.Native.Nat.{ℕ}
 use native.Mathlib.Omega.{arith}
@@ -9,7 +9,7 @@ use lib.IntN.{ℤ, pos, negsuc, negℤ}
 use lib.Signed.{_≤ℤ_, leZ, ltZ}
 use Rattle.integers.specs.Lists.{All, Any}
 use Rattle.integers.proofs.Order.{zarith, +-mono, neg-mono}
-use Rattle.integers.proofs.Tests.{differ, either-false, leZ-≤, ≤-leZ, <-leZ, <-ltZ}
+use Rattle.integers.proofs.Tests.{either-false, both-true, leZ-≤, ≤-leZ, <-leZ, <-ltZ}
 use Rattle.integers.proofs.Sizes.{abs-parts}
 use Rattle.integers.proofs.Elements.{all-map, all-any, all-flatten, all-image}
 use Rattle.integers.proofs.Faults.{first-none}
@@ -32,11 +32,6 @@ record Inside (b : IntRect) (p : Pt) : Type 0 where
   right : p .x ≤ℤ b .«max_x»
   low : b .«min_y» ≤ℤ p .y
   high : p .y ≤ℤ b .«max_y»
-
--- a test that holds before another
-both-true : (t u : Bool) → cond t u false ≡ true → (t ≡ true) × (u ≡ true)
-both-true true u h = (refl, h)
-both-true false u h = differ h
 
 within-inside : (b : IntRect) (p : Pt) → withinBounds b p ≡ true → Inside b p
 unfolding withinBounds

@@ -1,7 +1,7 @@
 -- How many: each share of n things in ceil(n / b) groups is at least 1 and at most b (`shares-bound`), so each part of a contour that is split has from 3
--- corners to the limit (`split-sizes`); ear clipping and fan make just ceil((n−2)/(m−2)) parts (`ear-count`, `fan-count`); a contour of n corners gives at
+-- corners to the limit (`sizes` of `Few`); ear clipping and fan make just ceil((n−2)/(m−2)) parts (`split-count`); a contour of n corners gives at
 -- most 2 (n − 2) parts and 6 (n − 2) corners (`split-few`), so all parts of a mesh are at most twice its triangles, with six corners for each
--- (`split-parts-few`), a part table within the limits; and a limit that no part is past leaves each whole (`split-whole`). Assumes an accepted mesh where it says so.
+-- (`split-parts-few`), a part table within the limits (`split-table`); and a limit that no part is past leaves each whole (`split-whole`). Assumes an accepted mesh where it says so.
 use mathlib.Core.Path.{_≡_, refl, sym, _∙_, ap}
 use mathlib.Core.Bool.{Bool, true, false, cond}
 use mathlib.Core.List.{List, [], _∷_, _++_, map, flatten}

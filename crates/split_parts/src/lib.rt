@@ -1,7 +1,7 @@
 // Joining with parts past a corner limit split (advanced/convex.rs): `to_convex_polygons_with_max_vertices`, with no `requires`. Its answer and both lent
-// buffers equal `splitCounts`, `splitStarts` and `splitCorners` of split/specs/Splitting.antt. Where a mesh is tiny and no part
-// can have more corners than the limit, that is joining. Else the joined parts are gathered, each is split into further buffers, and all are handed out once there is room. The work arrays come in four sizes by the mesh's, so that a small mesh does not wait for
-// the filling of large ones. Leans on convex_join, convex_regions, split_contour and convex_gather.
+// buffers equal `splitCounts`, `splitStarts` and `splitCorners` of split/specs/Splitting.antt. Where a mesh is tiny and no part can have more corners than the
+// limit, that is joining. Else the joined parts are gathered, each is split into further buffers, and all are handed out once there is room. The work arrays come
+// in four sizes by the mesh's, so that a small mesh does not wait for the filling of large ones. Leans on convex_join, convex_regions, split_contour and convex_gather.
 ghost use mathlib.Core.Path.{_≡_};
 ghost use Prim.Native.Nat.{_+_, _<_, _≤_};
 ghost use lib.ListN.{length, getD};
@@ -209,7 +209,7 @@ fn split_large(
     )
 }
 
-// The parts of an accepted mesh that is not tiny.
+// The parts of an accepted mesh, in arrays of the sizes past tiny.
 fn split_more(
     mesh: &[[i32; 9]],
     limit: u32,
