@@ -1,4 +1,4 @@
-/* The dart joined into its convex parts, and the first part plus the second. */
+/* The dart joined into its convex parts, and the first part plus the last. */
 #include <bezinkwolu.h>
 #include <stdio.h>
 
@@ -27,11 +27,14 @@ int main(void)
     const bezinkwolu_bounds bounds = {0, 10, -2, 4};
     uint32_t sum_starts[2 * 2 + 1];
     int32_t sum_corners[2 * (2 * 6 + 2 * 6)];
+    /* what is lent here is as long as the first call told, not as long as its room */
     bezinkwolu_told_pairs sums = bezinkwolu_sum_parts(
-        starts, 3, corners, 12, bounds, starts, 3, corners, 12, bounds, sum_starts, 5, sum_corners, 48);
+        starts, parts.parts + 1, corners, 2 * parts.corners, bounds,
+        starts, parts.parts + 1, corners, 2 * parts.corners, bounds,
+        sum_starts, 5, sum_corners, 48);
     if (sums.fault)
         return (int)sums.fault;
     printf("sum: ");
-    print(sum_corners, sum_starts[1], sum_starts[2]);
+    print(sum_corners, sum_starts[parts.parts - 1], sum_starts[parts.parts]);
     return 0;
 }

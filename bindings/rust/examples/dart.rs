@@ -1,4 +1,4 @@
-//! The dart joined into its convex parts, and the first part plus the second.
+//! The dart joined into its convex parts, and the first part plus the last.
 
 use bezinkwolu::{sum_parts, Contour, Error, IntDelaunay, IntRect, NIL_INDEX};
 
@@ -21,7 +21,7 @@ fn main() -> Result<(), Error> {
 
     let bbox = IntRect::new(0, 10, -2, 4);
     let sums = sum_parts(&parts, bbox, &parts, bbox)?;
-    if let Some(contour) = sums.contour(0, 1) {
+    if let Some(contour) = sums.contour(0, parts.len() - 1) {
         println!("sum: {}", text(contour));
     }
     Ok(())

@@ -1,8 +1,9 @@
 -- The buffers that an accepted call leaves hold the pairs' contours (`result-is-pairs`), so demand 3 and de Berg et al. hold of what stands there
 -- (`table-reach`, `table-de-berg`); pairs in pieces (`pairs-shard`). Assumes nothing.
-use mathlib.Core.Path.{_≡_, sym, _∙_, ap, ap₂, subst}
+use mathlib.Core.Path.{_≡_, refl, sym, _∙_, ap, ap₂, subst}
+use mathlib.Core.Bool.{Bool, true}
 use mathlib.Core.List.{List, [], _∷_, map, map-append, flatten}
-use Prim.Native.Nat.{ℕ, _+_, _*_}
+use Prim.Native.Nat.{ℕ, _+_, _*_, _<_}
 use native.Mathlib.Numerals.{add-one}
 use native.Mathlib.Omega.{arith}
 use lib.ListN.{length, getD, take, length-append}
@@ -17,11 +18,11 @@ use Rattle.table.proofs.Corners.{length-numbers}
 use Rattle.table.proofs.Parts.{length-starts}
 use Rattle.table.proofs.Rules.{parts-table}
 use Rattle.pair.specs.Pair.{pairContour}
-use Rattle.pair.specs.Demand.{FarthestReach}
+use Rattle.pair.specs.Premise.{onceRound}
 use Rattle.pair.proofs.Theorem.{demand3, sum-is-de-berg}
-use Rattle.minkowski.specs.Pairs.{operandParts, pairsOf, pairContours, pairsFault}
+use Rattle.minkowski.specs.Pairs.{Operand, operandParts, pairsOf, pairContours, pairsFault}
 use Rattle.minkowski.proofs.EachPair.{length-pairs, each-pair}
-use Rattle.minkowski_pairs.specs.Results.{firstContours, ResultIsPairs, TableReach, TableDeBerg, PairsShard}
+use Rattle.minkowski_pairs.specs.Results.{firstContours, resultContours, ResultIsPairs, Emitted, TableReach, TableDeBerg, PairsShard}
 
 -- the last start is the number of corners
 start-last : (k : ℕ) (ps : List (List Pt)) → getD (startsFrom k ps) (length ps) 0 ≡ k + length (flatten ps)
@@ -50,16 +51,23 @@ result-is-pairs reflected l r s c h = of (pairContours reflected l r) (length (o
         ap (λ m. firstContours m (written f (startsOf ps) s) (written f (cornersOf ps) c)) e
         ∙ ap₂ (firstContours (length ps)) (accepted-buffer f h (startsOf ps) s) (accepted-buffer f h (cornersOf ps) c) ∙ contours-back ps s c
 
+-- what stands for pair i, j is the pair's contour
+pair-stands :
+    (reflected : Bool) (l r : Operand) (s : List ℕ) (c : List ℤ) → pairsFault reflected l r (length s) (length c) ≡ 0 → (i j : ℕ) → i < length (operandParts l) → j < length (operandParts r) →
+    getD (resultContours reflected l r s c) (i * length (operandParts r) + j) [] ≡ pairContour reflected (getD (operandParts l) i []) (getD (operandParts r) j [])
+pair-stands reflected l r s c h i j hi hj = ap (λ ps. getD ps (i * length (operandParts r) + j) []) (result-is-pairs reflected l r s c h) ∙ each-pair reflected (operandParts l) (operandParts r) i j hi hj
+
+-- demand 3 of the contour that the two walks give
+pub emitted : (reflected : Bool) (A B : List Pt) → onceRound A ≡ true → onceRound B ≡ true → Emitted reflected A B (pairContour reflected A B)
+emitted reflected A B a b = record { walked = refl; reach = demand3 reflected A B a b }
+
 pub table-reach : TableReach
 table-reach reflected l r s c h i j hi hj a b =
-    subst (FarthestReach _ _ _)
-    (sym (ap (λ ps. getD ps (i * length (operandParts r) + j) []) (result-is-pairs reflected l r s c h) ∙ each-pair reflected (operandParts l) (operandParts r) i j hi hj))
-    (demand3 reflected (getD (operandParts l) i []) (getD (operandParts r) j []) a b)
+    subst (Emitted reflected _ _) (sym (pair-stands reflected l r s c h i j hi hj)) (emitted reflected (getD (operandParts l) i []) (getD (operandParts r) j []) a b)
 
 pub table-de-berg : TableDeBerg
 table-de-berg l r s c h i j hi hj a b =
-    ap (λ ps. getD ps (i * length (operandParts r) + j) []) (result-is-pairs _ l r s c h) ∙ each-pair _ (operandParts l) (operandParts r) i j hi hj
-    ∙ sum-is-de-berg (getD (operandParts l) i []) (getD (operandParts r) j []) a b
+    pair-stands _ l r s c h i j hi hj ∙ sum-is-de-berg (getD (operandParts l) i []) (getD (operandParts r) j []) a b
 
 pub pairs-shard : PairsShard
 unfolding pairsOf

@@ -37,15 +37,18 @@ ResultIsPairs =
 
 -- ---- demand 3 of the table
 
+-- demand 3's whole sentence of a contour K emitted for A and B: "the one that document 01's two walks give, beginning with the sum of the walks' first points", and the rest of it
+pub record Emitted (reflected : Bool) (A B K : List Pt) : Type 0 where
+  pub walked : K ≡ pairContour reflected A B
+  pub reach : FarthestReach (pointOf A (begin false A) +ᵖ pointOf B (begin reflected B)) A (second reflected B) K
+
 -- "Take any left and any right contour of an accepted pair" that go "once round a convex area above zero": the whole contour emitted for them, whatever the other parts are
 abbrev pub TableReach : Type 0
 TableReach =
     (reflected : Bool) (l r : Operand) (s : List ℕ) (c : List ℤ) → pairsFault reflected l r (length s) (length c) ≡ 0 →
     (i j : ℕ) → i < length (operandParts l) → j < length (operandParts r) →
     onceRound (getD (operandParts l) i []) ≡ true → onceRound (getD (operandParts r) j []) ≡ true →
-    FarthestReach (pointOf (getD (operandParts l) i []) (begin false (getD (operandParts l) i [])) +ᵖ pointOf (getD (operandParts r) j []) (begin reflected (getD (operandParts r) j [])))
-    (getD (operandParts l) i []) (second reflected (getD (operandParts r) j []))
-    (getD (resultContours reflected l r s c) (i * length (operandParts r) + j) [])
+    Emitted reflected (getD (operandParts l) i []) (getD (operandParts r) j []) (getD (resultContours reflected l r s c) (i * length (operandParts r) + j) [])
 
 -- "on strictly convex contours the sum is proved to be de Berg et al.'s"
 abbrev pub TableDeBerg : Type 0

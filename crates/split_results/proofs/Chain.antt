@@ -9,20 +9,20 @@ use Rattle.integers.proofs.Elements.{all-getD}
 use Rattle.plane.specs.Plane.{Pt}
 use Rattle.table.proofs.Rules.{parts-table}
 use Rattle.pair.specs.Pair.{pairContour}
-use Rattle.pair.proofs.Theorem.{demand3, sum-is-de-berg}
+use Rattle.pair.proofs.Theorem.{sum-is-de-berg}
 use Rattle.split.specs.Splitting.{splitParts}
 use Rattle.split_pairs.specs.Premise.{PartMeets}
 use Rattle.split_pairs.proofs.Theorem.{split-meets-premise}
 use Rattle.minkowski.specs.Pairs.{pairsOf}
 use Rattle.minkowski.proofs.EachPair.{each-pair}
-use Rattle.minkowski_pairs.proofs.Buffers.{result-is-pairs}
+use Rattle.minkowski_pairs.proofs.Buffers.{result-is-pairs, emitted}
 use Rattle.split_operand.specs.Operand.{splitOperand}
 use Rattle.split_results.specs.Chain.{Exact, EveryContourExact}
 
 -- of two parts that meet the premise
 exact-pair : (reflected : Bool) (A B : List Pt) → PartMeets A → PartMeets B → Exact reflected A B (pairContour reflected A B)
 exact-pair reflected A B a b = record {
-  reach = demand3 reflected A B (a .premise .1) (b .premise .1);
+  whole = emitted reflected A B (a .premise .1) (b .premise .1);
   berg = λ e. ap (λ t. pairContour t A B) e ∙ sum-is-de-berg A B (inl (a .premise .0)) (inl (b .premise .0));
 }
 

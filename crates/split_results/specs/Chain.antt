@@ -6,21 +6,19 @@ use Prim.Native.Nat.{ℕ, _+_, _*_, _<_}
 use lib.ListN.{length, getD}
 use lib.IntN.{ℤ}
 use Rattle.integers.specs.Faults.{firstFault}
-use Rattle.plane.specs.Plane.{Pt, _+ᵖ_}
+use Rattle.plane.specs.Plane.{Pt}
 use Rattle.mesh.specs.Mesh.{Mesh, meshKinds}
 use Rattle.table.specs.declared.IntRect.{IntRect}
-use Rattle.pair.specs.Walk.{begin, pointOf}
 use Rattle.pair.specs.Berg.{deBerg}
-use Rattle.pair.specs.Demand.{second, FarthestReach}
 use Rattle.split.specs.declared.ConvexSplitStrategy.{ConvexSplitStrategy}
 use Rattle.split.specs.Splitting.{splitParts}
 use Rattle.minkowski.specs.Pairs.{pairsFault}
-use Rattle.minkowski_pairs.specs.Results.{resultContours}
+use Rattle.minkowski_pairs.specs.Results.{resultContours, Emitted}
 use Rattle.split_operand.specs.Operand.{splitOperand}
 
--- K is the exact sum or difference of A and B: its reach is theirs, with the fewest corners, and a sum is de Berg et al.'s
+-- K is the exact sum or difference of A and B: all that demand 3 says of it, and a sum is de Berg et al.'s
 pub record Exact (reflected : Bool) (A B K : List Pt) : Type 0 where
-  pub reach : FarthestReach (pointOf A (begin false A) +ᵖ pointOf B (begin reflected B)) A (second reflected B) K
+  pub whole : Emitted reflected A B K
   pub berg : reflected ≡ false → K ≡ deBerg A B
 
 -- every contour that an accepted call leaves for the split parts of two accepted meshes is exact
