@@ -65,20 +65,24 @@ maxContour = 1026
 abbrev pub partCount : List ℕ → ℕ
 partCount starts = length starts - 1
 
--- a start falls, or a contour has more than 1,026 corners, or the last is not the corner count n
-unfoldable pub stepsBroken : ℕ → ℕ → List ℕ → Bool
-stepsBroken n a [] = not (eqb a n)
-stepsBroken n a (b ∷ s) = cond (ltb b a) true (cond (ltb (a + maxContour) b) true (stepsBroken n b s))
+-- a start falls, or a contour has more than m corners, or the last is not the corner count n
+unfoldable pub stepsBroken : ℕ → ℕ → ℕ → List ℕ → Bool
+stepsBroken m n a [] = not (eqb a n)
+stepsBroken m n a (b ∷ s) = cond (ltb b a) true (cond (ltb (a + m) b) true (stepsBroken m n b s))
 
-unfoldable pub startsBroken : ℕ → List ℕ → Bool
-startsBroken n [] = true
-startsBroken n (a ∷ s) = cond (eqb a 0) (stepsBroken n a s) true
+unfoldable pub startsBroken : ℕ → ℕ → List ℕ → Bool
+startsBroken m n [] = true
+startsBroken m n (a ∷ s) = cond (eqb a 0) (stepsBroken m n a s) true
 
 unfoldable pub tableBroken : List ℕ → List ℤ → Bool
 tableBroken starts corners =
     cond (eqb (length corners % 2) 0)
-    (cond (ltb maxParts (partCount starts)) true (cond (ltb maxCorners (length corners / 2)) true (startsBroken (length corners / 2) starts)))
+    (cond (ltb maxParts (partCount starts)) true (cond (ltb maxCorners (length corners / 2)) true (startsBroken maxContour (length corners / 2) starts)))
     true
+
+-- the same without the limits, which "don't bind" a pair result: no contour has more corners than there are
+unfoldable pub resultBroken : List ℕ → List ℤ → Bool
+resultBroken starts corners = cond (eqb (length corners % 2) 0) (startsBroken (length corners / 2) (length corners / 2) starts) true
 
 -- ---- coordinates and bounds
 

@@ -6,7 +6,7 @@ ghost use mathlib.Core.Path.{_≡_};
 ghost use mathlib.Core.Bool.{true, cond};
 ghost use Prim.Native.Nat.{_+_};
 ghost use lib.Dec.{ltb};
-ghost use Rattle.table.specs.Table.{startsBroken, tableBroken, offRange, withinBounds, boundsBroken, pointsOf, maxContour};
+ghost use Rattle.table.specs.Table.{startsBroken, tableBroken, resultBroken, offRange, withinBounds, boundsBroken, pointsOf};
 
 // Document 01: "Limits: 2,048 parts, 8,192 corners, 1,026 corners a contour."
 pub const MAX_PARTS: usize = 2048;
@@ -32,18 +32,18 @@ pub struct IntRect {
 }
 
 // Whether one start may not follow another: it falls, or the contour between them is too long.
-pub fn step_broken(last: usize, next: usize) -> bool
-    ensures { λ r. ⌜ r ≡ cond (ltb next last) true (ltb (last + maxContour) next) ⌝ }
+pub fn step_broken(limit: usize, last: usize, next: usize) -> bool
+    ensures { λ r. ⌜ r ≡ cond (ltb next last) true (ltb (last + limit) next) ⌝ }
 {
     if next < last {
         return true;
     }
-    next - last > MAX_CONTOUR
+    next - last > limit
 }
 
-// Whether the starts break a rule beside `count` corners: none, not from 0, one that falls, a contour too long, not up to the count.
-pub fn starts_broken(count: usize, starts: &[u32]) -> bool
-    ensures { λ r. ⌜ r ≡ startsBroken count (now (starts .entry)) ⌝ }
+// Whether the starts break a rule beside `count` corners: none, not from 0, one that falls, a contour of more than `limit` corners, not up to the count.
+pub fn starts_broken(limit: usize, count: usize, starts: &[u32]) -> bool
+    ensures { λ r. ⌜ r ≡ startsBroken limit count (now (starts .entry)) ⌝ }
 {
     if starts.len() == 0 {
         return true;
@@ -55,7 +55,7 @@ pub fn starts_broken(count: usize, starts: &[u32]) -> bool
     let mut i = 1;
     while i < starts.len() {
         let next = starts[i] as usize;
-        if step_broken(last, next) {
+        if step_broken(limit, last, next) {
             return true;
         }
         last = next;
@@ -78,7 +78,18 @@ pub fn rules_broken(starts: &[u32], corners: &[i32]) -> bool
     if count > MAX_CORNERS {
         return true;
     }
-    starts_broken(count, starts)
+    starts_broken(MAX_CONTOUR, count, starts)
+}
+
+// Whether starts and corners break the rules of a pair result (fault 7), which the limits don't bind.
+pub fn result_broken(starts: &[u32], corners: &[i32]) -> bool
+    ensures { λ r. ⌜ r ≡ resultBroken (now (starts .entry)) (now (corners .entry)) ⌝ }
+{
+    if corners.len() % 2 != 0 {
+        return true;
+    }
+    let count = corners.len() / 2;
+    starts_broken(count, count, starts)
 }
 
 // Whether some number is not strictly between -2^30 and 2^30 (fault 2).

@@ -61,7 +61,7 @@ module _ (bytes : List ℕ) where
             lt-ltb maxCorners (length (storedCorners bytes) / 2) (omega (arith, count-numbers bytes (sized bytes e))),
           )
 
-      by-starts : wordAt bytes 1 ≤ maxCorners → storedBroken bytes ≡ startsBroken (wordAt bytes 1) (storedStarts bytes)
+      by-starts : wordAt bytes 1 ≤ maxCorners → storedBroken bytes ≡ startsBroken maxContour (wordAt bytes 1) (storedStarts bytes)
       unfolding storedBroken tableBroken
       by-starts k =
           let half : length (storedCorners bytes) / 2 ≡ wordAt bytes 1 = omega (arith, count-numbers bytes (sized bytes e)) in
@@ -73,8 +73,8 @@ module _ (bytes : List ℕ) where
             half,
           )
 
-      pub from-starts : wordAt bytes 1 ≤ maxCorners → {n : ℕ} {r : Bool} → n ≡ wordAt bytes 1 → r ≡ startsBroken n (storedStarts bytes) → r ≡ storedBroken bytes
-      from-starts k p q = q ∙ ap (λ m. startsBroken m (storedStarts bytes)) p ∙ sym (by-starts k)
+      pub from-starts : wordAt bytes 1 ≤ maxCorners → {n : ℕ} {r : Bool} → n ≡ wordAt bytes 1 → r ≡ startsBroken maxContour n (storedStarts bytes) → r ≡ storedBroken bytes
+      from-starts k p q = q ∙ ap (λ m. startsBroken maxContour m (storedStarts bytes)) p ∙ sym (by-starts k)
 
 -- ---- start i is word i + 2
 
@@ -87,22 +87,22 @@ module _ (bytes : List ℕ) (e : lengthBroken bytes ≡ false) (count : ℕ) whe
   many : length (storedStarts bytes) ≡ wordAt bytes 0 + 1
   many = count-starts bytes (sized bytes e)
 
-  pub starts-not-0 : {w : ℕ} → w ≡ wordAt bytes 2 → (w ≡ 0 → ⊥) → startsBroken count (storedStarts bytes) ≡ true
-  starts-not-0 p h = not-from-0 count (storedStarts bytes) (λ z. h (p ∙ start-at bytes 0 (omega arith) ∙ z))
+  pub starts-not-0 : {w : ℕ} → w ≡ wordAt bytes 2 → (w ≡ 0 → ⊥) → startsBroken maxContour count (storedStarts bytes) ≡ true
+  starts-not-0 p h = not-from-0 maxContour count (storedStarts bytes) (λ z. h (p ∙ start-at bytes 0 (omega arith) ∙ z))
 
-  pub starts-at-0 : {w : ℕ} → w ≡ wordAt bytes 2 → w ≡ 0 → startsBroken count (storedStarts bytes) ≡ stepsBroken count 0 (drop 1 (storedStarts bytes))
-  starts-at-0 p h = steps-begin count (storedStarts bytes) (λ z. omega (arith, many)) (sym (p ∙ start-at bytes 0 (omega arith)) ∙ h)
+  pub starts-at-0 : {w : ℕ} → w ≡ wordAt bytes 2 → w ≡ 0 → startsBroken maxContour count (storedStarts bytes) ≡ stepsBroken maxContour count 0 (drop 1 (storedStarts bytes))
+  starts-at-0 p h = steps-begin maxContour count (storedStarts bytes) (λ z. omega (arith, many)) (sym (p ∙ start-at bytes 0 (omega arith)) ∙ h)
 
   -- start i comes after `last`; r is whether it may not
   module _ (last next i : ℕ) (h : i < wordAt bytes 0 + 1) (p : next ≡ wordAt bytes (i + 2)) {r : Bool} (f : r ≡ cond (ltb next last) true (ltb (last + maxContour) next)) where
-    pub next-broken : r ≡ true → stepsBroken count last (drop i (storedStarts bytes)) ≡ true
-    next-broken k = step-broken count last next (storedStarts bytes) i (omega (arith, many)) (p ∙ start-at bytes i h) f k
+    pub next-broken : r ≡ true → stepsBroken maxContour count last (drop i (storedStarts bytes)) ≡ true
+    next-broken k = step-broken maxContour count last next (storedStarts bytes) i (omega (arith, many)) (p ∙ start-at bytes i h) f k
 
-    pub next-passed : r ≡ false → stepsBroken count last (drop i (storedStarts bytes)) ≡ stepsBroken count next (drop (i + 1) (storedStarts bytes))
-    next-passed k = step-passed count last next (storedStarts bytes) i (omega (arith, many)) (p ∙ start-at bytes i h) f k
+    pub next-passed : r ≡ false → stepsBroken maxContour count last (drop i (storedStarts bytes)) ≡ stepsBroken maxContour count next (drop (i + 1) (storedStarts bytes))
+    next-passed k = step-passed maxContour count last next (storedStarts bytes) i (omega (arith, many)) (p ∙ start-at bytes i h) f k
 
-  pub last-start : (last i : ℕ) → wordAt bytes 0 + 1 ≤ i → stepsBroken count last (drop i (storedStarts bytes)) ≡ not (eqb last count)
-  last-start last i h = steps-end count last (storedStarts bytes) i (omega (arith, many))
+  pub last-start : (last i : ℕ) → wordAt bytes 0 + 1 ≤ i → stepsBroken maxContour count last (drop i (storedStarts bytes)) ≡ not (eqb last count)
+  last-start last i h = steps-end maxContour count last (storedStarts bytes) i (omega (arith, many))
 
 -- ---- number i, judged
 

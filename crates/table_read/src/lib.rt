@@ -6,7 +6,7 @@ ghost use mathlib.Core.Path.{_≡_};
 ghost use mathlib.Core.Bool.{false};
 ghost use mathlib.Core.List.{map};
 ghost use lib.ListN.{drop};
-ghost use Rattle.table.specs.Table.{startsBroken, offRange};
+ghost use Rattle.table.specs.Table.{startsBroken, offRange, maxContour};
 ghost use Rattle.table.specs.Stored.{wordsOf, wordAt, signed, storedStarts, lengthBroken, storedBroken, readFault};
 ghost use Rattle.table_read.specs.Read.{countsRead, startsRead, cornersRead};
 use table::Counts;
@@ -29,7 +29,7 @@ fn length_broken(bytes: &[u8]) -> bool
 // Whether the starts in the bytes break a rule, beside the corner count that the bytes tell.
 fn stored_starts_broken(bytes: &[u8], parts: usize, count: usize) -> bool
     requires { ⌜ (lengthBroken (now bytes) ≡ false) × (parts ≡ wordAt (now bytes) 0) ⌝ }
-    ensures { λ r. ⌜ r ≡ startsBroken count (storedStarts (now (bytes .entry))) ⌝ }
+    ensures { λ r. ⌜ r ≡ startsBroken maxContour count (storedStarts (now (bytes .entry))) ⌝ }
 {
     if word_at(bytes, 2) != 0 {
         return true;
@@ -38,7 +38,7 @@ fn stored_starts_broken(bytes: &[u8], parts: usize, count: usize) -> bool
     let mut i = 1;
     while i < parts + 1 {
         let next = word_at(bytes, i + 2) as usize;
-        if table::step_broken(last, next) {
+        if table::step_broken(table::MAX_CONTOUR, last, next) {
             return true;
         }
         last = next;

@@ -8,7 +8,7 @@ use borrow.Author.Needs.{needs}
 use borrow.Author.Tests.{lt-ltb, le-ltb, eq-eqb, ne-eqb}
 use lib.IntN.{ℤ}
 use lib.ListN.{length}
-use Rattle.table.specs.Table.{startsBroken, tableBroken, maxCorners, maxParts}
+use Rattle.table.specs.Table.{startsBroken, tableBroken, maxCorners, maxParts, maxContour}
 use Rattle.table.proofs.rules_broken.Statement.{statement}
 use Rattle.table.proofs.rules_broken.Tie as tie
 
@@ -27,7 +27,7 @@ module _ (s : List ℕ) (c : List ℤ) where
       unfolding tableBroken
       many-corners l = rw (eq-eqb _ 0 h, le-ltb maxParts (length s - 1) (omega arith), lt-ltb maxCorners _ l)
 
-      by-starts : length c / 2 ≤ maxCorners → {r : Bool} → r ≡ startsBroken (length c / 2) s → r ≡ tableBroken s c
+      by-starts : length c / 2 ≤ maxCorners → {r : Bool} → r ≡ startsBroken maxContour (length c / 2) s → r ≡ tableBroken s c
       unfolding tableBroken
       by-starts l e = rw (eq-eqb _ 0 h, le-ltb maxParts (length s - 1) (omega arith), le-ltb maxCorners _ l) e
 

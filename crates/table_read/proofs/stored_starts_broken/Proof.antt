@@ -5,7 +5,7 @@ use Prim.Native.Nat.{_+_, _≤_, _-_}
 use native.Mathlib.Omega.{arith}
 use borrow.Author.Needs.{needs}
 use lib.ListN.{drop}
-use Rattle.table.specs.Table.{stepsBroken, startsBroken}
+use Rattle.table.specs.Table.{stepsBroken, startsBroken, maxContour}
 use Rattle.table.specs.Stored.{storedStarts}
 use Rattle.table.proofs.StoredForm.{sized}
 use Rattle.table_read.proofs.Reading.{starts-not-0, starts-at-0, next-broken, next-passed, last-start}
@@ -13,7 +13,7 @@ use Rattle.table_read.proofs.stored_starts_broken.Statement.{statement}
 use Rattle.table_read.proofs.stored_starts_broken.Tie as tie
 
 abbrev Inv-loop : tie.InvT-loop
-Inv-loop bytes parts count last₀ i₀ last i = (i ≤ parts + 1) × (startsBroken count (storedStarts bytes) ≡ stepsBroken count last (drop i (storedStarts bytes)))
+Inv-loop bytes parts count last₀ i₀ last i = (i ≤ parts + 1) × (startsBroken maxContour count (storedStarts bytes) ≡ stepsBroken maxContour count last (drop i (storedStarts bytes)))
 
 abbrev μ-loop : tie.MeasureT-loop
 μ-loop bytes parts count last₀ i₀ last i = parts + 1 - i

@@ -1,0 +1,118 @@
+-- `placement::placed_in` meets its contract. The loop's invariant is `InTurn` of Contour, the measure the edges left. Assumes nothing.
+use mathlib.Core.Path.{_≡_, sym, _∙_, subst}
+use mathlib.Core.Bool.{Bool, true, false, cond}
+use Prim.Native.Nat.{_<_, _-_}
+use native.Mathlib.Omega.{arith}
+use borrow.Author.Needs.{needs}
+use lib.ListN.{length}
+use mir.Syntax.{w64}
+use Rattle.integers.proofs.Bits.{got}
+use Rattle.plane.specs.Machine.{point}
+use Rattle.table.specs.Table.{pointsOf}
+use Rattle.placement.specs.declared.Contact.{Contact}
+use Rattle.placement.specs.declared.Contact.the-variants.{Apart, Touching}
+use Rattle.placement.proofs.Contour.{InTurn, empty-apart, turn-start, in-turn, turned-out, turned-strictly, turned}
+use Rattle.placement.proofs.placed_in.Statement.{statement}
+use Rattle.placement.proofs.placed_in.Tie as tie
+
+abbrev Inv-loop : tie.InvT-loop
+Inv-loop contour z n strict₀ i₀ k₀ strict i k = (i < length (pointsOf contour)) × InTurn (point z) (pointsOf contour) i k strict
+
+abbrev μ-loop : tie.MeasureT-loop
+μ-loop contour z n strict₀ i₀ k₀ strict i k = n - k
+
+-- touching or not, by the corners
+by-corners : {t : Bool} {r : Contact} → cond t Touching Apart ≡ r → (t ≡ true → Touching ≡ r) × (t ≡ false → Apart ≡ r)
+by-corners e = (λ h. rw h at e, λ h. rw h at e)
+
+corner-count-requires : tie.Need-corner-count-requires Inv-loop μ-loop
+corner-count-requires c κs = search needs
+
+returns : tie.Need-returns Inv-loop μ-loop
+returns c = empty-apart _ _ (omega (arith, c .if1 .taken, c .before .corner-count .ensures))
+
+sub-i : tie.Need-sub-i Inv-loop μ-loop
+sub-i c = search needs
+
+loop-holds : tie.Need-loop-holds Inv-loop μ-loop
+loop-holds c =
+    let n = c .before in
+    let l = pointsOf (n .before .args .contour .now) in
+    let e = n .corner-count .ensures in
+    let some : length l ≡ 0 → ⊥ = λ z. c .if1 .left (e ∙ z) in
+    (omega (arith, e, c .if1 .left), subst (λ m. InTurn (point (n .before .args .z)) l (m - 1) 0 true) (sym e) (turn-start _ l some))
+
+side-at-requires : tie.Need-side-at-requires Inv-loop μ-loop
+side-at-requires c κs =
+    let l = c .before in
+    let n = l .before .before in
+    let s = n .before in
+    (record { ranged = s .pre .0; from = l .loop .inv .0; to = omega (arith, c .loop-test .taken, n .corner-count .ensures) }, s .pre .1)
+
+returns-2 : tie.Need-returns-2 Inv-loop μ-loop
+returns-2 c =
+    let e = c .before in
+    let l = e .before .before in
+    let n = l .before .before in
+    turned-out _ _ (l .loop .inv .1) (omega (arith, e .before .loop-test .taken, n .corner-count .ensures)) (got w64 _ (e .side-at .ok) ∙ e .side-at .ensures .0) (c .if2 .taken)
+
+and-above-requires : tie.Need-and-above-requires Inv-loop μ-loop
+and-above-requires c κs = search needs
+
+add-k : tie.Need-add-k Inv-loop μ-loop
+add-k c = search needs
+
+loop-less : tie.Need-loop-less Inv-loop μ-loop
+loop-less c = search needs
+
+loop-again : tie.Need-loop-again Inv-loop μ-loop
+loop-again c =
+    let e = c .before .before in
+    let l = e .before .before in
+    let n = l .before .before in
+    let inside : l .loop .k < length (pointsOf (n .before .args .contour .now)) = omega (arith, e .before .loop-test .taken, n .corner-count .ensures) in
+    (inside, in-turn _ _ (l .loop .inv .1) inside (got w64 _ (e .side-at .ok) ∙ e .side-at .ensures .0) (c .before .if2 .left) (c .and-above .ensures))
+
+returns-3 : tie.Need-returns-3 Inv-loop μ-loop
+returns-3 c =
+    let l = c .before .before in
+    let n = l .before .before in
+    turned-strictly _ _ (l .loop .inv .1) (omega (arith, c .before .loop-test .left, n .corner-count .ensures)) (λ e. l .before .if1 .left (n .corner-count .ensures ∙ e)) (c .if3 .taken)
+
+is-among-requires : tie.Need-is-among-requires Inv-loop μ-loop
+is-among-requires c κs = search needs
+
+returns-4 : tie.Need-returns-4 Inv-loop μ-loop
+returns-4 c =
+    let a = c .before in
+    let l = a .before .before .before in
+    let n = l .before .before in
+    by-corners (turned _ _ (l .loop .inv .1) (omega (arith, a .before .before .loop-test .left, n .corner-count .ensures)) (λ e. l .before .if1 .left (n .corner-count .ensures ∙ e)) (a .before .if3 .left)) .0 (sym (a .is-among .ensures) ∙ c .if4 .taken)
+
+returns-5 : tie.Need-returns-5 Inv-loop μ-loop
+returns-5 c =
+    let a = c .before in
+    let l = a .before .before .before in
+    let n = l .before .before in
+    by-corners (turned _ _ (l .loop .inv .1) (omega (arith, a .before .before .loop-test .left, n .corner-count .ensures)) (λ e. l .before .if1 .left (n .corner-count .ensures ∙ e)) (a .before .if3 .left)) .1 (sym (a .is-among .ensures) ∙ c .if4 .left)
+
+pub placed-in-spec : {M : Type 1} → statement M
+placed-in-spec =
+    tie.close
+    (tie.spec
+    Inv-loop
+    μ-loop
+    corner-count-requires
+    returns
+    sub-i
+    loop-holds
+    side-at-requires
+    returns-2
+    and-above-requires
+    add-k
+    loop-less
+    loop-again
+    returns-3
+    is-among-requires
+    returns-4
+    returns-5)

@@ -1,0 +1,93 @@
+-- Where a whole-number place lies by the contours of a pair result: inside none (apart), on the rim of some and strictly inside none (touching), strictly inside some
+-- (overlapping). Of differences that says whether the second piece, moved to the place, meets or overlaps the first ("Those contours bound where a piece may lie"):
+-- placement_meshes/specs. Contours are any starts and corners. Assumes nothing.
+use mathlib.Core.Path.{_≡_}
+use mathlib.Core.Bool.{Bool, true, false, cond}
+use mathlib.Core.List.{List, [], _∷_}
+use Prim.Native.Nat.{ℕ, _<_}
+use lib.Dec.{eqb}
+use lib.ListN.{length}
+use lib.IntN.{ℤ, pos}
+use lib.Signed.{leZ, ltZ}
+use Rattle.integers.specs.Faults.{firstFault, faultRules, faultRange}
+use Rattle.integers.specs.Lists.{links}
+use Rattle.plane.specs.Plane.{Pt, areaTwo}
+use Rattle.plane.specs.Contour.{lastOf}
+use Rattle.table.specs.Table.{pointsOf, tableParts, resultBroken, offRange}
+use Rattle.placement.specs.declared.Contact.{Contact}
+use Rattle.placement.specs.declared.Contact.the-variants.{Apart, Touching, Overlapping}
+use Rattle.placement.specs.declared.Placed.{Placed}
+use Rattle.placement.specs.declared.Placed.the-variants.{At, Refused}
+
+module _ {A : Type 0} where
+  -- whether a test holds of every element, and of some
+  unfoldable pub every : (A → Bool) → List A → Bool
+  every t [] = true
+  every t (x ∷ l) = cond (t x) (every t l) false
+
+  unfoldable pub some : (A → Bool) → List A → Bool
+  some t [] = false
+  some t (x ∷ l) = cond (t x) true (some t l)
+
+-- ---- one contour
+
+-- its edges, the one into the first corner first
+unfoldable pub edgesInto : List Pt → List (Pt × Pt)
+edgesInto [] = []
+edgesInto (p ∷ l) = links (lastOf p l) (p ∷ l)
+
+-- how far z is left of an edge: the doubled area of its ends and z
+abbrev pub side : Pt → Pt × Pt → ℤ
+side z e = areaTwo (e .0) (e .1) z
+
+-- z is not past all corners to one side. A contour on one line, as two segments in line give, goes along the whole line by its edges alone; and this holds of no empty one
+unfoldable pub among : List Pt → Pt → Bool
+among l z =
+    cond (some (λ c. leZ (c .x) (z .x)) l)
+    (cond (some (λ c. leZ (z .x) (c .x)) l) (cond (some (λ c. leZ (c .y) (z .y)) l) (some (λ c. leZ (z .y) (c .y)) l) false) false)
+    false
+
+-- on or left of each edge
+unfoldable pub insideAt : Pt → List Pt → Bool
+insideAt z l = cond (every (λ e. leZ (pos 0) (side z e)) (edgesInto l)) (among l z) false
+
+-- left of each edge; an empty contour covers nothing
+unfoldable pub strictlyInsideAt : Pt → List Pt → Bool
+strictlyInsideAt z [] = false
+strictlyInsideAt z (p ∷ l) = every (λ e. ltZ (pos 0) (side z e)) (edgesInto (p ∷ l))
+
+unfoldable pub contactIn : Pt → List Pt → Contact
+contactIn z l = cond (strictlyInsideAt z l) Overlapping (cond (insideAt z l) Touching Apart)
+
+-- ---- some contours
+
+unfoldable pub contactBy : Pt → List (List Pt) → Contact
+contactBy z ps = cond (some (strictlyInsideAt z) ps) Overlapping (cond (some (insideAt z) ps) Touching Apart)
+
+-- its numbers
+abbrev pub contactNumber : Contact → ℕ
+contactNumber Apart = 0
+contactNumber Touching = 1
+contactNumber Overlapping = 2
+
+-- ---- the call
+
+-- 7 for starts or corners against a pair result's rules, 2 for a place or a corner not strictly between −2^30 and 2^30
+unfoldable pub placeFault : List ℕ → List ℤ → Pt → ℕ
+placeFault starts corners z = firstFault ((faultRules, resultBroken starts corners) ∷ (faultRange, offRange (z .x ∷ z .y ∷ corners)) ∷ [])
+
+unfoldable pub placedOf : List ℕ → List ℤ → Pt → Placed
+placedOf starts corners z = cond (eqb (placeFault starts corners z) 0) (At (contactBy z (tableParts starts corners))) (Refused (placeFault starts corners z))
+
+-- ---- what the steps of the call ask
+
+-- two corners of a contour whose numbers are in range
+pub record EdgeAt (contour : List ℤ) (i k : ℕ) : Type 0 where
+  pub ranged : offRange contour ≡ false
+  pub from : i < length (pointsOf contour)
+  pub to : k < length (pointsOf contour)
+
+-- starts and corners that neither 7 nor 2 is told of
+pub record Placeable (starts : List ℕ) (corners : List ℤ) : Type 0 where
+  pub whole : resultBroken starts corners ≡ false
+  pub ranged : offRange corners ≡ false
