@@ -11,30 +11,25 @@ use lib.Signed.{_<ℤ_}
 use Rattle.integers.proofs.Ring.{con, _:≡_, pt, ring}
 use Rattle.integers.proofs.Order.{zarith}
 use Rattle.plane.specs.Plane.{Pt, areaTwo}
+use Rattle.plane.proofs.Sides.{area-first, area-ends}
 use Rattle.plane.proofs.Terms.{areaTwoE}
 use Rattle.mesh.specs.Mesh.{Mesh, Triangle, none, vertex, neighbour, after, before, triangleAt, triangleArea, named, opposite, maxTriangles}
 use Rattle.mesh.proofs.Sides.{after-side, opposite-side}
 
 -- ---- three points
 
-same-first : (a c : Pt) → areaTwo a a c ≡ pos 0
-same-first = ring (pt ∷ pt ∷ []) (λ a c. areaTwoE a a c :≡ con (pos 0)) tt
-
 same-last : (a b : Pt) → areaTwo a b b ≡ pos 0
 same-last = ring (pt ∷ pt ∷ []) (λ a b. areaTwoE a b b :≡ con (pos 0)) tt
 
-same-ends : (a b : Pt) → areaTwo a b a ≡ pos 0
-same-ends = ring (pt ∷ pt ∷ []) (λ a b. areaTwoE a b a :≡ con (pos 0)) tt
-
 module _ (t : Triangle) (h : pos 0 <ℤ triangleArea t) where
   not-01 : t .v0 ≡ t .v1 → ⊥
-  not-01 e = omega (zarith, h, ap (λ p. areaTwo (t .v0) p (t .v2)) e, same-first (t .v0) (t .v2))
+  not-01 e = omega (zarith, h, ap (λ p. areaTwo (t .v0) p (t .v2)) e, area-first (t .v0) (t .v2))
 
   not-12 : t .v1 ≡ t .v2 → ⊥
   not-12 e = omega (zarith, h, ap (λ p. areaTwo (t .v0) (t .v1) p) e, same-last (t .v0) (t .v1))
 
   not-02 : t .v0 ≡ t .v2 → ⊥
-  not-02 e = omega (zarith, h, ap (λ p. areaTwo (t .v0) (t .v1) p) e, same-ends (t .v0) (t .v1))
+  not-02 e = omega (zarith, h, ap (λ p. areaTwo (t .v0) (t .v1) p) e, area-ends (t .v0) (t .v1))
 
   pub vertices : (i j : ℕ) → i < 3 → j < 3 → vertex t i ≡ vertex t j → i ≡ j
   unfolding vertex

@@ -1,24 +1,25 @@
--- Where a place lies by one contour, edge by edge. In order: the last corner by its place; the edges left before corner k (`InTurn`), at the start, after an edge, at an edge that z is
--- right of, at the end; whether z is among the corners, corner by corner (`AmongTurn`). Assumes nothing.
-use mathlib.Core.Path.{_≡_, refl, sym, _∙_, ap}
+-- Where a place lies by one contour, edge by edge. In order: the edges from the one into the first corner on (`round`); the edges left before corner k (`InTurn`), at the start, after an
+-- edge, at an edge that z is right of, at the end; whether z is among the corners, corner by corner (`AmongTurn`). Assumes nothing.
+use mathlib.Core.Path.{_≡_, refl, sym, _∙_, ap, subst}
 use mathlib.Core.Bool.{Bool, true, false, cond}
-use mathlib.Core.List.{List, [], _∷_}
+use mathlib.Core.List.{List, [], _∷_, _++_}
 use Prim.Native.Nat.{ℕ, zero, suc, _+_, _-_, _<_, _≤_}
 use native.Mathlib.Numerals.{add-one}
 use native.Mathlib.Omega.{arith}
 use lib.ListN.{length, drop, getD, drop-of-length-le}
 use lib.Seq.{drop-cons}
 use lib.IntN.{ℤ, pos}
-use lib.Signed.{leZ, ltZ}
-use Rattle.integers.specs.Lists.{links}
-use Rattle.integers.proofs.Order.{by-test}
+use lib.Signed.{leZ, ltZ, _<ℤ_}
+use Rattle.integers.specs.Lists.{links, neighbours}
+use Rattle.integers.proofs.Order.{by-test, zarith, <-≤}
 use Rattle.integers.proofs.Tests.{ltZ-<, ltZ-≤, <-leZ, ≤-leZ, ≤-ltZ}
-use Rattle.integers.proofs.Order.{<-≤}
-use Rattle.plane.specs.Plane.{Pt, O, areaTwo}
+use Rattle.plane.specs.Plane.{Pt, O, areaTwo, eqPt}
 use Rattle.plane.specs.Contour.{lastOf}
+use Rattle.plane.proofs.Edges.{links-last, ≢-eqPt}
+use Rattle.plane.proofs.Sides.{area-first}
 use Rattle.pair.specs.Walk.{cornerAt}
 use Rattle.placement.specs.declared.Contact.the-variants.{Apart, Touching, Overlapping}
-use Rattle.placement.specs.Placement.{every, some, edgesInto, side, among, insideAt, strictlyInsideAt, contactIn}
+use Rattle.placement.specs.Placement.{every, some, side, onOrLeft, leftOrNone, leftOf, among, insideAt, strictlyInsideAt, contactIn}
 
 -- the last corner stands last
 last-at : (p : Pt) (l : List Pt) → getD (p ∷ l) (length l) O ≡ lastOf p l
@@ -26,101 +27,141 @@ unfolding lastOf
 last-at p [] = refl
 last-at p (q ∷ l) = last-at q l
 
--- the tests of an edge
-abbrev weak : Pt → Pt × Pt → Bool
-weak z e = leZ (pos 0) (side z e)
+-- a test of the edges: the one into the first corner comes last, or first
+module _ (t : Pt × Pt → Bool) (e : Pt × Pt) where
+  every-last : (l : List (Pt × Pt)) → every t (l ++ (e ∷ [])) ≡ every t (e ∷ l)
+  unfolding every
+  every-last [] = refl
+  every-last (f ∷ l) = by-test (t f) (λ h. rw h (every-last l)) (λ h. rw h (neither (t e)))
+    where
+      neither : (b : Bool) → false ≡ cond b false false
+      neither true = refl
+      neither false = refl
 
-abbrev strong : Pt → Pt × Pt → Bool
-strong z e = ltZ (pos 0) (side z e)
+  some-last : (l : List (Pt × Pt)) → some t (l ++ (e ∷ [])) ≡ some t (e ∷ l)
+  unfolding some
+  some-last [] = refl
+  some-last (f ∷ l) = by-test (t f) (λ h. rw h (either (t e))) (λ h. rw h (some-last l))
+    where
+      either : (b : Bool) → true ≡ cond b true true
+      either true = refl
+      either false = refl
 
--- strictly inside, of a contour that is not empty
-strictly-not : (z : Pt) (l : List Pt) → every (strong z) (edgesInto l) ≡ false → strictlyInsideAt z l ≡ false
-unfolding strictlyInsideAt
-strictly-not z [] v = refl
-strictly-not z (p ∷ l) v = v
+-- what holds of the edges in either order
+round : (P : List (Pt × Pt) → Bool) → ((e : Pt × Pt) (m : List (Pt × Pt)) → P (m ++ (e ∷ [])) ≡ P (e ∷ m)) → (l : List Pt) → (length l ≡ 0 → ⊥)
+    → P (neighbours l) ≡ P (links (cornerAt l (length l - 1)) l)
+unfolding neighbours links
+round P f [] h = absurd (h refl)
+round P f (p ∷ l) h =
+    let n : suc (length l) - 1 ≡ length l = omega arith in
+    ap P (links-last p l p) ∙ f (lastOf p l, p) (links p l) ∙ sym (ap (λ a. P ((a, p) ∷ links p l)) (ap (λ k. getD (p ∷ l) k O) n ∙ last-at p l))
 
-strictly-is : (z : Pt) (l : List Pt) → (length l ≡ 0 → ⊥) → strictlyInsideAt z l ≡ every (strong z) (edgesInto l)
-unfolding strictlyInsideAt
-strictly-is z [] h = absurd (h refl)
-strictly-is z (p ∷ l) h = refl
+-- the test of a side as the machine holds it
+module _ {u s : ℤ} (p : u ≡ s) (b : Bool) where
+  pub above : ltZ (pos 0) u ≡ true → true ≡ cond (ltZ (pos 0) s) true b
+  above e = rw (← p, e)
+
+  pub not-above : ltZ (pos 0) u ≡ false → b ≡ cond (ltZ (pos 0) s) true b
+  not-above e = rw (← p, e)
 
 -- an empty contour covers nothing
 pub empty-apart : (z : Pt) (l : List Pt) → length l ≡ 0 → Apart ≡ contactIn z l
-unfolding contactIn insideAt strictlyInsideAt among some every edgesInto
+unfolding contactIn insideAt strictlyInsideAt among some every neighbours
 empty-apart z [] h = refl
 empty-apart z (p ∷ l) h = absurd (omega arith)
 
-edges-start : (l : List Pt) → (length l ≡ 0 → ⊥) → edgesInto l ≡ links (cornerAt l (length l - 1)) l
-unfolding edgesInto
-edges-start [] h = absurd (h refl)
-edges-start (p ∷ l) h =
-    let n : suc (length l) - 1 ≡ length l = omega arith in
-    sym (ap (λ a. links a (p ∷ l)) (ap (λ k. getD (p ∷ l) k O) n ∙ last-at p l))
-
 module _ (z : Pt) (l : List Pt) where
   -- the edge into corner k, and those after it
-  edges-turn : (t : ℤ → Bool) (a : Pt) (k : ℕ) → k < length l
-      → every (λ e. t (side z e)) (links a (drop k l)) ≡ cond (t (areaTwo a (cornerAt l k) z)) (every (λ e. t (side z e)) (links (cornerAt l k) (drop (k + 1) l))) false
+  every-next : (t : Pt × Pt → Bool) (a : Pt) (k : ℕ) → k < length l → every t (links a (drop k l)) ≡ cond (t (a, cornerAt l k)) (every t (links (cornerAt l k) (drop (k + 1) l))) false
   unfolding every links
-  edges-turn t a k h = rw (add-one, drop-cons l k O)
+  every-next t a k h = rw (add-one, drop-cons l k O)
 
-  -- what is told of all edges is what is left to tell, with `strict` for those before; corner i is before corner k
-  pub record InTurn (i k : ℕ) (strict : Bool) : Type 0 where
-    pub weakly : every (weak z) (edgesInto l) ≡ every (weak z) (links (cornerAt l i) (drop k l))
-    pub strictly : every (strong z) (edgesInto l) ≡ cond strict (every (strong z) (links (cornerAt l i) (drop k l))) false
+  some-next : (t : Pt × Pt → Bool) (a : Pt) (k : ℕ) → k < length l → some t (links a (drop k l)) ≡ cond (t (a, cornerAt l k)) true (some t (links (cornerAt l k) (drop (k + 1) l)))
+  unfolding some links
+  some-next t a k h = rw (add-one, drop-cons l k O)
+
+  -- what is told of all edges is what is left to tell, with `strict` and `left` for those before; corner i is before corner k
+  pub record InTurn (i k : ℕ) (strict left : Bool) : Type 0 where
+    pub weakly : every (onOrLeft z) (neighbours l) ≡ every (onOrLeft z) (links (cornerAt l i) (drop k l))
+    pub strictly : every (leftOrNone z) (neighbours l) ≡ cond strict (every (leftOrNone z) (links (cornerAt l i) (drop k l))) false
+    pub lefts : some (leftOf z) (neighbours l) ≡ cond left true (some (leftOf z) (links (cornerAt l i) (drop k l)))
+
+  -- at the start the last corner is before the first
+  pub turn-start : (length l ≡ 0 → ⊥) → InTurn (length l - 1) 0 true false
+  turn-start h = record {
+    weakly = round (every (onOrLeft z)) (every-last (onOrLeft z)) l h;
+    strictly = round (every (leftOrNone z)) (every-last (leftOrNone z)) l h;
+    lefts = round (some (leftOf z)) (some-last (leftOf z)) l h;
+  }
+
+  both : (a b c : Bool) → cond a (cond b c false) false ≡ cond (cond a b false) c false
+  both true b c = refl
+  both false b c = refl
+
+  either : (a b c : Bool) → cond a true (cond b true c) ≡ cond (cond b true a) true c
+  either true true c = refl
+  either true false c = refl
+  either false true c = refl
+  either false false c = refl
 
   -- where side s of the edge into corner k is told
-  module _ {i k : ℕ} {strict : Bool} (t : InTurn i k strict) (h : k < length l) {s : ℤ} (e : s ≡ areaTwo (cornerAt l i) (cornerAt l k) z) where
-    pub in-turn : {strict′ : Bool} → ltZ s (pos 0) ≡ false → strict′ ≡ cond (ltZ (pos 0) s) strict false → InTurn k (k + 1) strict′
-    in-turn {strict′} f g = record {
-      weakly = t .weakly ∙ edges-turn (leZ (pos 0)) _ k h ∙ rw (← e, ≤-leZ (ltZ-≤ s (pos 0) f));
-      strictly = t .strictly ∙ ap (λ b. cond strict b false) (edges-turn (ltZ (pos 0)) _ k h ∙ rw (← e)) ∙ both strict (ltZ (pos 0) s) _ ∙ ap (λ b. cond b (every (strong z) (links (cornerAt l k) (drop (k + 1) l))) false) (sym g);
+  module _ {i k : ℕ} {strict left : Bool} (t : InTurn i k strict left) (h : k < length l) {s : ℤ} (e : s ≡ areaTwo (cornerAt l i) (cornerAt l k) z) where
+    pub in-turn : {strict′ left′ : Bool} → ltZ s (pos 0) ≡ false → strict′ ≡ cond strict (cond (ltZ (pos 0) s) true (eqPt (cornerAt l i) (cornerAt l k))) false
+        → left′ ≡ cond (ltZ (pos 0) s) true left → InTurn k (k + 1) strict′ left′
+    in-turn f g j = record {
+      weakly = t .weakly ∙ every-next (onOrLeft z) _ k h ∙ rw (← e, ≤-leZ (ltZ-≤ s (pos 0) f));
+      strictly =
+          t .strictly ∙ ap (λ b. cond strict b false) (every-next (leftOrNone z) _ k h) ∙ both strict (leftOrNone z (cornerAt l i, cornerAt l k)) _
+          ∙ ap (λ x. cond (cond strict (cond (ltZ (pos 0) x) true (eqPt (cornerAt l i) (cornerAt l k))) false) (every (leftOrNone z) (links (cornerAt l k) (drop (k + 1) l))) false) (sym e)
+          ∙ ap (λ b. cond b (every (leftOrNone z) (links (cornerAt l k) (drop (k + 1) l))) false) (sym g);
+      lefts =
+          t .lefts ∙ ap (λ b. cond left true b) (some-next (leftOf z) _ k h) ∙ either left (leftOf z (cornerAt l i, cornerAt l k)) _
+          ∙ ap (λ x. cond (cond (ltZ (pos 0) x) true left) true (some (leftOf z) (links (cornerAt l k) (drop (k + 1) l)))) (sym e)
+          ∙ ap (λ b. cond b true (some (leftOf z) (links (cornerAt l k) (drop (k + 1) l)))) (sym j);
     }
-      where
-        both : (a b c : Bool) → cond a (cond b c false) false ≡ cond (cond b a false) c false
-        both true true c = refl
-        both true false c = refl
-        both false true c = refl
-        both false false c = refl
 
-    -- z is right of it
+    -- z is right of it, so the edge has a length
     pub turned-out : ltZ s (pos 0) ≡ true → Apart ≡ contactIn z l
-    unfolding contactIn insideAt
+    unfolding contactIn insideAt strictlyInsideAt
     turned-out f =
-        let out : leZ (pos 0) s ≡ false = <-leZ (ltZ-< s (pos 0) f) in
-        let w : every (weak z) (edgesInto l) ≡ false = t .weakly ∙ edges-turn (leZ (pos 0)) _ k h ∙ rw (← e, out) in
-        let v : every (strong z) (edgesInto l) ≡ false = t .strictly ∙ ap (λ b. cond strict b false) (edges-turn (ltZ (pos 0)) _ k h ∙ rw (← e, ≤-ltZ (<-≤ (ltZ-< s (pos 0) f)))) ∙ none strict in
-        rw (strictly-not z l v, w)
+        let below = ltZ-< s (pos 0) f in
+        let w : every (onOrLeft z) (neighbours l) ≡ false = t .weakly ∙ every-next (onOrLeft z) _ k h ∙ rw (← e, <-leZ below) in
+        let v : every (leftOrNone z) (neighbours l) ≡ false =
+        t .strictly ∙ ap (λ b. cond strict b false) (every-next (leftOrNone z) _ k h ∙ rw (← e, ≤-ltZ (<-≤ below), apart-of (cornerAt l i) (cornerAt l k) (subst (λ x. x <ℤ pos 0) e below))) ∙ none strict in
+        rw (v, w)
       where
         none : (b : Bool) → cond b false false ≡ false
         none true = refl
         none false = refl
 
-  -- at the start the last corner is before the first
-  pub turn-start : (length l ≡ 0 → ⊥) → InTurn (length l - 1) 0 true
-  turn-start h = let e = edges-start l h in record { weakly = ap (every (weak z)) e; strictly = ap (every (strong z)) e }
+        apart-of : (a b : Pt) → areaTwo a b z <ℤ pos 0 → eqPt a b ≡ false
+        apart-of a b below = ≢-eqPt {a = a} {b = b} (λ q. omega (zarith, subst (λ c. areaTwo a c z <ℤ pos 0) (sym q) below, area-first a z))
 
   -- at the end nothing is left
-  module _ {i k : ℕ} {strict : Bool} (t : InTurn i k strict) (h : length l ≤ k) where
-    told-weakly : every (weak z) (edgesInto l) ≡ true
+  module _ {i k : ℕ} {strict left : Bool} (t : InTurn i k strict left) (h : length l ≤ k) where
+    itself : (b : Bool) → cond b true false ≡ b
+    itself true = refl
+    itself false = refl
+
+    told-weakly : every (onOrLeft z) (neighbours l) ≡ true
     unfolding every links
     told-weakly = t .weakly ∙ rw (drop-of-length-le l {i = k} h)
 
-    told-strictly : every (strong z) (edgesInto l) ≡ strict
+    told-strictly : every (leftOrNone z) (neighbours l) ≡ strict
     unfolding every links
     told-strictly = t .strictly ∙ rw (drop-of-length-le l {i = k} h) (itself strict)
-      where
-        itself : (b : Bool) → cond b true false ≡ b
-        itself true = refl
-        itself false = refl
 
-    pub turned-strictly : (length l ≡ 0 → ⊥) → strict ≡ true → Overlapping ≡ contactIn z l
-    unfolding contactIn
-    turned-strictly n e = rw (strictly-is z l n, told-strictly, e)
+    told-left : some (leftOf z) (neighbours l) ≡ left
+    unfolding some links
+    told-left = t .lefts ∙ rw (drop-of-length-le l {i = k} h) (itself left)
 
-    pub turned : (length l ≡ 0 → ⊥) → strict ≡ false → cond (among l z) Touching Apart ≡ contactIn z l
-    unfolding contactIn insideAt
-    turned n e = rw (strictly-is z l n, told-strictly, e, told-weakly)
+    pub turned-strictly : strict ≡ true → left ≡ true → Overlapping ≡ contactIn z l
+    unfolding contactIn strictlyInsideAt
+    turned-strictly e f = rw (told-strictly, e, told-left, f)
+
+    pub turned : cond strict left false ≡ false → cond (among l z) Touching Apart ≡ contactIn z l
+    unfolding contactIn insideAt strictlyInsideAt
+    turned e = rw (told-strictly, told-left, e, told-weakly)
 
 -- ---- among the corners
 

@@ -10,9 +10,8 @@ use lib.ListN.{length}
 use lib.IntN.{ℤ, pos}
 use lib.Signed.{leZ, ltZ}
 use Rattle.integers.specs.Faults.{firstFault, faultRules, faultRange}
-use Rattle.integers.specs.Lists.{links}
-use Rattle.plane.specs.Plane.{Pt, areaTwo}
-use Rattle.plane.specs.Contour.{lastOf}
+use Rattle.integers.specs.Lists.{neighbours}
+use Rattle.plane.specs.Plane.{Pt, areaTwo, eqPt}
 use Rattle.table.specs.Table.{pointsOf, tableParts, resultBroken, offRange}
 use Rattle.placement.specs.declared.Contact.{Contact}
 use Rattle.placement.specs.declared.Contact.the-variants.{Apart, Touching, Overlapping}
@@ -29,32 +28,36 @@ module _ {A : Type 0} where
   some t [] = false
   some t (x ∷ l) = cond (t x) true (some t l)
 
--- ---- one contour
-
--- its edges, the one into the first corner first
-unfoldable pub edgesInto : List Pt → List (Pt × Pt)
-edgesInto [] = []
-edgesInto (p ∷ l) = links (lastOf p l) (p ∷ l)
+-- ---- one contour, counter-clockwise as pair contours are
 
 -- how far z is left of an edge: the doubled area of its ends and z
 abbrev pub side : Pt → Pt × Pt → ℤ
 side z e = areaTwo (e .0) (e .1) z
 
--- z is not past all corners to one side. A contour on one line, as two segments in line give, goes along the whole line by its edges alone; and this holds of no empty one
+-- z is on or left of an edge; left of it, where it has a length; left of it
+abbrev pub onOrLeft : Pt → Pt × Pt → Bool
+onOrLeft z e = leZ (pos 0) (side z e)
+
+abbrev pub leftOrNone : Pt → Pt × Pt → Bool
+leftOrNone z e = cond (ltZ (pos 0) (side z e)) true (eqPt (e .0) (e .1))
+
+abbrev pub leftOf : Pt → Pt × Pt → Bool
+leftOf z e = ltZ (pos 0) (side z e)
+
+-- z is not past all corners to one side: by its edges alone a contour on one line, as two segments in line give, would cover the whole line, and an empty one everything
 unfoldable pub among : List Pt → Pt → Bool
 among l z =
     cond (some (λ c. leZ (c .x) (z .x)) l)
     (cond (some (λ c. leZ (z .x) (c .x)) l) (cond (some (λ c. leZ (c .y) (z .y)) l) (some (λ c. leZ (z .y) (c .y)) l) false) false)
     false
 
--- on or left of each edge
+-- inside: on or left of each edge
 unfoldable pub insideAt : Pt → List Pt → Bool
-insideAt z l = cond (every (λ e. leZ (pos 0) (side z e)) (edgesInto l)) (among l z) false
+insideAt z l = cond (every (onOrLeft z) (neighbours l)) (among l z) false
 
--- left of each edge; an empty contour covers nothing
+-- strictly inside: left of each edge that has a length, and there is one
 unfoldable pub strictlyInsideAt : Pt → List Pt → Bool
-strictlyInsideAt z [] = false
-strictlyInsideAt z (p ∷ l) = every (λ e. ltZ (pos 0) (side z e)) (edgesInto (p ∷ l))
+strictlyInsideAt z l = cond (every (leftOrNone z) (neighbours l)) (some (leftOf z) (neighbours l)) false
 
 unfoldable pub contactIn : Pt → List Pt → Contact
 contactIn z l = cond (strictlyInsideAt z l) Overlapping (cond (insideAt z l) Touching Apart)

@@ -8,7 +8,7 @@ ghost use Prim.Native.Nat.{_<_};
 ghost use lib.ListN.{getD};
 ghost use lib.IntN.{pos};
 ghost use lib.Signed.{leZ, ltZ};
-ghost use Rattle.plane.specs.Plane.{areaTwo};
+ghost use Rattle.plane.specs.Plane.{areaTwo, eqPt};
 ghost use Rattle.plane.specs.Machine.{point, OnGrid, CrossSize};
 ghost use Rattle.table.specs.Table.{pointsOf, offRange, tableParts, partCount};
 ghost use Rattle.pair.specs.Walk.{cornerAt};
@@ -102,12 +102,26 @@ fn side_at(contour: &[i32], i: usize, k: usize, z: IntPoint) -> i64
     plane::area_two(corner_at(contour, i), corner_at(contour, k), z)
 }
 
-// Whether s is above 0, and all before were.
-fn and_above(before: bool, s: i64) -> bool
-    ensures { λ r. ⌜ r ≡ cond (ltZ (pos 0) s) before false ⌝ }
+// Whether s is above 0, or one before was.
+fn or_above(before: bool, s: i64) -> bool
+    ensures { λ r. ⌜ r ≡ cond (ltZ (pos 0) s) true before ⌝ }
 {
     if s > 0 {
-        return before;
+        return true;
+    }
+    before
+}
+
+// Whether z, with side s of the edge from corner i to corner k, is left of it or the edge has no length, and so it was before.
+fn and_left(contour: &[i32], i: usize, k: usize, before: bool, s: i64) -> bool
+    requires { ⌜ EdgeAt (now contour) i k ⌝ }
+    ensures { λ r. ⌜ r ≡ cond before (cond (ltZ (pos 0) s) true (eqPt (cornerAt (pointsOf (now (contour .entry))) i) (cornerAt (pointsOf (now (contour .entry))) k))) false ⌝ }
+{
+    if before {
+        if s > 0 {
+            return true;
+        }
+        return plane::same_point(corner_at(contour, i), corner_at(contour, k));
     }
     false
 }
@@ -122,6 +136,7 @@ fn placed_in(contour: &[i32], z: IntPoint) -> Contact
         return Contact::Apart;
     }
     let mut strict = true;
+    let mut left = false;
     let mut i = n - 1;
     let mut k: usize = 0;
     while k < n {
@@ -129,12 +144,15 @@ fn placed_in(contour: &[i32], z: IntPoint) -> Contact
         if s < 0 {
             return Contact::Apart;
         }
-        strict = and_above(strict, s);
+        strict = and_left(contour, i, k, strict, s);
+        left = or_above(left, s);
         i = k;
         k += 1;
     }
     if strict {
-        return Contact::Overlapping;
+        if left {
+            return Contact::Overlapping;
+        }
     }
     if is_among(contour, z) {
         return Contact::Touching;

@@ -11,8 +11,8 @@ use Rattle.integers.proofs.Ring.{con, _:-_, _:*_, _:≡_, _:≡ᵖ_, pt, int, r
 use Rattle.integers.proofs.Order.{zarith, add-parts, <-≤}
 use Rattle.integers.proofs.Arith.{_:≤_, _:<_, _:=_, _⇒_, :⊥, arithℤ}
 use Rattle.integers.proofs.Signs.{zero-cancel}
-use Rattle.plane.specs.Plane.{Pt, O, _+ᵖ_, _-ᵖ_, negᵖ, cross, lower, angleCmp, isLess}
-use Rattle.plane.proofs.Terms.{OE, _+E_, _-E_, negE, crossE}
+use Rattle.plane.specs.Plane.{Pt, O, _+ᵖ_, _-ᵖ_, negᵖ, cross, areaTwo, lower, angleCmp, isLess}
+use Rattle.plane.proofs.Terms.{OE, _+E_, _-E_, negE, crossE, areaTwoE}
 use Rattle.plane.proofs.Vectors.{pt-eq, cross-neg-neg}
 use Rattle.plane.proofs.Directions.{Up, above, level, up-trans, LeAt, LtAt, Le, Lt, Same, before, beside, after, angle-cases, sgn, Nz, le-trans, lt-le, clash, same-le, lower-up, lower-down, nz-of-up, nz-of-down}
 
@@ -33,6 +33,13 @@ pub +ᵖ-next : (p a b : Pt) → (p +ᵖ a) +ᵖ b ≡ p +ᵖ (b +ᵖ a)
 -- (p + q) + (a + b) = (p + a) + (q + b)
 pub +ᵖ-cross : (p q a b : Pt) → (p +ᵖ q) +ᵖ (a +ᵖ b) ≡ (p +ᵖ a) +ᵖ (q +ᵖ b)
 +ᵖ-cross = ringᵖ (pt ∷ pt ∷ pt ∷ pt ∷ []) (λ p q a b. (p +E q) +E (a +E b) :≡ᵖ (p +E a) +E (q +E b)) tt
+
+-- (a - a) × (c - a) = 0, and (b - a) × (a - a) = 0
+pub area-first : (a c : Pt) → areaTwo a a c ≡ pos 0
+area-first = ring (pt ∷ pt ∷ []) (λ a c. areaTwoE a a c :≡ con (pos 0)) tt
+
+pub area-ends : (a b : Pt) → areaTwo a b a ≡ pos 0
+area-ends = ring (pt ∷ pt ∷ []) (λ a b. areaTwoE a b a :≡ con (pos 0)) tt
 
 -- (p + a) - p = a
 pub +ᵖ-sub : (p a : Pt) → (p +ᵖ a) -ᵖ p ≡ a
