@@ -204,6 +204,7 @@ module _ {M : Type 1} (𝓤 : URA M) (H : Heap 𝓤) (A : Atoms 𝓤) (W : Given
         move ! (3 ∷ []) $ use1 W (‵ (finally u32 (x .name) (x .now))) (unwritten 𝓤 H A W (named 1) κ₁ u32 x) $ move ! (4 ∷ []) $ use1 W (‵ (finally i32 (y .name) (y .now))) (unwritten 𝓤 H A W (named 2) κ₂ i32 y) $
         move ! (2 ∷ 3 ∷ 4 ∷ 1 ∷ 0 ∷ []) $ ends r u (x .now) (y .now) refl refl (refused by-number most (trianglesMesh ys) (x .now) (y .now) many er) Q back)
 
+    -- the split of the number is asked for, and handed on with the mesh, the limit, starts and corners
     passing : by-number ≤ 2 → Sq W Before (runs (𝓣 .C) (𝓣 .Λ) En mirs.t-3 (atRet En Post))
     passing few =
         nothing ! $ use1 W (raw (Strat 𝓤 H A mem run .pre to-strat)) goes-strat $
