@@ -3,7 +3,7 @@
 -- In order: the whole contour of a zipper before and after a step; the far triangle, its doubled area and its corners from another vertex (`far-area`, `far-corners`); the principle.
 -- Assumes an accepted mesh where it says so.
 use mathlib.Core.Path.{_≡_, refl, sym, _∙_, ap, ap₂, subst, subst₂}
-use mathlib.Core.Bool.{true, false}
+use mathlib.Core.Bool.{true}
 use mathlib.Core.List.{List, [], _∷_, _++_, map, append-assoc, append-nil}
 use Prim.Native.Nat.{ℕ, zero, suc, _-_, _≤_, _<_}
 use native.Mathlib.Omega.{arith}

@@ -45,7 +45,7 @@ formsOf (e ∷ m) = cond (isZero (e .1 -ᵖ e .0)) (formsOf m) (formOf e ∷ for
 abbrev pub forms : List Pt → List Form
 forms l = formsOf (neighbours l)
 
-no-length : {a b : Pt} → a ≡ b → b -ᵖ a ≡ O
+pub no-length : {a b : Pt} → a ≡ b → b -ᵖ a ≡ O
 no-length {a} {b} e = subst (λ c. c -ᵖ a ≡ O) e (sub-self a)
 
 forms-all : (P : Form → Type 0) (m : List (Pt × Pt)) → All P (formsOf m) ↔ All (λ e. (e .0 ≡ e .1) ⊎ P (formOf e)) m

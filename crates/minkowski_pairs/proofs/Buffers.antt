@@ -1,7 +1,7 @@
 -- The buffers that an accepted call leaves hold the pairs' contours (`result-is-pairs`), so demand 3 and de Berg et al. hold of what stands there
 -- (`table-reach`, `table-de-berg`); pairs in pieces (`pairs-shard`). Assumes nothing.
-use mathlib.Core.Path.{_≡_, sym, _∙_, ap, subst}
-use mathlib.Core.List.{List, [], map, map-append, flatten}
+use mathlib.Core.Path.{sym, _∙_, ap, subst}
+use mathlib.Core.List.{[], map, map-append, flatten}
 use Prim.Native.Nat.{_+_, _*_}
 use lib.ListN.{length, getD}
 use Rattle.integers.proofs.Sums.{flatten-append}
