@@ -19,7 +19,7 @@ use Rattle.plane.proofs.Vectors.{pt-eq}
 use Rattle.plane.proofs.Directions.{nz-cases, same-dot, same-refl}
 use Rattle.cover.specs.Inside.{_·ᵖ_}
 use Rattle.cover.specs.Wholes.{AtMost, Near}
-use Rattle.cover.proofs.Mixes.{_·E_}
+use Rattle.cover.proofs.Edges.{_·E_}
 
 pub record Form : Type 0 where
   pub d : Pt

@@ -18,7 +18,7 @@ use Rattle.plane.proofs.Vectors.{isZero-false}
 use Rattle.plane.proofs.Edges.{eqPt-true, isZero-sub}
 use Rattle.cover.specs.Inside.{_·ᵖ_, side}
 use Rattle.cover.specs.Grid.{onOrLeft, strictlyLeft, insideAt, strictlyInsideAt, InsideTested}
-use Rattle.cover.proofs.Mixes.{_·E_}
+use Rattle.cover.proofs.Edges.{_·E_}
 use Rattle.cover.proofs.Strict.{no-length}
 
 side-one : (a b z : Pt) → cross (b -ᵖ a) (z -ᵖ pos 1 ·ᵖ a) ≡ areaTwo a b z

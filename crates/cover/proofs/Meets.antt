@@ -5,7 +5,7 @@ use mathlib.Core.Bool.{true}
 use mathlib.Core.List.{List, [], _∷_}
 use mathlib.Core.Logic.{_⊎_, inl, inr, ⊎-elim, _↔_, Iff·trans}
 use native.Mathlib.Omega.{arith}
-use lib.IntN.{ℤ, pos, negℤ, _+ℤ_, _-ℤ_, _*ℤ_}
+use lib.IntN.{ℤ, pos, negℤ, _+ℤ_, _-ℤ_, _*ℤ_, *ℤ-comm}
 use lib.Signed.{_≤ℤ_, _<ℤ_}
 use Rattle.integers.specs.Lists.{All, neighbours}
 use Rattle.integers.proofs.Ring.{con, _:+_, _:-_, _:*_, :neg, _:≡_, _:≡ᵖ_, pt, int, ring, ringᵖ}
@@ -19,7 +19,7 @@ use Rattle.pair.specs.Pair.{pairContour}
 use Rattle.pair.specs.Berg.{anticlockwise}
 use Rattle.cover.specs.Inside.{_·ᵖ_, side, Inside, Sum}
 use Rattle.cover.specs.Overlap.{StrictlyInside, Meet, Overlap, PairMeets}
-use Rattle.cover.proofs.Mixes.{_·E_}
+use Rattle.cover.proofs.Edges.{_·E_}
 use Rattle.cover.proofs.Sides.{Turning}
 use Rattle.cover.proofs.Covers.{turn-about, pair-covers}
 use Rattle.cover.proofs.Forms.{near-by, square}
@@ -117,10 +117,7 @@ module _ (A B K : List Pt) (a : Turning A) (b : Turning B) (covers : (q : ℤ) (
       let x = mid A a in
       let y = mid B b in
       overlap-away (y .q *ℤ x .q) (y .q ·ᵖ x .z) (x .q ·ᵖ y .z) (strict-scale A (y .q) (x .q) (x .z) (y .above) (x .strict))
-      (subst (λ p. StrictlyInside B p (x .q ·ᵖ y .z)) (commuted (x .q) (y .q)) (strict-scale B (x .q) (y .q) (y .z) (x .above) (y .strict))) i
-    where
-      commuted : (x y : ℤ) → x *ℤ y ≡ y *ℤ x
-      commuted = ring (int ∷ int ∷ []) (λ x y. x :* y :≡ y :* x) tt
+      (subst (λ p. StrictlyInside B p (x .q ·ᵖ y .z)) (*ℤ-comm (x .q) (y .q)) (strict-scale B (x .q) (y .q) (y .z) (x .above) (y .strict))) i
 
 pub pair-meets : PairMeets
 pair-meets A B a b q z hq =

@@ -8,20 +8,20 @@ use native.Mathlib.Omega.{arith}
 use lib.IntN.{ℤ, pos, negℤ, _+ℤ_, _*ℤ_}
 use lib.Signed.{_≤ℤ_, _<ℤ_, ≤ℤ-refl}
 use Rattle.integers.specs.Lists.{All, neighbours}
-use Rattle.integers.proofs.Ring.{con, _:+_, _:*_, :neg, _:≡_, pt, int, ring}
+use Rattle.integers.proofs.Ring.{con, _:+_, _:*_, _:≡_, pt, int, ring}
 use Rattle.integers.proofs.Order.{zarith, add-parts, by-test, <-≤, negative, null, positive, sign}
 use Rattle.integers.proofs.Arith.{_:=_, _⇒_, arithℤ}
 use Rattle.integers.proofs.Signs.{nn-add, nn-is, pos-is, pos-add, pos-mul}
 use Rattle.integers.proofs.Elements.{all-map, all-map2}
 use Rattle.integers.proofs.Neighbours.{all-neighbours}
 use Rattle.plane.specs.Plane.{Pt, O, _+ᵖ_, _-ᵖ_, cross, areaTwo, isZero}
-use Rattle.plane.proofs.Terms.{OE, _+E_, _-E_, crossE, areaTwoE}
+use Rattle.plane.proofs.Terms.{OE, _+E_, _-E_, crossE}
 use Rattle.plane.proofs.Vectors.{isZero-true, isZero-false}
 use Rattle.plane.proofs.Directions.{nz-cases, nz-not-zero}
 use Rattle.plane.proofs.Sides.{sub-self, sub-zero, cross-zero-l}
 use Rattle.cover.specs.Inside.{_·ᵖ_, side, Inside}
 use Rattle.cover.specs.Overlap.{StrictlyInside}
-use Rattle.cover.proofs.Mixes.{_·E_}
+use Rattle.cover.proofs.Edges.{side-form, area-form, side-scale, side-add}
 use Rattle.cover.proofs.Fan.{Wide}
 use Rattle.cover.proofs.Sides.{Turning, round-nonempty, round-left, round-wide}
 use Rattle.cover.proofs.Forms.{Form, val}
@@ -32,10 +32,7 @@ abbrev pub formOf : Pt × Pt → Form
 formOf e = record { d = e .1 -ᵖ e .0; a = negℤ (cross (e .1 -ᵖ e .0) (e .0)) }
 
 pub form-side : (e : Pt × Pt) (q : ℤ) (z : Pt) → val (formOf e) q z ≡ side e q z
-form-side e = of (e .0) (e .1)
-  where
-    of : (a b : Pt) (q : ℤ) (z : Pt) → cross (b -ᵖ a) z +ℤ negℤ (cross (b -ᵖ a) a) *ℤ q ≡ cross (b -ᵖ a) (z -ᵖ q ·ᵖ a)
-    of = ring (pt ∷ pt ∷ int ∷ pt ∷ []) (λ a b q z. crossE (b -E a) z :+ :neg (crossE (b -E a) a) :* q :≡ crossE (b -E a) (z -E q ·E a)) tt
+form-side e q z = sym (side-form (e .0) (e .1) q z)
 
 -- those of the edges that have a length
 unfoldable pub formsOf : List (Pt × Pt) → List Form
@@ -86,12 +83,6 @@ off-strict l q z h i =
 pub strict-inside : (l : List Pt) (q : ℤ) (z : Pt) → StrictlyInside l q z → Inside l q z
 strict-inside l q z h = all-map (neighbours l) (λ e k. ⊎-elim (λ s. nn-is (ap (λ v. cross v (z -ᵖ q ·ᵖ e .0)) (no-length s) ∙ cross-zero-l (z -ᵖ q ·ᵖ e .0)) (≤ℤ-refl (pos 0))) <-≤ k) h
 
-side-scale : (k : ℤ) (a b : Pt) (q : ℤ) (z : Pt) → cross (b -ᵖ a) (k ·ᵖ z -ᵖ (k *ℤ q) ·ᵖ a) ≡ k *ℤ cross (b -ᵖ a) (z -ᵖ q ·ᵖ a)
-side-scale = ring (int ∷ pt ∷ pt ∷ int ∷ pt ∷ []) (λ k a b q z. crossE (b -E a) (k ·E z -E (k :* q) ·E a) :≡ k :* crossE (b -E a) (z -E q ·E a)) tt
-
-side-add : (a b : Pt) (q : ℤ) (z : Pt) (r : ℤ) (w : Pt) → cross (b -ᵖ a) ((z +ᵖ w) -ᵖ (q +ℤ r) ·ᵖ a) ≡ cross (b -ᵖ a) (z -ᵖ q ·ᵖ a) +ℤ cross (b -ᵖ a) (w -ᵖ r ·ᵖ a)
-side-add = ring (pt ∷ pt ∷ int ∷ pt ∷ int ∷ pt ∷ []) (λ a b q z r w. crossE (b -E a) ((z +E w) -E (q :+ r) ·E a) :≡ crossE (b -E a) (z -E q ·E a) :+ crossE (b -E a) (w -E r ·E a)) tt
-
 pub strict-scale : (l : List Pt) (k q : ℤ) (z : Pt) → pos 0 <ℤ k → StrictlyInside l q z → StrictlyInside l (k *ℤ q) (k ·ᵖ z)
 strict-scale l k q z h s = all-map (neighbours l) (λ e t. ⊎-elim inl (λ r. inr (pos-is (side-scale k (e .0) (e .1) q z) (pos-mul h r))) t) s
 
@@ -119,7 +110,7 @@ some-or-none r a (c ∷ l) h = elim (sign (cross r c +ℤ a)) [
   | negative k ↦ absurd (omega (zarith, h .0))
   | null k ↦ ⊎-elim (λ s. inl (pos-is (step r a c (corner-sum l) (corner-count l)) (more (cross r c +ℤ a) (cross r (corner-sum l) +ℤ a *ℤ corner-count l) k s)))
       (λ s. inr ((k, s .0), step r a c (corner-sum l) (corner-count l) ∙ (λ i. k i +ℤ s .1 i))) (some-or-none r a l (h .1))
-  | positive k ↦ inl (pos-is (step r a c (corner-sum l) (corner-count l)) (pos-add k (⊎-elim (λ s. <-≤ s) (λ s. at-least (cross r (corner-sum l) +ℤ a *ℤ corner-count l) (s .1)) (some-or-none r a l (h .1)))))
+  | positive k ↦ inl (pos-is (step r a c (corner-sum l) (corner-count l)) (pos-add k (⊎-elim (λ s. <-≤ s) (λ s. nn-is (s .1) (≤ℤ-refl (pos 0))) (some-or-none r a l (h .1)))))
 ]
   where
     step : (r : Pt) (a : ℤ) (c s : Pt) (n : ℤ) → cross r (c +ᵖ s) +ℤ a *ℤ (pos 1 +ℤ n) ≡ (cross r c +ℤ a) +ℤ (cross r s +ℤ a *ℤ n)
@@ -127,9 +118,6 @@ some-or-none r a (c ∷ l) h = elim (sign (cross r c +ℤ a)) [
 
     more : (x y : ℤ) → x ≡ pos 0 → pos 0 <ℤ y → pos 0 <ℤ (x +ℤ y)
     more x y e h = omega (zarith, add-parts x y)
-
-    at-least : (x : ℤ) → x ≡ pos 0 → pos 0 ≤ℤ x
-    at-least x e = omega zarith
 
 pub record Mid (l : List Pt) : Type 0 where
   pub q : ℤ
@@ -152,11 +140,8 @@ mid-edge l w e k n =
     pos-is (sym (form-side e (corner-count l) (corner-sum l)))
     (⊎-elim (λ s. s)
     (λ s. absurd (n (w (e .1 -ᵖ e .0) (all-map (neighbours l) (λ f t. flat (e .1 -ᵖ e .0) (negℤ (cross (e .1 -ᵖ e .0) (e .0))) (f .0) (f .1) (t .0) (t .1)) (all-neighbours (λ c. (cross (e .1 -ᵖ e .0) c +ℤ negℤ (cross (e .1 -ᵖ e .0) (e .0))) ≡ pos 0) l (s .0))))))
-    (some-or-none (e .1 -ᵖ e .0) (negℤ (cross (e .1 -ᵖ e .0) (e .0))) l (all-map l (λ c t. nn-is (area (e .0) (e .1) c) t) k)))
+    (some-or-none (e .1 -ᵖ e .0) (negℤ (cross (e .1 -ᵖ e .0) (e .0))) l (all-map l (λ c t. nn-is (sym (area-form (e .0) (e .1) c)) t) k)))
   where
-    area : (a b c : Pt) → cross (b -ᵖ a) c +ℤ negℤ (cross (b -ᵖ a) a) ≡ areaTwo a b c
-    area = ring (pt ∷ pt ∷ pt ∷ []) (λ a b c. crossE (b -E a) c :+ :neg (crossE (b -E a) a) :≡ areaTwoE a b c) tt
-
     flat : (r : Pt) (a : ℤ) (x y : Pt) → (cross r x +ℤ a) ≡ pos 0 → (cross r y +ℤ a) ≡ pos 0 → cross (y -ᵖ x) r ≡ pos 0
     flat = arithℤ (pt ∷ int ∷ pt ∷ pt ∷ []) (λ r a x y. crossE r x :+ a := con (pos 0) ⇒ crossE r y :+ a := con (pos 0) ⇒ crossE (y -E x) r := con (pos 0)) (omega arith)
 

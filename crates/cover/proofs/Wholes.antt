@@ -3,7 +3,7 @@
 use mathlib.Core.Path.{_≡_, subst}
 use mathlib.Core.List.{List, [], _∷_, _++_, map, flatten}
 use mathlib.Core.Logic.{_⊎_}
-use lib.IntN.{ℤ, pos, negℤ, _-ℤ_, _*ℤ_}
+use lib.IntN.{ℤ, pos, negℤ, _-ℤ_, _*ℤ_, *ℤ-comm}
 use lib.Signed.{_≤ℤ_, _<ℤ_, ≤ℤ-refl}
 use Rattle.integers.specs.Lists.{All, Any}
 use Rattle.integers.proofs.Ring.{_:-_, _:*_, :neg, _:≡_, int, ring}
@@ -76,12 +76,9 @@ module _ (X Y : List (List Pt)) (q : ℤ) (z : Pt) (hq : pos 0 <ℤ q) where
         k = p;
         u = q ·ᵖ w;
         above = hp;
-        first = subst (λ r. StrictlyInside A r (q ·ᵖ w)) (commuted q p) (strict-scale A q p w hq s);
+        first = subst (λ r. StrictlyInside A r (q ·ᵖ w)) (*ℤ-comm q p) (strict-scale A q p w hq s);
         second = t;
       }) y) x
-    where
-      commuted : (x y : ℤ) → x *ℤ y ≡ y *ℤ x
-      commuted = ring (int ∷ int ∷ []) (λ x y. x :* y :≡ y :* x) tt
 
   parts-overlap : Overlapping X Y q z → SomePair (λ A B. Overlap A B q z) X Y
   parts-overlap o =
