@@ -1,25 +1,18 @@
 -- A split keeps what a contour covers, whatever the limit and the strategy (`split-covers`), and so what a mesh does (`split-parts-cover`). Assumes nothing.
-use mathlib.Core.Path.{_≡_, sym, _∙_}
-use mathlib.Core.Bool.{true, not}
 use mathlib.Core.List.{List, [], _∷_, map}
 use mathlib.Core.Logic.{_↔_, Iff·symm, Iff·trans}
 use Prim.Native.Nat.{ℕ, _≤_}
 use native.Mathlib.Omega.{arith}
-use borrow.Author.Tests.{eqb-true}
-use lib.Dec.{eqb, leb}
+use lib.Dec.{leb}
 use lib.ListN.{length}
 use lib.IntN.{ℤ, pos}
 use lib.Signed.{_<ℤ_}
 use Rattle.integers.specs.Lists.{Any}
 use Rattle.integers.proofs.Order.{by-test}
-use Rattle.integers.proofs.Tests.{differ}
 use Rattle.integers.proofs.Elements.{all-map, any-one, any-iff, any-flatten, any-image}
 use Rattle.plane.specs.Plane.{Pt}
 use Rattle.convex.specs.Joining.{parts}
-use Rattle.convex.proofs.Parts.{StrictlyConvex}
-use Rattle.pair.specs.Premise.{strictlyConvex, turns, left, descent, howMany, roundBy}
-use Rattle.pair.proofs.Counts.{all-pass, count-sum}
-use Rattle.convex_pairs.proofs.Convexity.{Polygon, convex-polygon}
+use Rattle.convex_pairs.proofs.Convexity.{Polygon, test-convex, convex-polygon}
 use Rattle.convex_pairs.proofs.Meets.{parts-polygons}
 use Rattle.split.specs.declared.ConvexSplitStrategy.{ConvexSplitStrategy}
 use Rattle.split.specs.declared.ConvexSplitStrategy.the-variants.{EarClipping, Fan, Centroid}
@@ -46,13 +39,6 @@ by-covers Centroid m (c ∷ l) h p q z hq =
 contour-covers : (how : ConvexSplitStrategy) (m : ℕ) (l : List Pt) → 3 ≤ m → Polygon l → (q : ℤ) (z : Pt) → pos 0 <ℤ q → Covered (splitContour how m l) q z ↔ Inside l q z
 unfolding splitContour
 contour-covers how m l h p q z hq = by-test (leb (length l) m) (λ e. rw e any-one) (λ e. rw e (by-covers how m l h p q z hq))
-
--- the test and the record
-test-convex : (l : List Pt) → strictlyConvex l ≡ true → StrictlyConvex l
-unfolding strictlyConvex roundBy left descent
-test-convex l h = by-test (eqb (howMany (λ c. not (left c)) (turns l)) 0)
-    (λ t. record { left = all-pass left (turns l) (eqb-true _ 0 t); once = sym (count-sum descent (turns l)) ∙ eqb-true _ 1 (rw t at h) })
-    (λ t. differ (rw t at h))
 
 pub split-covers : SplitCovers
 split-covers how m l h s q z hq = Iff·trans (contour-covers how m l h (convex-polygon l (test-convex l s)) q z hq) (Iff·symm any-one)
