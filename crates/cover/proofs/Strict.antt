@@ -1,17 +1,19 @@
 -- Points strictly inside a contour. In order: edges of some length as forms (`strict-forms`, `forms-strict`); strictly inside, scaled and added; a point strictly inside each contour that goes
 -- once round, repeated and straight corners allowed: all corners added (`mid`). Assumes nothing.
-use mathlib.Core.Path.{_≡_, refl, sym, _∙_, ap, subst}
+use mathlib.Core.Path.{_≡_, sym, _∙_, ap, subst}
 use mathlib.Core.Bool.{cond}
 use mathlib.Core.List.{List, [], _∷_}
 use mathlib.Core.Logic.{_⊎_, inl, inr, ⊎-elim, _↔_}
+use Prim.Native.Nat.{ℕ, suc}
 use native.Mathlib.Omega.{arith}
+use lib.ListN.{length}
 use lib.IntN.{ℤ, pos, negℤ, _+ℤ_, _*ℤ_}
 use lib.Signed.{_≤ℤ_, _<ℤ_, ≤ℤ-refl}
 use Rattle.integers.specs.Lists.{All, neighbours}
 use Rattle.integers.proofs.Ring.{con, _:+_, _:*_, _:≡_, pt, int, ring}
 use Rattle.integers.proofs.Order.{zarith, add-parts, by-test, <-≤, negative, null, positive, sign}
 use Rattle.integers.proofs.Arith.{_:=_, _⇒_, arithℤ}
-use Rattle.integers.proofs.Signs.{nn-add, nn-is, pos-is, pos-add, pos-mul}
+use Rattle.integers.proofs.Signs.{nn-is, pos-is, pos-add, pos-mul}
 use Rattle.integers.proofs.Elements.{all-map, all-map2}
 use Rattle.integers.proofs.Neighbours.{all-neighbours}
 use Rattle.plane.specs.Plane.{Pt, O, _+ᵖ_, _-ᵖ_, cross, areaTwo, isZero}
@@ -19,11 +21,12 @@ use Rattle.plane.proofs.Terms.{OE, _+E_, _-E_, crossE}
 use Rattle.plane.proofs.Vectors.{isZero-true, isZero-false}
 use Rattle.plane.proofs.Directions.{nz-cases, nz-not-zero}
 use Rattle.plane.proofs.Sides.{sub-self, sub-zero, cross-zero-l}
+use Rattle.pair.specs.Demand.{sumᵖ}
 use Rattle.cover.specs.Inside.{_·ᵖ_, side, Inside}
 use Rattle.cover.specs.Overlap.{StrictlyInside}
 use Rattle.cover.proofs.Edges.{side-form, area-form, side-scale, side-add}
 use Rattle.cover.proofs.Fan.{Wide}
-use Rattle.cover.proofs.Sides.{Turning, round-nonempty, round-left, round-wide}
+use Rattle.cover.proofs.Sides.{Turning, filled, round-left, round-wide}
 use Rattle.cover.proofs.Forms.{Form, val}
 
 -- ---- edges as forms
@@ -91,30 +94,28 @@ strict-add l q z r w s i = all-map2 (neighbours l) (λ e t u. ⊎-elim inl (λ p
 
 -- ---- a point strictly inside: all corners added
 
-corner-sum : List Pt → Pt
-corner-sum [] = O
-corner-sum (c ∷ l) = c +ᵖ corner-sum l
-
-corner-count : List Pt → ℤ
-corner-count [] = pos 0
-corner-count (c ∷ l) = pos 1 +ℤ corner-count l
-
 -- some value is above 0, or all are 0
-some-or-none : (r : Pt) (a : ℤ) (l : List Pt) → All (λ c. pos 0 ≤ℤ (cross r c +ℤ a)) l → (pos 0 <ℤ (cross r (corner-sum l) +ℤ a *ℤ corner-count l)) ⊎ (All (λ c. (cross r c +ℤ a) ≡ pos 0) l × ((cross r (corner-sum l) +ℤ a *ℤ corner-count l) ≡ pos 0))
-unfolding corner-sum corner-count
+some-or-none : (r : Pt) (a : ℤ) (l : List Pt) → All (λ c. pos 0 ≤ℤ (cross r c +ℤ a)) l → (pos 0 <ℤ (cross r (sumᵖ l) +ℤ a *ℤ pos (length l))) ⊎ (All (λ c. (cross r c +ℤ a) ≡ pos 0) l × ((cross r (sumᵖ l) +ℤ a *ℤ pos (length l)) ≡ pos 0))
+unfolding sumᵖ
 some-or-none r a [] h = inr (tt, start r a)
   where
     start : (r : Pt) (a : ℤ) → cross r O +ℤ a *ℤ pos 0 ≡ pos 0
     start = ring (pt ∷ int ∷ []) (λ r a. crossE r OE :+ a :* con (pos 0) :≡ con (pos 0)) tt
 some-or-none r a (c ∷ l) h = elim (sign (cross r c +ℤ a)) [
   | negative k ↦ absurd (omega (zarith, h .0))
-  | null k ↦ ⊎-elim (λ s. inl (pos-is (step r a c (corner-sum l) (corner-count l)) (more (cross r c +ℤ a) (cross r (corner-sum l) +ℤ a *ℤ corner-count l) k s)))
-      (λ s. inr ((k, s .0), step r a c (corner-sum l) (corner-count l) ∙ (λ i. k i +ℤ s .1 i))) (some-or-none r a l (h .1))
-  | positive k ↦ inl (pos-is (step r a c (corner-sum l) (corner-count l)) (pos-add k (⊎-elim (λ s. <-≤ s) (λ s. nn-is (s .1) (≤ℤ-refl (pos 0))) (some-or-none r a l (h .1)))))
+  | null k ↦ ⊎-elim (λ s. inl (pos-is (step r a c (sumᵖ l) (length l)) (more (cross r c +ℤ a) (cross r (sumᵖ l) +ℤ a *ℤ pos (length l)) k s)))
+      (λ s. inr ((k, s .0), step r a c (sumᵖ l) (length l) ∙ (λ i. k i +ℤ s .1 i))) (some-or-none r a l (h .1))
+  | positive k ↦ inl (pos-is (step r a c (sumᵖ l) (length l)) (pos-add k (⊎-elim (λ s. <-≤ s) (λ s. nn-is (s .1) (≤ℤ-refl (pos 0))) (some-or-none r a l (h .1)))))
 ]
   where
-    step : (r : Pt) (a : ℤ) (c s : Pt) (n : ℤ) → cross r (c +ᵖ s) +ℤ a *ℤ (pos 1 +ℤ n) ≡ (cross r c +ℤ a) +ℤ (cross r s +ℤ a *ℤ n)
-    step = ring (pt ∷ int ∷ pt ∷ pt ∷ int ∷ []) (λ r a c s n. crossE r (c +E s) :+ a :* (con (pos 1) :+ n) :≡ (crossE r c :+ a) :+ (crossE r s :+ a :* n)) tt
+    next : (n : ℕ) → pos (suc n) ≡ pos 1 +ℤ pos n
+    next n = omega (zarith, add-parts (pos 1) (pos n))
+
+    apart : (r : Pt) (a : ℤ) (c s : Pt) (n : ℤ) → cross r (c +ᵖ s) +ℤ a *ℤ (pos 1 +ℤ n) ≡ (cross r c +ℤ a) +ℤ (cross r s +ℤ a *ℤ n)
+    apart = ring (pt ∷ int ∷ pt ∷ pt ∷ int ∷ []) (λ r a c s n. crossE r (c +E s) :+ a :* (con (pos 1) :+ n) :≡ (crossE r c :+ a) :+ (crossE r s :+ a :* n)) tt
+
+    step : (r : Pt) (a : ℤ) (c s : Pt) (n : ℕ) → cross r (c +ᵖ s) +ℤ a *ℤ pos (suc n) ≡ (cross r c +ℤ a) +ℤ (cross r s +ℤ a *ℤ pos n)
+    step r a c s n = ap (λ k. cross r (c +ᵖ s) +ℤ a *ℤ k) (next n) ∙ apart r a c s (pos n)
 
     more : (x y : ℤ) → x ≡ pos 0 → pos 0 <ℤ y → pos 0 <ℤ (x +ℤ y)
     more x y e h = omega (zarith, add-parts x y)
@@ -125,19 +126,10 @@ pub record Mid (l : List Pt) : Type 0 where
   pub above : pos 0 <ℤ q
   pub strict : StrictlyInside l q z
 
-some-count : (l : List Pt) → (l ≡ [] → ⊥) → pos 0 <ℤ corner-count l
-unfolding corner-count
-some-count [] h = absurd (h refl)
-some-count (c ∷ l) h = pos-add {a = pos 1} (omega zarith) (least l)
-  where
-    least : (l : List Pt) → pos 0 ≤ℤ corner-count l
-    least [] = ≤ℤ-refl (pos 0)
-    least (c ∷ l) = nn-add {a = pos 1} (omega zarith) (least l)
-
 -- left of the edge e, on or left of which all corners are
-mid-edge : (l : List Pt) → Wide l → (e : Pt × Pt) → All (λ c. pos 0 ≤ℤ areaTwo (e .0) (e .1) c) l → (e .1 -ᵖ e .0 ≡ O → ⊥) → pos 0 <ℤ side e (corner-count l) (corner-sum l)
+mid-edge : (l : List Pt) → Wide l → (e : Pt × Pt) → All (λ c. pos 0 ≤ℤ areaTwo (e .0) (e .1) c) l → (e .1 -ᵖ e .0 ≡ O → ⊥) → pos 0 <ℤ side e (pos (length l)) (sumᵖ l)
 mid-edge l w e k n =
-    pos-is (sym (form-side e (corner-count l) (corner-sum l)))
+    pos-is (sym (form-side e (pos (length l)) (sumᵖ l)))
     (⊎-elim (λ s. s)
     (λ s. absurd (n (w (e .1 -ᵖ e .0) (all-map (neighbours l) (λ f t. flat (e .1 -ᵖ e .0) (negℤ (cross (e .1 -ᵖ e .0) (e .0))) (f .0) (f .1) (t .0) (t .1)) (all-neighbours (λ c. (cross (e .1 -ᵖ e .0) c +ℤ negℤ (cross (e .1 -ᵖ e .0) (e .0))) ≡ pos 0) l (s .0))))))
     (some-or-none (e .1 -ᵖ e .0) (negℤ (cross (e .1 -ᵖ e .0) (e .0))) l (all-map l (λ c t. nn-is (sym (area-form (e .0) (e .1) c)) t) k)))
@@ -147,8 +139,8 @@ mid-edge l w e k n =
 
 pub mid : (l : List Pt) → Turning l → Mid l
 mid l r = record {
-  q = corner-count l;
-  z = corner-sum l;
-  above = some-count l (round-nonempty l r);
+  q = pos (length l);
+  z = sumᵖ l;
+  above = omega (zarith, filled l r);
   strict = all-map (neighbours l) (λ e k. ⊎-elim (λ s. inl (sym (sub-zero s))) (λ n. inr (mid-edge l (round-wide l r) e k (nz-not-zero n))) (nz-cases (e .1 -ᵖ e .0))) (round-left l r);
 }
