@@ -1,14 +1,15 @@
 // Splitting over a lent slice of triangle structs, exported to C for the runs beside the Rust (oracle/beside) alone: an enum cannot be exported, so this takes the
-// split as the number that document 01's file has for it. The package has it not: a triangle of its header is a struct already. It is proved by a walk of its MIR, by
-// hand. Leans on triangles_split and, for the numbers, on listing.
+// split as the number that document 01's file has for it, and refuses any other number with 13, as boundary_split does over rows and by the same definitions. The package
+// has it not: a triangle of its header is a struct already. It is proved by a walk of its MIR, by hand. Leans on triangles_split, boundary_split and convex_gather and, for
+// the numbers, on listing.
 ghost use mathlib.Core.Path.{_≡_};
-ghost use Rattle.split.specs.Splitting.{splitCounts, splitStarts, splitCorners};
-ghost use Rattle.listing.specs.File.{strategyOf};
+ghost use Rattle.boundary_split.specs.Told.{numberedCounts, numberedStarts, numberedCorners};
 ghost use Rattle.triangles.specs.Triangles.{trianglesMesh};
+use boundary_split::LAST_SPLIT;
 use table::Counts;
 use triangles::IntTriangle;
 
-// triangles_split::to_convex_polygons_with_max_vertices by the split's number: 0 ear, 1 fan, any other centroid.
+// triangles_split::to_convex_polygons_with_max_vertices. Refuses with 13 before anything else where there is no such split.
 #[no_mangle]
 pub extern "C" fn split_triangles(
     mesh: &[IntTriangle],
@@ -17,8 +18,11 @@ pub extern "C" fn split_triangles(
     starts: &mut [u32],
     corners: &mut [i32],
 ) -> Counts
-    ensures { λ r. ⌜ (r ≡ splitCounts (strategyOf split) limit (trianglesMesh (now (mesh .entry))) (now (starts .entry)) (now (corners .entry))) × (now (starts .exit) ≡ splitStarts (strategyOf split) limit (trianglesMesh (now (mesh .entry))) (now (starts .entry)) (now (corners .entry))) × (now (corners .exit) ≡ splitCorners (strategyOf split) limit (trianglesMesh (now (mesh .entry))) (now (starts .entry)) (now (corners .entry))) ⌝ }
+    ensures { λ r. ⌜ (r ≡ numberedCounts split limit (trianglesMesh (now (mesh .entry))) (now (starts .entry)) (now (corners .entry))) × (now (starts .exit) ≡ numberedStarts split limit (trianglesMesh (now (mesh .entry))) (now (starts .entry)) (now (corners .entry))) × (now (corners .exit) ≡ numberedCorners split limit (trianglesMesh (now (mesh .entry))) (now (starts .entry)) (now (corners .entry))) ⌝ }
 {
+    if split > LAST_SPLIT {
+        return convex_gather::refusal(integers::fault::FILE);
+    }
     let strategy = listing::strategy(split);
     triangles_split::to_convex_polygons_with_max_vertices(mesh, limit, strategy, starts, corners)
 }

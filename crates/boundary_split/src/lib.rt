@@ -7,7 +7,7 @@ ghost use Rattle.boundary_split.specs.Told.{numberedCounts, numberedStar
 use table::Counts;
 
 // The last split's number: "0 ear, 1 fan, 2 centroid" (document 01).
-const LAST_SPLIT: u32 = 2;
+pub const LAST_SPLIT: u32 = 2;
 
 // split_parts::to_convex_polygons_with_max_vertices. Refuses with 13 before anything else where there is no such split.
 #[no_mangle]

@@ -14,7 +14,7 @@ use Rattle.integers.specs.Test.{eqZ}
 use Rattle.integers.proofs.Ring.{con, _:+_, _:*_, _:≡_, _:≡ᵖ_, pt, int, ring, ringᵖ}
 use Rattle.integers.proofs.Order.{zarith, by-test}
 use Rattle.integers.proofs.Arith.{_:<_, _:=_, _⇒_, arithℤ}
-use Rattle.integers.proofs.Signs.{pos-mul, pos-cancel, zero-cancel}
+use Rattle.integers.proofs.Signs.{pos-mul, pos-cancel}
 use Rattle.integers.proofs.Tests.{eqZ-true, eqZ-false, ≢-eqZ}
 use Rattle.integers.proofs.Elements.{all-map, all-image}
 use Rattle.integers.proofs.Sums.{sum-cons}
@@ -24,6 +24,7 @@ use Rattle.plane.specs.Contour.{lastOf, edges, contourArea}
 use Rattle.plane.proofs.Terms.{OE, _+E_, _-E_, crossE, dotE, turnE}
 use Rattle.plane.proofs.Vectors.{zero-+ᵖ, cross-self}
 use Rattle.plane.proofs.Directions.{Nz, same-dot}
+use Rattle.plane.proofs.Sides.{line-trans}
 use Rattle.convex.specs.Joining.{keptBy, turning, withoutStraight}
 use Rattle.convex.proofs.Forward.{Forward, leftward, onward, forward-nz-l, forward-nz-r, nz-square, times-zero, descent, rises, descent-halves}
 use Rattle.convex.proofs.Round.{Onward, descentAt, Round, way}
@@ -65,21 +66,15 @@ sweep-cons s b l f = sum-cons (cross s b) (map (λ e. cross (e .0) (e .1)) (link
 in-line : (s a n : Pt) → cross (a -ᵖ s) (n -ᵖ a) ≡ pos 0 → cross s n ≡ cross s a +ℤ cross a n
 in-line = arithℤ (pt ∷ pt ∷ pt ∷ []) (λ s a n. crossE (a -E s) (n -E a) := con (pos 0) ⇒ crossE s n := crossE s a :+ crossE a n) (omega arith)
 
--- (w · w)(u × v) = (w · v)(u × w) + (u · w)(w × v)
-beside-both : {w : Pt} (u v : Pt) → Nz w → cross u w ≡ pos 0 → cross w v ≡ pos 0 → cross u v ≡ pos 0
-beside-both {w} u v n e h = zero-cancel (nz-square n) (by u w v (times-zero (dot w v) e) (times-zero (dot u w) h))
-  where
-    by : (u w v : Pt) → (dot w v *ℤ cross u w) ≡ pos 0 → (dot u w *ℤ cross w v) ≡ pos 0 → (dot w w *ℤ cross u v) ≡ pos 0
-    by = arithℤ (pt ∷ pt ∷ pt ∷ []) (λ u w v. dotE w v :* crossE u w := con (pos 0) ⇒ dotE u w :* crossE w v := con (pos 0) ⇒ dotE w w :* crossE u v := con (pos 0)) (omega arith)
-
 -- s, a, b in line and a, b, n in line, so s, b, n in line
-in-line-on : (s a b n : Pt) → Nz (b -ᵖ a) → cross (a -ᵖ s) (b -ᵖ a) ≡ pos 0 → turn a b n ≡ pos 0 → cross (b -ᵖ s) (n -ᵖ b) ≡ pos 0
-in-line-on s a b n z e t = by s a b n (beside-both (a -ᵖ s) (n -ᵖ b) z e t) t
+pub in-line-on : (s a b n : Pt) → Nz (b -ᵖ a) → cross (a -ᵖ s) (b -ᵖ a) ≡ pos 0 → turn a b n ≡ pos 0 → cross (b -ᵖ s) (n -ᵖ b) ≡ pos 0
+in-line-on s a b n z e t = by s a b n (line-trans (n -ᵖ b) (b -ᵖ a) (a -ᵖ s) z t e) t
   where
     by : (s a b n : Pt) → cross (a -ᵖ s) (n -ᵖ b) ≡ pos 0 → turn a b n ≡ pos 0 → cross (b -ᵖ s) (n -ᵖ b) ≡ pos 0
     by = arithℤ (pt ∷ pt ∷ pt ∷ pt ∷ []) (λ s a b n. crossE (a -E s) (n -E b) := con (pos 0) ⇒ turnE a b n := con (pos 0) ⇒ crossE (b -E s) (n -E b) := con (pos 0)) (omega arith)
 
-no-way : (b n : Pt) → cross (b -ᵖ b) (n -ᵖ b) ≡ pos 0
+-- from b to b
+pub no-way : (b n : Pt) → cross (b -ᵖ b) (n -ᵖ b) ≡ pos 0
 no-way = ring (pt ∷ pt ∷ []) (λ b n. crossE (b -E b) (n -E b) :≡ con (pos 0)) tt
 
 -- with s before a, in line with a and the corner after it
@@ -130,7 +125,7 @@ along-sym {w} {e} a = record { flat = back w e (a .flat); kept = other w e (a .k
 -- (e · e)(w · g) = (w · e)(e · g) − (e × g)(w × e)
 along-trans : {w e g : Pt} → Along w e → Along e g → Along w g
 along-trans {w} {e} {g} a b = record {
-  flat = beside-both w g (along-nz a) (a .flat) (b .flat);
+  flat = line-trans g e w (along-nz a) (b .flat) (a .flat);
   kept = pos-cancel (nz-square (along-nz a)) (by w e g (times-zero (cross e g) (a .flat)) (pos-mul (a .kept) (b .kept)));
 }
   where
@@ -273,7 +268,7 @@ straight-first p c l h = rw (≢-eqZ {x = turn (lastOf c l) p c} {y = pos 0} (λ
 pub round-nz : (E : List Pt) → Round E → All Nz E
 round-nz E r = subst (All Nz) (firsts-neighbours E) (all-image Nz (λ t. t .0) (neighbours E) .1 (all-map (neighbours E) (λ t f. forward-nz-l f) (r .forward)))
 
-edges-cons : (p : Pt) (l : List Pt) → edges (p ∷ l) ≡ way p (l ++ (p ∷ []))
+pub edges-cons : (p : Pt) (l : List Pt) → edges (p ∷ l) ≡ way p (l ++ (p ∷ []))
 unfolding edges neighbours
 edges-cons p l = refl
 

@@ -1,9 +1,9 @@
 -- What holds of every region's contour: a property of closed lists, the same from any start, that a triangle has and that a join keeps, holds of
 -- the contour with the triangles taken (`contour-keeps`), and so of all regions (`all-regions`).
--- In order: the whole contour of a zipper before and after a step; the far triangle's doubled area (`far-area`); the principle.
+-- In order: the whole contour of a zipper before and after a step; the far triangle, its doubled area and its corners from another vertex (`far-area`, `far-corners`); the principle.
 -- Assumes an accepted mesh where it says so.
-use mathlib.Core.Path.{_≡_, refl, sym, _∙_, ap, subst, subst₂}
-use mathlib.Core.Bool.{true, false}
+use mathlib.Core.Path.{_≡_, refl, sym, _∙_, ap, ap₂, subst, subst₂}
+use mathlib.Core.Bool.{true}
 use mathlib.Core.List.{List, [], _∷_, _++_, map, append-assoc, append-nil}
 use Prim.Native.Nat.{ℕ, zero, suc, _-_, _≤_, _<_}
 use native.Mathlib.Omega.{arith}
@@ -47,6 +47,14 @@ far-area t (suc zero) h = refl
 far-area t (suc (suc zero)) h = area-cycle (t .v0) (t .v1) (t .v2)
 far-area t (suc (suc (suc v))) h = absurd (omega arith)
 
+-- as a closed list, from another start
+pub far-corners : (t : Triangle) (v : ℕ) → v < 3 → (k : ℕ) × (vertex t (before v) ∷ vertex t v ∷ vertex t (after v) ∷ [] ≡ rotate k (t .v0 ∷ t .v1 ∷ t .v2 ∷ []))
+unfolding vertex after rotate
+far-corners t zero h = (2, refl)
+far-corners t (suc zero) h = (0, refl)
+far-corners t (suc (suc zero)) h = (1, refl)
+far-corners t (suc (suc (suc v))) h = absurd (omega arith)
+
 last-at : (q : Pt) (l : List Pt) → getD (q ∷ l) (length l) O ≡ lastOf q l
 unfolding lastOf
 last-at q [] = refl
@@ -68,6 +76,7 @@ by-ring (b ∷ b0 ∷ l) h f = f b b0 l refl
 pub record Joint (m : Mesh) (j : ℕ) (a0 x p b b0 : Pt) : Type 0 where
   pub in-mesh : j < length m
   pub area : areaTwo x p b ≡ triangleArea (triangleAt m j)
+  pub corners : (k : ℕ) × (x ∷ p ∷ b ∷ [] ≡ rotate k (triangleAt m j .v0 ∷ triangleAt m j .v1 ∷ triangleAt m j .v2 ∷ []))
   pub allowed : joins a0 x p b b0 ≡ true
 
 module _ (m : Mesh) (ok : Accepted m) where
@@ -84,6 +93,9 @@ module _ (m : Mesh) (ok : Accepted m) where
           area =
               subst₂ (λ y w. areaTwo y (farVertex m x) w ≡ triangleArea (far m x)) (far-from m ok x _ s d) to
               (far-area (far m x) (farSide m x) (opposite-side (far m x) (x .inside)));
+          corners =
+              let c = far-corners (far m x) (farSide m x) (opposite-side (far m x) (x .inside)) in
+              (c .0, sym (ap₂ (λ y w. y ∷ farVertex m x ∷ w ∷ []) (far-from m ok x _ s d) to) ∙ c .1);
           allowed = ap (λ a. joins a (x .corner) (farVertex m x) b b0) (sym (ring-last b b0 l)) ∙ ap (λ r. joinsZ x r (far m x) (farSide m x)) (sym e) ∙ j;
         }
 

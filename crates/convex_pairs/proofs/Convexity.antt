@@ -33,12 +33,12 @@ use Rattle.pair.proofs.Convex.{Sorted, Convex}
 use Rattle.pair.proofs.Totals.{sum-cons}
 use Rattle.pair.proofs.Splits.{Split, split-start, split-next}
 use Rattle.pair.proofs.Start.{least-is, least-all}
-use Rattle.pair.proofs.Counts.{all-last, pass-all, count-sum}
+use Rattle.pair.proofs.Counts.{all-last, all-pass, pass-all, count-sum}
 use Rattle.pair.proofs.Upper.{split-le, up-corner, left-strictly}
 use Rattle.pair.proofs.Gaps.{turns-left}
 use Rattle.pair.proofs.Tables.{steps}
 use Rattle.pair.proofs.Readings.{outline-on}
-use Rattle.pair.proofs.Sharp.{sharp-round, sharp-live-on, sharp-ascends}
+use Rattle.pair.proofs.Sharp.{sharp-counts, sharp-round, sharp-live-on, sharp-ascends}
 use Rattle.convex_pairs.proofs.Triples.{Left, Triples, Bends, sorted-map, triples-rotate, triples-fan}
 
 -- three corners or more, any three turning left
@@ -128,6 +128,10 @@ convex-triples (p ∷ t) h =
 pub convex-test : (l : List Pt) → StrictlyConvex l → strictlyConvex l ≡ true
 unfolding strictlyConvex roundBy left descent
 convex-test l s = rw (pass-all left (turns l) (s .left), count-sum descent (turns l) ∙ s .once)
+
+pub test-convex : (l : List Pt) → strictlyConvex l ≡ true → StrictlyConvex l
+unfolding left descent
+test-convex l h = record { left = all-pass left (turns l) (sharp-counts l h .0); once = sym (count-sum descent (turns l)) ∙ sharp-counts l h .1 }
 
 pub convex-polygon : (l : List Pt) → StrictlyConvex l → Polygon l
 convex-polygon l s = record { long = convex-three l s; triples = convex-triples l (convex-test l s) }

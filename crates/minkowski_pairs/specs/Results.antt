@@ -3,11 +3,11 @@ use mathlib.Core.Path.{_≡_}
 use mathlib.Core.Bool.{Bool, true, false}
 use mathlib.Core.List.{List, [], _++_}
 use Prim.Native.Nat.{ℕ, _+_, _*_, _<_}
-use lib.ListN.{length, getD, take}
+use lib.ListN.{length, getD}
 use lib.IntN.{ℤ}
 use Rattle.integers.specs.Lists.{All, Any}
 use Rattle.plane.specs.Plane.{Pt, _+ᵖ_, onGrid}
-use Rattle.table.specs.Table.{tableParts, withinBounds}
+use Rattle.table.specs.Table.{firstContours, withinBounds}
 use Rattle.pair.specs.Walk.{begin, pointOf}
 use Rattle.pair.specs.Pair.{pairContour}
 use Rattle.pair.specs.Premise.{onceRound}
@@ -16,10 +16,6 @@ use Rattle.pair.specs.Demand.{second, FarthestReach, EitherWay}
 use Rattle.minkowski.specs.Pairs.{Operand, operandParts, pairsOf, pairContours, resultBounds, pairsFault, pairsStarts, pairsCorners}
 
 -- ---- the answer in the lent buffers
-
--- the first n contours of starts and corners, whatever stands behind them
-abbrev pub firstContours : ℕ → List ℕ → List ℤ → List (List Pt)
-firstContours n starts corners = tableParts (take (n + 1) starts) (take (2 * getD starts n 0) corners)
 
 -- how many pairs
 abbrev pub pairCount : Operand → Operand → ℕ

@@ -3,7 +3,7 @@
 -- convex, backwards, they ascend strictly (`sharp-ascends`, `sharp-ascends-back`), which is one reading (`sharp-back`); the winding seen from a
 -- corner is the doubled area (`winding-area`). Assumes nothing.
 use mathlib.Core.Path.{_≡_, refl, sym, _∙_, ap, subst}
-use mathlib.Core.Bool.{Bool, true, false, not, cond}
+use mathlib.Core.Bool.{true, false, not, cond}
 use mathlib.Core.List.{List, [], _∷_, map, map-map, reverse, List·Permᴰ, List·Permᴰ·trans, Permᴰ·refl, Permᴰ·symm, Permᴰ·reverse}
 use mathlib.Core.Logic.{⊎-elim}
 use Prim.Native.Nat.{ℕ, _<_}
@@ -14,7 +14,7 @@ use lib.IntN.{ℤ, pos}
 use lib.Signed.{_<ℤ_}
 use Rattle.integers.specs.Lists.{All, sumℤ, rotate, links, neighbours, both as pairwise}
 use Rattle.integers.proofs.Order.{zarith}
-use Rattle.integers.proofs.Tests.{differ, <-ltZ, ltZ-<}
+use Rattle.integers.proofs.Tests.{both-true, <-ltZ, ltZ-<}
 use Rattle.integers.proofs.Elements.{all-map, all-map2, all-any, all-image, all-getD, all-perm, any-perm}
 use Rattle.integers.proofs.Rotation.{perm-rotate}
 use Rattle.integers.proofs.Neighbours.{firsts-neighbours, map-neighbours, perm-neighbours-rotate}
@@ -23,7 +23,7 @@ use Rattle.plane.specs.Contour.{edges, contourArea}
 use Rattle.plane.proofs.Contours.{contour-rotate, contour-shift}
 use Rattle.plane.proofs.Directions.{Le, Lt, Nz, nz-cases, lt-irrefl, lt-asym, lt-trans}
 use Rattle.pair.specs.Walk.{cornerAt, below, windingTerms}
-use Rattle.pair.specs.Premise.{howMany, forward, descent, left, both, roundBy, strictlyConvex}
+use Rattle.pair.specs.Premise.{howMany, forward, descent, left, roundBy, strictlyConvex}
 use Rattle.pair.specs.Demand.{live}
 use Rattle.plane.proofs.Sides.{cross-zero-l, le-lt}
 use Rattle.pair.proofs.Convex.{In, in-self, Sorted, Convex}
@@ -79,18 +79,14 @@ strict (e ∷ l) c h = along e l (c .nonzero) (c .ascends) (all-perm (λ c. pos 
 
 module _ (l : List Pt) (h : strictlyConvex l ≡ true) where
   -- the two counts that `strictlyConvex` tests
-  counts : (howMany (λ c. not (left c)) (neighbours (edges l)) ≡ 0) × (howMany descent (neighbours (edges l)) ≡ 1)
+  pub sharp-counts : (howMany (λ c. not (left c)) (neighbours (edges l)) ≡ 0) × (howMany descent (neighbours (edges l)) ≡ 1)
   unfolding strictlyConvex roundBy
-  counts = let t = apart (eqb (howMany (λ c. not (left c)) (neighbours (edges l))) 0) (eqb (howMany descent (neighbours (edges l))) 1) h in (eqb-true _ _ (t .0), eqb-true _ _ (t .1))
-    where
-      apart : (p q : Bool) → both p q ≡ true → (p ≡ true) × (q ≡ true)
-      apart true q k = (refl, k)
-      apart false q k = differ k
+  sharp-counts = let t = both-true (eqb (howMany (λ c. not (left c)) (neighbours (edges l))) 0) (eqb (howMany descent (neighbours (edges l))) 1) h in (eqb-true _ _ (t .0), eqb-true _ _ (t .1))
 
   -- every turn is to the left
   sharp-turns : All (λ c. pos 0 <ℤ cross (c .0) (c .1)) (neighbours (edges l))
   unfolding left
-  sharp-turns = all-map (neighbours (edges l)) (λ c k. ltZ-< (pos 0) (cross (c .0) (c .1)) k) (all-pass left (neighbours (edges l)) (counts .0))
+  sharp-turns = all-map (neighbours (edges l)) (λ c k. ltZ-< (pos 0) (cross (c .0) (c .1)) k) (all-pass left (neighbours (edges l)) (sharp-counts .0))
 
   -- no edge is zero
   pub sharp-nonzero : All Nz (edges l)
@@ -111,7 +107,7 @@ module _ (l : List Pt) (h : strictlyConvex l ≡ true) where
   unfolding forward
   sharp-round = subst RoundEdges (sym sharp-live) (record {
     calm = pass-all forward (neighbours (edges l)) (all-map (neighbours (edges l)) (λ c k. ap (λ b. cond b true (isEqual (angleCmp (c .0) (c .1)))) (<-ltZ k)) sharp-turns);
-    once = counts .1;
+    once = sharp-counts .1;
   })
 
   -- read as W, from another corner

@@ -7,6 +7,7 @@ ghost use Rattle.plane.specs.Plane.{inRange, onGrid, eqPt, cross, areaTw
 ghost use Rattle.plane.specs.Machine.{Coordinate, Extent, CrossSize, OnGrid, Short, point, vector};
 
 // A point of the integer grid.
+#[repr(C)]
 pub struct IntPoint {
     pub x: i32,
     pub y: i32,

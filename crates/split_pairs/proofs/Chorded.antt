@@ -18,7 +18,7 @@ use Rattle.split.proofs.Sizes.{ceil-pos, shares-bound}
 -- ---- the shares
 
 -- n corners, three or more, for a limit of at least 3: a triangle or more in each share, n − 2 in all
-triangle-shares : (n m : ℕ) → 3 ≤ n → 3 ≤ m → All (λ s. 0 < s) (triangleShares n m) × (sumℕ (triangleShares n m) + 2 ≡ n)
+pub triangle-shares : (n m : ℕ) → 3 ≤ n → 3 ≤ m → All (λ s. 0 < s) (triangleShares n m) × (sumℕ (triangleShares n m) + 2 ≡ n)
 triangle-shares n m h k = (
   all-map (triangleShares n m) (λ s b. omega (arith, b .0)) (shares-bound (n - 2) (m - 2) (omega arith) (omega arith)),
   omega (arith, sum-shares (n - 2) (ceilDiv (n - 2) (m - 2)) (ceil-pos (n - 2) (m - 2) (omega arith) (omega arith))),

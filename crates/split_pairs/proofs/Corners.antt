@@ -37,7 +37,7 @@ module _ (P : Pt → Type 0) where
       let e : ℕ = edgesTaken g s l in
       by-test (eqb s 0) (λ d. rw d tt) (λ d. rw d ((k, all-take P (e + 1) l h), group-corners n g (s - e) (drop e l) k (all-drop P e l h)))
 
-  sector-corners : (ss : List ℕ) (g : Pt) (l : List Pt) → P g → All P l → All (All P) (sectors ss g l)
+  pub sector-corners : (ss : List ℕ) (g : Pt) (l : List Pt) → P g → All P l → All (All P) (sectors ss g l)
   unfolding sectors
   sector-corners [] g l k h = tt
   sector-corners (s ∷ ss) g l k h =

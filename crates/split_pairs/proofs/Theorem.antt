@@ -35,7 +35,7 @@ use Rattle.split_pairs.proofs.Corners.{split-corners}
 -- ---- one contour
 
 -- "Fan is used if it isn't strictly inside"
-serves-left : (g : Pt) (l : List Pt) → centreServes g l ≡ true → leftOfAll g (neighbours l) ≡ true
+pub serves-left : (g : Pt) (l : List Pt) → centreServes g l ≡ true → leftOfAll g (neighbours l) ≡ true
 unfolding centreServes
 serves-left g l h = by-test (ltZ (pos 3074457345618258602) (contourArea l)) (λ e. differ (rw e at h)) (λ e. rw e at h)
 

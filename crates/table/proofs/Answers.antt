@@ -1,13 +1,20 @@
 -- What a call that writes a table answers and leaves, by its fault: laws of `countsOf` and `written` of `specs/Table.antt`.
--- A refusal (`refused-counts`, `refused-buffer`), then success. Assumes nothing.
-use mathlib.Core.Path.{_≡_}
-use mathlib.Core.List.{List, flatten}
-use Prim.Native.Nat.{ℕ}
+-- A refusal (`refused-counts`, `refused-buffer`), then success; what stands there reads back (`contours-left`). Assumes nothing.
+use mathlib.Core.Path.{_≡_, sym, _∙_, ap, ap₂}
+use mathlib.Core.List.{List, [], _∷_, flatten}
+use Prim.Native.Nat.{ℕ, _+_, _*_}
+use native.Mathlib.Numerals.{add-one}
+use native.Mathlib.Omega.{arith}
 use borrow.Author.Tests.{eq-eqb, ne-eqb}
-use lib.ListN.{length}
+use lib.ListN.{length, getD, take, length-append}
+use lib.IntN.{ℤ}
 use Rattle.integers.specs.Lists.{overlay}
+use Rattle.integers.proofs.Overlay.{take-overlay, getD-overlay}
 use Rattle.plane.specs.Plane.{Pt}
-use Rattle.table.specs.Table.{countsOf, written}
+use Rattle.table.specs.Table.{startsFrom, startsOf, cornersOf, tableParts, firstContours, countsOf, written}
+use Rattle.table.proofs.Corners.{length-numbers}
+use Rattle.table.proofs.Parts.{length-starts}
+use Rattle.table.proofs.Rules.{parts-table}
 
 module _ (f : ℕ) (h : f ≡ 0 → ⊥) where
   pub refused-counts : (ps : List (List Pt)) → countsOf f ps ≡ record { fault = f; parts = 0; corners = 0 }
@@ -22,3 +29,29 @@ module _ (f : ℕ) (e : f ≡ 0) where
 
   pub accepted-buffer : {A : Type 0} (answer old : List A) → written f answer old ≡ overlay answer old
   accepted-buffer answer old = rw (eq-eqb f 0 e)
+
+-- ---- read back
+
+-- the last start is the number of corners
+start-last : (k : ℕ) (ps : List (List Pt)) → getD (startsFrom k ps) (length ps) 0 ≡ k + length (flatten ps)
+unfolding startsFrom flatten
+start-last k [] = omega arith
+start-last k (p ∷ ps) = omega (arith, start-last (k + length p) ps, length-append p (flatten ps))
+
+-- a table written on the front of two buffers reads back
+contours-back : (ps : List (List Pt)) (s : List ℕ) (c : List ℤ) → firstContours (length ps) (overlay (startsOf ps) s) (overlay (cornersOf ps) c) ≡ ps
+contours-back ps s c =
+    let n : length (startsOf ps) ≡ length ps + 1 = length-starts ps ∙ sym (add-one (length ps)) in
+    let last : getD (overlay (startsOf ps) s) (length ps) 0 ≡ length (flatten ps) = getD-overlay (startsOf ps) s (length ps) 0 (omega (arith, n)) ∙ total ps in
+    let size : 2 * length (flatten ps) ≡ length (cornersOf ps) = unfold cornersOf in sym (length-numbers (flatten ps)) in
+    ap₂ tableParts (ap (λ m. take m (overlay (startsOf ps) s)) (sym n) ∙ take-overlay (startsOf ps) s)
+    (ap (λ m. take m (overlay (cornersOf ps) c)) (ap (λ m. 2 * m) last ∙ size) ∙ take-overlay (cornersOf ps) c)
+    ∙ parts-table ps
+  where
+    total : (ps : List (List Pt)) → getD (startsOf ps) (length ps) 0 ≡ length (flatten ps)
+    total ps = unfold startsOf in (start-last 0 ps ∙ omega arith)
+
+pub contours-left : (ps : List (List Pt)) (n f : ℕ) (s : List ℕ) (c : List ℤ) → n ≡ length ps → f ≡ 0 → firstContours n (written f (startsOf ps) s) (written f (cornersOf ps) c) ≡ ps
+contours-left ps n f s c e h =
+    ap (λ m. firstContours m (written f (startsOf ps) s) (written f (cornersOf ps) c)) e
+    ∙ ap₂ (firstContours (length ps)) (accepted-buffer f h (startsOf ps) s) (accepted-buffer f h (cornersOf ps) c) ∙ contours-back ps s c

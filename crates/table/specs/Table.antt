@@ -2,9 +2,9 @@
 -- bounds; parts to table and back. Assumes nothing.
 use mathlib.Core.Bool.{Bool, true, false, not, cond}
 use mathlib.Core.List.{List, [], _∷_, flatten}
-use Prim.Native.Nat.{ℕ, _+_, _-_, _/_, _%_}
+use Prim.Native.Nat.{ℕ, _+_, _*_, _-_, _/_, _%_}
 use lib.Dec.{eqb, ltb}
-use lib.ListN.{length}
+use lib.ListN.{length, take, getD}
 use lib.Seq.{slice}
 use lib.IntN.{ℤ}
 use lib.Signed.{leZ, ltZ}
@@ -48,6 +48,10 @@ partsOf (a ∷ b ∷ s) l = slice a b l ∷ partsOf (b ∷ s) l
 -- the parts of a table as it is lent
 unfoldable pub tableParts : List ℕ → List ℤ → List (List Pt)
 tableParts starts corners = partsOf starts (pointsOf corners)
+
+-- the first n contours of lent starts and corners, whatever stands behind them
+abbrev pub firstContours : ℕ → List ℕ → List ℤ → List (List Pt)
+firstContours n starts corners = tableParts (take (n + 1) starts) (take (2 * getD starts n 0) corners)
 
 -- ---- its rules and limits: fault 7, "a part table against its rules or limits"
 

@@ -5,5 +5,6 @@ pub mod Local
 pub mod Locals
 pub mod PartsBySize
 pub mod Reading
+pub mod Refusing
 pub mod RowsCall
 pub mod RowsOf

@@ -5,6 +5,7 @@ use Prim.Native.Nat.{ℕ}
 use lib.ListN.{length, getD, take}
 use lib.IntN.{ℤ, pos}
 use Rattle.plane.specs.Plane.{Pt}
+use Rattle.plane.specs.Machine.{point}
 use Rattle.mesh.specs.Mesh.{Triangle, Mesh}
 use Rattle.mesh.specs.Rows.{rowsMesh}
 use Rattle.triangles.specs.declared.IntTriangle.{IntTriangle}
@@ -14,15 +15,15 @@ unfoldable pub noStruct : IntTriangle
 noStruct = record { vertices = []; neighbors = [] }
 
 -- vertex i of a struct
-abbrev pub corner : IntTriangle → ℕ → ℕ → Pt
-corner t i j = record { x = getD (t .vertices) i (pos 0); y = getD (t .vertices) j (pos 0) }
+abbrev pub corner : IntTriangle → ℕ → Pt
+corner t i = point (getD (t .vertices) i (record { x = pos 0; y = pos 0 }))
 
--- the triangle that a struct is
+-- the triangle that a struct is: "each record with three points and three neighbours" (document 01, "Tables the desks exchange")
 unfoldable pub structTriangle : IntTriangle → Triangle
 structTriangle t = record {
-  v0 = corner t 0 1;
-  v1 = corner t 2 3;
-  v2 = corner t 4 5;
+  v0 = corner t 0;
+  v1 = corner t 1;
+  v2 = corner t 2;
   n0 = getD (t .neighbors) 0 0;
   n1 = getD (t .neighbors) 1 0;
   n2 = getD (t .neighbors) 2 0;

@@ -1,6 +1,6 @@
 // A mesh lent as a slice of triangle structs (geom/triangle.rs), read into the rows that the joining works over. A function with a slice of structs among
 // its parameters is proved by a walk of its MIR, by hand; so one reads a struct, and one for each size of work array reads all of them, by one proof
-// (proofs/RowsOf.antt). The sizes are three of joining's, so that a small mesh does not wait for the filling of a large array. Leans on convex_regions and table_words.
+// (proofs/RowsOf.antt). The sizes are three of joining's, so that a small mesh does not wait for the filling of a large array. Leans on convex_regions, plane and table_words.
 ghost use mathlib.Core.Path.{_≡_};
 ghost use Prim.Native.Nat.{_<_, _≤_};
 ghost use lib.ListN.{length, getD};
@@ -10,11 +10,12 @@ ghost use Rattle.convex_regions.specs.Parts.{tiny, small};
 ghost use Rattle.triangles.specs.Triangles.{noStruct, structTriangle, AreRead};
 use convex_regions::SMALL;
 use convex_regions::TINY;
+use plane::IntPoint;
 
-// A triangle: x and y of its three points, and the three neighbours across from them. None is 4,294,967,295.
+// A triangle: its three points, and the three neighbours across from them. None is 4,294,967,295.
 #[repr(C)]
 pub struct IntTriangle {
-    pub vertices: [i32; 6],
+    pub vertices: [IntPoint; 3],
     pub neighbors: [u32; 3],
 }
 
@@ -22,13 +23,16 @@ pub struct IntTriangle {
 pub fn row_of(t: IntTriangle) -> [i32; 9]
     ensures { λ r. ⌜ rowTriangle r ≡ structTriangle t ⌝ }
 {
+    let a = t.vertices[0];
+    let b = t.vertices[1];
+    let c = t.vertices[2];
     [
-        t.vertices[0],
-        t.vertices[1],
-        t.vertices[2],
-        t.vertices[3],
-        t.vertices[4],
-        t.vertices[5],
+        a.x,
+        a.y,
+        b.x,
+        b.y,
+        c.x,
+        c.y,
         table_words::signed_word(t.neighbors[0]),
         table_words::signed_word(t.neighbors[1]),
         table_words::signed_word(t.neighbors[2]),

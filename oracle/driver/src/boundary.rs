@@ -365,8 +365,8 @@ pub fn to_convex_polygons_with_max_vertices(
     }
 }
 
-/// The three over triangle structs: a row's nine numbers are a struct's six coordinates
-/// and three neighbours, at the same places.
+/// The three over triangle structs: a row's nine numbers are x and y of a struct's three
+/// points and its three neighbours, at the same places.
 pub fn structs_fault(mesh: Handed<Row>) -> u32 {
     unsafe { archive::mesh_fault(mesh.at, mesh.length) }
 }
@@ -384,7 +384,6 @@ pub fn structs_joined(mesh: Handed<Row>, starts: Handed<u32>, corners: Handed<i3
     }
 }
 
-/// It takes any number for a split, so that one which is none is refused here.
 pub fn structs_split(
     mesh: Handed<Row>,
     limit: u32,
@@ -392,13 +391,6 @@ pub fn structs_split(
     starts: Handed<u32>,
     corners: Handed<i32>,
 ) -> Counts {
-    if split > 2 {
-        return Counts {
-            fault: 13,
-            parts: 0,
-            corners: 0,
-        };
-    }
     unsafe {
         archive::split_triangles(
             mesh.at,

@@ -53,7 +53,8 @@ use Rattle.triangles.proofs.RowsCall.{Big, lent, Own}
 use Rattle.triangles.proofs.Locals.{Homes, env, allocated, gone, freed}
 use Rattle.triangles.proofs.Known.{known-in}
 use Rattle.triangles.proofs.BySize.{Known, lies, held}
-use Rattle.triangles.proofs.PartsBySize.{OwnStarts, OwnCorners, Tokens₂, refusedCounts, Refuse, OfSize, OfAll, of-size, of-all, rooms, Before, Frees, Callee, by-size}
+use Rattle.triangles.proofs.PartsBySize.{OwnStarts, OwnCorners, Tokens₂, OfSize, OfAll, of-size, of-all, rooms, Before, Frees, Callee, by-size}
+use Rattle.triangles.proofs.Refusing.{refusedCounts, Refuse}
 use Rattle.triangles_faults.proofs.Front.{too-many}
 use Rattle.triangles_join.proofs.join_tiny.Symbol.{name as #rest-tiny}
 use Rattle.triangles_join.proofs.join_tiny.Met as rest-tiny-thm
@@ -74,7 +75,7 @@ stayed = (stay-none-slice (0 ∷ []) tt (plain (λ _. T.the-row)) yes, (gave-sli
 abbrev Answers : Mesh → List ℕ → List ℤ → Counts → List ℕ → List ℤ → Type 0
 Answers m s c r s′ c′ = (r ≡ partsCounts m s c) × (s′ ≡ partsStarts m s c) × (c′ ≡ partsCorners m s c)
 
-refused : (ys : List IntTriangle) (s : List ℕ) (c : List ℤ) {r : Counts} → maxTriangles < length ys → r ≡ refusedCounts → Answers (trianglesMesh ys) s c r s c
+refused : (ys : List IntTriangle) (s : List ℕ) (c : List ℤ) {r : Counts} → maxTriangles < length ys → r ≡ refusedCounts 1 → Answers (trianglesMesh ys) s c r s c
 unfolding partsFault
 refused ys s c h e =
     let m = trianglesMesh ys in

@@ -57,7 +57,8 @@ use Rattle.triangles.proofs.RowsCall.{Big, lent, Own}
 use Rattle.triangles.proofs.Locals.{Homes, env, allocated, gone, freed}
 use Rattle.triangles.proofs.Known.{known-in}
 use Rattle.triangles.proofs.BySize.{Known, lies, held, holds}
-use Rattle.triangles.proofs.PartsBySize.{num, OwnStarts, OwnCorners, Tokens₂, refusedCounts, Refuse, OfSize, OfAll, of-size, of-all, rooms, Before, Frees, Callee, by-size}
+use Rattle.triangles.proofs.PartsBySize.{num, OwnStarts, OwnCorners, Tokens₂, OfSize, OfAll, of-size, of-all, rooms, Before, Frees, Callee, by-size}
+use Rattle.triangles.proofs.Refusing.{refusedCounts, Refuse}
 use Rattle.triangles_faults.proofs.Front.{too-many}
 use Rattle.triangles_split.proofs.split_tiny.Symbol.{name as #rest-tiny}
 use Rattle.triangles_split.proofs.split_tiny.Met as rest-tiny-thm
@@ -78,7 +79,7 @@ stayed = (stay-none-slice (0 ∷ []) tt (plain (λ _. T.the-row)) yes, (stay-non
 abbrev Answers : ConvexSplitStrategy → ℕ → Mesh → List ℕ → List ℤ → Counts → List ℕ → List ℤ → Type 0
 Answers how most m s c r s′ c′ = (r ≡ splitCounts how most m s c) × (s′ ≡ splitStarts how most m s c) × (c′ ≡ splitCorners how most m s c)
 
-refused : (how : ConvexSplitStrategy) (most : ℕ) (ys : List IntTriangle) (s : List ℕ) (c : List ℤ) {r : Counts} → maxTriangles < length ys → r ≡ refusedCounts → Answers how most (trianglesMesh ys) s c r s c
+refused : (how : ConvexSplitStrategy) (most : ℕ) (ys : List IntTriangle) (s : List ℕ) (c : List ℤ) {r : Counts} → maxTriangles < length ys → r ≡ refusedCounts 1 → Answers how most (trianglesMesh ys) s c r s c
 unfolding splitFault
 refused how most ys s c h e =
     let m = trianglesMesh ys in

@@ -1,0 +1,2 @@
+-- Splitting by a number.
+pub mod Numbered
