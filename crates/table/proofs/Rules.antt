@@ -296,3 +296,18 @@ limits-sound ps h =
 pub parts-table : (ps : List (List Pt)) → tableParts (startsOf ps) (cornersOf ps) ≡ ps
 unfolding tableParts cornersOf
 parts-table ps = rw points-numbers (parts-starts ps)
+
+-- no part has more corners than all have
+each-short : (k : ℕ) (ps : List (List Pt)) → length (flatten ps) ≤ k → All (λ p. length p ≤ k) ps
+unfolding flatten
+each-short k [] h = tt
+each-short k (p ∷ ps) h = let e = length-append p (flatten ps) in (omega (arith, e, h), each-short k ps (omega (arith, e, h)))
+
+-- any parts make a pair result's table
+pub parts-result : (ps : List (List Pt)) → resultBroken (startsOf ps) (cornersOf ps) ≡ false
+unfolding resultBroken startsBroken startsOf cornersOf
+parts-result ps =
+    let e : length (numbersOf (flatten ps)) ≡ 2 * length (flatten ps) = length-numbers (flatten ps) in
+    let half : length (numbersOf (flatten ps)) / 2 ≡ length (flatten ps) = omega arith in
+    let r = startsFrom-steps (length (flatten ps)) (length (flatten ps)) 0 ps (omega arith) (each-short (length (flatten ps)) ps (omega arith)) in
+    rw (eq-eqb (length (numbersOf (flatten ps)) % 2) 0 (omega arith), half, r .1) (r .2)

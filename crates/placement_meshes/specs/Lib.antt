@@ -1,0 +1,2 @@
+-- What `placement` tells of two meshes.
+pub mod Rightly
