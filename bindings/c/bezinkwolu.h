@@ -192,6 +192,32 @@ bezinkwolu_told_pairs bezinkwolu_difference_parts(
     uint32_t *starts, size_t starts_room,
     int32_t *corners, size_t corners_room);
 
+/* Where a place lies by the contours of a pair result. */
+enum bezinkwolu_contact {
+    BEZINKWOLU_APART = 0,      /* inside none of them */
+    BEZINKWOLU_TOUCHING = 1,   /* inside one, on its rim, and strictly inside none */
+    BEZINKWOLU_OVERLAPPING = 2 /* strictly inside one */
+};
+
+/* A fault, and one of enum bezinkwolu_contact, 0 where it refused: look at the fault first. */
+typedef struct bezinkwolu_told_placement {
+    uint32_t fault;
+    uint32_t placement;
+} bezinkwolu_told_placement;
+
+/* Where the place (x, y) lies by the contours of a pair result: starts and corners as the two calls above leave them, contours + 1 starts and 2 * corners numbers, not
+ * the room that was lent. The limits of a part table do not bind. Contours are taken to run counter-clockwise, as pair results do.
+ * Strictly inside a contour: left of each of its edges, so nowhere if a corner stands twice in a row. Inside: on or left of each edge, and not past all corners to one
+ * side. An empty contour covers nothing. Each contour is asked alone: a place on an edge that two of them share is strictly inside neither.
+ * Of the differences (difference_parts, left less right) of two accepted meshes' parts, split or not: 2 exactly where the right mesh, moved by (x, y), overlaps the left
+ * one, 1 exactly where they meet and do not overlap, 0 where they are apart (tested, not proved).
+ * Refuses: 7 for starts that do not begin with 0, that fall, or that do not end with how many corners there are, and for an odd corners_length; 2 (of x, y or any
+ * corner). Writes nothing. */
+bezinkwolu_told_placement bezinkwolu_placement(
+    const uint32_t *starts, size_t starts_length,
+    const int32_t *corners, size_t corners_length,
+    int32_t x, int32_t y);
+
 /* ---- walks, and one pair a corner at a time. A contour is given by its numbers, two a corner. None of these writes anything. */
 
 /* Where a walk stands. It is a value that the caller keeps, or makes up: each call judges it. */

@@ -22,6 +22,7 @@ static void check(bool holds, const char *fact, int line)
 _Static_assert(sizeof(bezinkwolu_triangle) == 36, "nine numbers");
 _Static_assert(sizeof(bezinkwolu_counts) == 12, "three numbers");
 _Static_assert(sizeof(bezinkwolu_told_pairs) == 28, "seven numbers");
+_Static_assert(sizeof(bezinkwolu_told_placement) == 8, "two numbers");
 _Static_assert(sizeof(bezinkwolu_place) == 12, "two numbers, three bools, two numbers");
 _Static_assert(sizeof(bezinkwolu_told_next) == 40, "four numbers and two places");
 
@@ -325,6 +326,108 @@ static void all_pairs(void)
     CHECK(kept(5, 18, 0));
 }
 
+/* ---- places */
+
+static bool placed(bezinkwolu_told_placement p, uint32_t fault, uint32_t placement)
+{
+    return p.fault == fault && p.placement == placement;
+}
+
+/* Where x, y lies by so many starts and numbers, lent from between places that are not. Nothing changes. */
+static bezinkwolu_told_placement lent_placement(const uint32_t *s, size_t starts_length, const int32_t *c, size_t corners_length, int32_t x, int32_t y)
+{
+    marked();
+    memcpy(starts, s, starts_length * sizeof *s);
+    memcpy(corners, c, corners_length * sizeof *c);
+    bezinkwolu_told_placement p = bezinkwolu_placement(starts, starts_length, corners, corners_length, x, y);
+    CHECK(kept(starts_length, corners_length, 0));
+    CHECK(memcmp(starts, s, starts_length * sizeof *s) == 0 && memcmp(corners, c, corners_length * sizeof *c) == 0);
+    return p;
+}
+
+static const uint32_t four[] = {0, 4};
+static const int32_t around[] = {-4, -4, 4, -4, 4, 4, -4, 4};
+
+static void refused_places(void)
+{
+    static const uint32_t late[] = {1, 4}, low[] = {0, 5, 4}, early[] = {0, 3}, past[] = {0, 5};
+    static const int32_t beyond[] = {-4, -4, 4, -4, 4, FAR + 1, -4, 4}, below[] = {-FAR - 1, -4, 4, -4, 4, 4, -4, 4};
+    static const int32_t outside[] = {FAR + 1, -FAR - 1, INT32_MAX, INT32_MIN};
+    CHECK(placed(lent_placement(four, 0, around, 0, 0, 0), BEZINKWOLU_FAULT_RULES, 0));
+    CHECK(placed(lent_placement(four, 0, around, 8, 0, 0), BEZINKWOLU_FAULT_RULES, 0));
+    CHECK(placed(lent_placement(late, 2, around, 8, 0, 0), BEZINKWOLU_FAULT_RULES, 0));
+    CHECK(placed(lent_placement(low, 3, around, 8, 0, 0), BEZINKWOLU_FAULT_RULES, 0));
+    CHECK(placed(lent_placement(early, 2, around, 8, 0, 0), BEZINKWOLU_FAULT_RULES, 0));
+    CHECK(placed(lent_placement(past, 2, around, 8, 0, 0), BEZINKWOLU_FAULT_RULES, 0));
+    CHECK(placed(lent_placement(four, 2, around, 7, 0, 0), BEZINKWOLU_FAULT_RULES, 0));
+    CHECK(placed(lent_placement(no_parts, 1, around, 8, 0, 0), BEZINKWOLU_FAULT_RULES, 0));
+    /* the rules first */
+    CHECK(placed(lent_placement(early, 2, beyond, 8, FAR + 1, 0), BEZINKWOLU_FAULT_RULES, 0));
+    CHECK(placed(lent_placement(four, 2, beyond, 8, 0, 0), BEZINKWOLU_FAULT_RANGE, 0));
+    CHECK(placed(lent_placement(four, 2, below, 8, 0, 0), BEZINKWOLU_FAULT_RANGE, 0));
+    for (size_t i = 0; i < LENGTH(outside); i++) {
+        CHECK(placed(lent_placement(four, 2, around, 8, outside[i], 0), BEZINKWOLU_FAULT_RANGE, 0));
+        CHECK(placed(lent_placement(four, 2, around, 8, 0, outside[i]), BEZINKWOLU_FAULT_RANGE, 0));
+        CHECK(placed(lent_placement(no_parts, 1, around, 0, outside[i], 0), BEZINKWOLU_FAULT_RANGE, 0));
+    }
+}
+
+/* Two squares: a difference, asked where it was written. */
+static void placed_squares(void)
+{
+    static const int32_t corners_of[] = {0, 0, 4, 0, 4, 4, 0, 4};
+    static const struct { int32_t x, y; uint32_t placement; } asked[] = {
+        {0, 0, BEZINKWOLU_OVERLAPPING}, {3, 3, BEZINKWOLU_OVERLAPPING}, {-3, 0, BEZINKWOLU_OVERLAPPING},
+        {4, 1, BEZINKWOLU_TOUCHING}, {0, -4, BEZINKWOLU_TOUCHING}, {4, 4, BEZINKWOLU_TOUCHING}, {-4, 4, BEZINKWOLU_TOUCHING},
+        {5, 0, BEZINKWOLU_APART}, {4, 5, BEZINKWOLU_APART}, {FAR, FAR, BEZINKWOLU_APART}, {-FAR, 0, BEZINKWOLU_APART},
+    };
+    operand o = {four, 2, corners_of, 8, {0, 4, 0, 4}};
+    marked();
+    bezinkwolu_told_pairs p = pairs(true, o, o, 2, 16);
+    CHECK(p.fault == 0 && p.contours == 1 && p.corners == 4);
+    for (size_t i = 0; i < LENGTH(asked); i++)
+        CHECK(placed(bezinkwolu_placement(starts, p.contours + 1, corners, 2 * p.corners, asked[i].x, asked[i].y), 0, asked[i].placement));
+    CHECK(kept(2, 8, 0) && starts[0] == 0 && starts[1] == 4 && memcmp(corners, around, sizeof around) == 0);
+}
+
+/* Contours without an inside, several of them, and more than a part table may have. */
+static void placed_by_contours(void)
+{
+    static const uint32_t two[] = {0, 2}, none[] = {0, 0}, among[] = {0, 0, 4, 4}, both[] = {0, 4, 8}, three[] = {0, 4, 8, 12};
+    static const uint32_t five[] = {0, 5};
+    static const int32_t segment[] = {0, 0, 4, 2}, twice[] = {-4, -4, 4, -4, 4, 4, 4, 4, -4, 4};
+    static const int32_t beside[] = {0, 0, 4, 0, 4, 4, 0, 4, 4, 0, 8, 0, 8, 4, 4, 4, 3, 1, 5, 1, 5, 3, 3, 3};
+    static uint32_t many_starts[3001];
+    static int32_t long_one[2 * 3000];
+    CHECK(placed(lent_placement(two, 2, segment, 4, 2, 1), 0, BEZINKWOLU_TOUCHING));
+    CHECK(placed(lent_placement(two, 2, segment, 4, 4, 2), 0, BEZINKWOLU_TOUCHING));
+    CHECK(placed(lent_placement(two, 2, segment, 4, 6, 3), 0, BEZINKWOLU_APART));
+    CHECK(placed(lent_placement(two, 2, segment, 4, -2, -1), 0, BEZINKWOLU_APART));
+    CHECK(placed(lent_placement(two, 2, segment, 4, 2, 2), 0, BEZINKWOLU_APART));
+    CHECK(placed(lent_placement(none, 2, around, 0, 0, 0), 0, BEZINKWOLU_APART));
+    CHECK(placed(lent_placement(among, 4, around, 8, 0, 0), 0, BEZINKWOLU_OVERLAPPING));
+    CHECK(placed(lent_placement(among, 4, around, 8, 4, 0), 0, BEZINKWOLU_TOUCHING));
+    CHECK(placed(lent_placement(no_parts, 1, around, 0, 0, 0), 0, BEZINKWOLU_APART));
+    CHECK(placed(lent_placement(no_parts, 1, around, 0, -FAR, FAR), 0, BEZINKWOLU_APART));
+    /* a corner that stands twice in a row leaves no strict inside */
+    CHECK(placed(lent_placement(five, 2, twice, 10, 0, 0), 0, BEZINKWOLU_TOUCHING));
+    /* on the rim of two, and strictly inside a third */
+    CHECK(placed(lent_placement(both, 3, beside, 16, 4, 2), 0, BEZINKWOLU_TOUCHING));
+    CHECK(placed(lent_placement(three, 4, beside, 24, 4, 2), 0, BEZINKWOLU_OVERLAPPING));
+    for (size_t i = 0; i < 3000; i++)
+        many_starts[i + 1] = (uint32_t)i + 1;
+    CHECK(placed(lent_placement(many_starts, 3001, long_one, 6000, 0, 0), 0, BEZINKWOLU_TOUCHING));
+    CHECK(placed(lent_placement((const uint32_t[]){0, 3000}, 2, long_one, 6000, 0, 0), 0, BEZINKWOLU_TOUCHING));
+    CHECK(placed(lent_placement((const uint32_t[]){0, 3000}, 2, long_one, 6000, 1, 0), 0, BEZINKWOLU_APART));
+}
+
+static void placing(void)
+{
+    refused_places();
+    placed_squares();
+    placed_by_contours();
+}
+
 /* ---- walks */
 
 static void walks(void)
@@ -431,6 +534,7 @@ int main(void)
     tables();
     showing();
     all_pairs();
+    placing();
     walks();
     stepping();
     listing();

@@ -37,6 +37,12 @@ pub(crate) struct ToldPart {
 }
 
 #[repr(C)]
+pub(crate) struct ToldPlacement {
+    pub(crate) fault: u32,
+    pub(crate) placement: u32,
+}
+
+#[repr(C)]
 #[derive(Debug, Clone, Copy)]
 pub(crate) struct Place {
     index: u16,
@@ -118,6 +124,7 @@ extern "C" {
     fn bezinkwolu_show_part(left_starts: *const u32, left_starts_length: usize, left_corners: *const i32, left_corners_length: usize, right_starts: *const u32, right_starts_length: usize, right_corners: *const i32, right_corners_length: usize, right: bool, k: u32) -> ToldPart;
     fn bezinkwolu_sum_parts(left_starts: *const u32, left_starts_length: usize, left_corners: *const i32, left_corners_length: usize, left_bounds: IntRect, right_starts: *const u32, right_starts_length: usize, right_corners: *const i32, right_corners_length: usize, right_bounds: IntRect, starts: *mut u32, starts_room: usize, corners: *mut i32, corners_room: usize) -> ToldPairs;
     fn bezinkwolu_difference_parts(left_starts: *const u32, left_starts_length: usize, left_corners: *const i32, left_corners_length: usize, left_bounds: IntRect, right_starts: *const u32, right_starts_length: usize, right_corners: *const i32, right_corners_length: usize, right_bounds: IntRect, starts: *mut u32, starts_room: usize, corners: *mut i32, corners_room: usize) -> ToldPairs;
+    fn bezinkwolu_placement(starts: *const u32, starts_length: usize, corners: *const i32, corners_length: usize, x: i32, y: i32) -> ToldPlacement;
     fn bezinkwolu_walk_begin(contour: *const i32, length: usize, reflected: bool) -> ToldPlace;
     fn bezinkwolu_walk_point(contour: *const i32, length: usize, at: Place) -> ToldPoint;
     fn bezinkwolu_walk_next(contour: *const i32, length: usize, at: Place) -> ToldStep;
@@ -301,6 +308,12 @@ pub(crate) fn show_part(left: &PartTable, right: &PartTable, of_right: bool, k: 
             k,
         )
     }
+}
+
+pub(crate) fn placement(contours: &PartTable, x: i32, y: i32) -> ToldPlacement {
+    let (starts, corners) = contours.lists();
+    // SAFETY: as above.
+    unsafe { bezinkwolu_placement(starts.as_ptr(), starts.len(), corners.as_ptr(), corners.len(), x, y) }
 }
 
 pub(crate) fn walk_begin(contour: &[i32], reflected: bool) -> ToldPlace {

@@ -62,7 +62,7 @@ mod walk;
 
 pub use error::Error;
 pub use mesh::{ConvexSplitStrategy, IntDelaunay, IntTriangle, NIL_INDEX};
-pub use minkowski::{difference_parts, sum_parts, PairTable};
+pub use minkowski::{difference_parts, sum_parts, PairTable, Placement};
 pub use point::{IntPoint, IntRect, IntVector};
 pub use table::{show_part, Contour, Contours, Corners, PartTable, Side};
 pub use walk::{ConvexSum, Walk};

@@ -2,6 +2,33 @@
 
 use crate::{ffi, Contour, Contours, Error, IntRect, PartTable};
 
+/// Where a place lies by the contours of a [`PairTable`].
+///
+/// ```
+/// use bezinkwolu::Placement;
+/// assert_ne!(Placement::Touching, Placement::Overlapping);
+/// ```
+#[derive(Debug, Clone, Copy, PartialEq, Eq, Hash)]
+pub enum Placement {
+    /// Inside none of them.
+    Apart,
+    /// Inside one, on its rim, and strictly inside none.
+    Touching,
+    /// Strictly inside one.
+    Overlapping,
+}
+
+impl Placement {
+    /// That of the number that the archive tells: 0, 1 or 2.
+    fn told(number: u32) -> Self {
+        match number {
+            0 => Self::Apart,
+            1 => Self::Touching,
+            _ => Self::Overlapping,
+        }
+    }
+}
+
 /// The contours of all pairs of two operands, and the bounds of the result.
 ///
 /// ```
@@ -76,6 +103,31 @@ impl PairTable {
     /// ```
     pub fn bbox(&self) -> IntRect {
         self.bbox
+    }
+
+    /// Where the place (x, y) lies by these contours. Strictly inside one is left of each of its edges; inside is on or left of each, and not past all corners to one side;
+    /// an empty contour covers nothing. Each is asked alone: a place on an edge that two of them share is strictly inside neither.
+    ///
+    /// Of the differences of two meshes' parts, split or not, this is how the meshes lie: the right one, moved by (x, y), overlaps the left one, touches it, or is
+    /// apart from it (tested, not proved).
+    ///
+    /// ```
+    /// use bezinkwolu::{difference_parts, Error, IntRect, PartTable, Placement};
+    /// let square: PartTable = [[(0, 0), (4, 0), (4, 4), (0, 4)]].into_iter().collect();
+    /// let bbox = IntRect::new(0, 4, 0, 4);
+    /// let pairs = difference_parts(&square, bbox, &square, bbox)?;
+    /// assert_eq!(pairs.placement(3, 3)?, Placement::Overlapping);
+    /// assert_eq!(pairs.placement(4, 1)?, Placement::Touching);
+    /// assert_eq!(pairs.placement(5, 0)?, Placement::Apart);
+    /// # Ok::<(), Error>(())
+    /// ```
+    ///
+    /// # Errors
+    /// 2 where x or y is not strictly between −2^30 and 2^30.
+    pub fn placement(&self, x: i32, y: i32) -> Result<Placement, Error> {
+        let told = ffi::placement(&self.contours, x, y);
+        Error::told(told.fault)?;
+        Ok(Placement::told(told.placement))
     }
 }
 
