@@ -48,65 +48,64 @@ module _ (b : List ℕ) (n : ℕ) where
   past-rest : (l : List ℕ) → l ++ drop (length b - n) (drop n b) ≡ l
   past-rest l = ap (λ r. l ++ r) (drop-of-length-le (drop n b) {i = length b - n} (omega (arith, length-drop n b))) ∙ append-nil l
 
-module _ (pieces : List (List ℕ)) (from : ℕ) (old : List ℕ) where
-  pub putting-none : Putting pieces from from 0 old old
+pub putting-none : (pieces : List (List ℕ)) (from : ℕ) (old : List ℕ) → Putting pieces from from 0 old old
+unfolding flatten
+putting-none pieces from old =
+    let z : length old ≡ length old - 0 = omega arith in
+    record { done = []; whole = ap (λ room. taking room (drop from pieces)) z; next = omega arith; count = refl; inside = omega arith; bytes = sym (overlay-nil old) }
+
+module _ {pieces : List (List ℕ)} {from k size : ℕ} {old buf : List ℕ} (p : Putting pieces from k size old buf) where
+  pub putting-length : length buf ≡ length old
+  putting-length = ap length (p .bytes) ∙ length-overlay (flatten (p .done)) old (omega (arith, p .count, p .inside))
+
+  -- as many bytes as were put stand in what was left, which keeps its length
+  pub putting-inside : {x part : List ℕ} {n : ℕ} → PutText x 0 (rest buf size) part n → length part ≡ length (rest buf size) → size + n ≤ length old
+  putting-inside q e = omega (arith, put-inside q, e, rest-length buf size, putting-length, p .inside)
+
+  -- piece k is put into what is left
+  pub putting-turn : {part : List ℕ} {n : ℕ} → k < length pieces → lineRoom ≤ length buf - size → PutText (getD pieces k []) 0 (rest buf size) part n → length part ≡ length (rest buf size) → Putting pieces from (k + 1) (size + n) old (take size buf ++ (part ++ drop (length buf - size) (drop size buf)))
   unfolding flatten
-  putting-none =
-      let z : length old ≡ length old - 0 = omega arith in
-      record { done = []; whole = ap (λ room. taking room (drop from pieces)) z; next = omega arith; count = refl; inside = omega arith; bytes = sym (overlay-nil old) }
-
-  module _ {k size : ℕ} {buf : List ℕ} (p : Putting pieces from k size old buf) where
-    pub putting-length : length buf ≡ length old
-    putting-length = ap length (p .bytes) ∙ length-overlay (flatten (p .done)) old (omega (arith, p .count, p .inside))
-
-    -- as many bytes as were put stand in what was left, which keeps its length
-    pub putting-inside : {x part : List ℕ} {n : ℕ} → PutText x 0 (rest buf size) part n → length part ≡ length (rest buf size) → size + n ≤ length old
-    putting-inside q e = omega (arith, put-inside q, e, rest-length buf size, putting-length, p .inside)
-
-    -- piece k is put into what is left
-    pub putting-turn : {part : List ℕ} {n : ℕ} → k < length pieces → lineRoom ≤ length buf - size → PutText (getD pieces k []) 0 (rest buf size) part n → length part ≡ length (rest buf size) → Putting pieces from (k + 1) (size + n) old (take size buf ++ (part ++ drop (length buf - size) (drop size buf)))
-    unfolding flatten
-    putting-turn {part} {n} h room q e =
-        let x = getD pieces k [] in
-        let w = put-whole q in
-        let joined : flatten (p .done ++ (x ∷ [])) ≡ flatten (p .done) ++ x = flatten-append (p .done) (x ∷ []) ∙ ap (λ l. flatten (p .done) ++ l) (append-nil x) in
-        let left : length old - size - length x ≡ length old - (size + n) = omega (arith, w .0) in
-        record {
-          done = p .done ++ (x ∷ []);
-          whole =
-              p .whole
-              ∙ ap (λ l. p .done ++ l)
-              (ap (taking (length old - size)) (drop-cons pieces k [] h) ∙ taking-turn (length old - size) x (drop (suc k) pieces) (omega (arith, putting-length))
-              ∙ ap₂ (λ m j. x ∷ taking m (drop j pieces)) left (sym (add-one k)))
-              ∙ sym (append-assoc (p .done) (x ∷ []) (taking (length old - (size + n)) (drop (k + 1) pieces)));
-          next = omega (arith, p .next, length-append (p .done) (x ∷ []));
-          count = omega (arith, p .count, w .0, ap length joined, length-append (flatten (p .done)) x);
-          inside = putting-inside q e;
-          bytes =
-              ap (λ l. take size buf ++ l) (past-rest buf size part ∙ w .1 ∙ ap (overlay x) (rest-whole buf size)) ∙ ap₂ (λ m b. take m b ++ overlay x (drop m b)) (p .count) (p .bytes)
-              ∙ overlay-grow (flatten (p .done)) x old ∙ ap (λ t. overlay t old) (sym joined);
-        }
-
-    -- what is put is what a call puts
-    module _ (e : taking (length old - size) (drop k pieces) ≡ []) where
-      handed-is : taking (length old) (drop from pieces) ≡ p .done
-      handed-is = p .whole ∙ ap (λ l. p .done ++ l) e ∙ append-nil (p .done)
-
-      handed : {m : Bool} → m ≡ ltb k (length pieces) → Handed pieces from old buf (record { size = size; next = k; more = m })
-      handed m = record {
-        size = p .count ∙ ap (λ l. length (flatten l)) (sym handed-is);
-        next = p .next ∙ ap (λ l. from + length l) (sym handed-is);
-        more = m;
-        bytes = p .bytes ∙ ap (λ l. overlay (flatten l) old) (sym handed-is);
-        fits = omega (arith, p .inside, putting-length);
+  putting-turn {part} {n} h room q e =
+      let x = getD pieces k [] in
+      let w = put-whole q in
+      let joined : flatten (p .done ++ (x ∷ [])) ≡ flatten (p .done) ++ x = flatten-append (p .done) (x ∷ []) ∙ ap (λ l. flatten (p .done) ++ l) (append-nil x) in
+      let left : length old - size - length x ≡ length old - (size + n) = omega (arith, w .0) in
+      record {
+        done = p .done ++ (x ∷ []);
+        whole =
+            p .whole
+            ∙ ap (λ l. p .done ++ l)
+            (ap (taking (length old - size)) (drop-cons pieces k [] h) ∙ taking-turn (length old - size) x (drop (suc k) pieces) (omega (arith, putting-length))
+            ∙ ap₂ (λ m j. x ∷ taking m (drop j pieces)) left (sym (add-one k)))
+            ∙ sym (append-assoc (p .done) (x ∷ []) (taking (length old - (size + n)) (drop (k + 1) pieces)));
+        next = omega (arith, p .next, length-append (p .done) (x ∷ []));
+        count = omega (arith, p .count, w .0, ap length joined, length-append (flatten (p .done)) x);
+        inside = putting-inside q e;
+        bytes =
+            ap (λ l. take size buf ++ l) (past-rest buf size part ∙ w .1 ∙ ap (overlay x) (rest-whole buf size)) ∙ ap₂ (λ m b. take m b ++ overlay x (drop m b)) (p .count) (p .bytes)
+            ∙ overlay-grow (flatten (p .done)) x old ∙ ap (λ t. overlay t old) (sym joined);
       }
 
-    pub handed-full : k < length pieces → length old - size < lineRoom → Handed pieces from old buf (record { size = size; next = k; more = true })
-    handed-full h room = handed (taking-full (length old - size) (drop k pieces) room) (sym (lt-ltb k (length pieces) h))
+  -- what is put is what a call puts
+  module _ (e : taking (length old - size) (drop k pieces) ≡ []) where
+    handed-is : taking (length old) (drop from pieces) ≡ p .done
+    handed-is = p .whole ∙ ap (λ l. p .done ++ l) e ∙ append-nil (p .done)
 
-    pub handed-all : length pieces ≤ k → Handed pieces from old buf (record { size = size; next = k; more = false })
-    unfolding taking
-    handed-all h = handed (ap (taking (length old - size)) (drop-of-length-le pieces h)) (sym (le-ltb k (length pieces) h))
+    handed : {m : Bool} → m ≡ ltb k (length pieces) → Handed pieces from old buf (record { size = size; next = k; more = m })
+    handed m = record {
+      size = p .count ∙ ap (λ l. length (flatten l)) (sym handed-is);
+      next = p .next ∙ ap (λ l. from + length l) (sym handed-is);
+      more = m;
+      bytes = p .bytes ∙ ap (λ l. overlay (flatten l) old) (sym handed-is);
+      fits = omega (arith, p .inside, putting-length);
+    }
+
+  pub handed-full : k < length pieces → length old - size < lineRoom → Handed pieces from old buf (record { size = size; next = k; more = true })
+  handed-full h room = handed (taking-full (length old - size) (drop k pieces) room) (sym (lt-ltb k (length pieces) h))
+
+  pub handed-all : length pieces ≤ k → Handed pieces from old buf (record { size = size; next = k; more = false })
+  unfolding taking
+  handed-all h = handed (ap (taking (length old - size)) (drop-of-length-le pieces h)) (sym (le-ltb k (length pieces) h))
 
 -- of a job's pieces, and as many bytes as are lent to a call
 pub handed-chunk :

@@ -1,8 +1,8 @@
 -- Of what a job answered before its lines, with the walks of both operands: it can be put (`started`), and its pieces are the job's (`pieces-in`). Assumes nothing.
 use mathlib.Core.Path.{_≡_, refl, sym, _∙_, ap, ap₂, subst}
-use mathlib.Core.Bool.{Bool, false, cond}
+use mathlib.Core.Bool.{Bool}
 use mathlib.Core.List.{List, [], _∷_, map, flatten}
-use Prim.Native.Nat.{ℕ, _+_, _*_, _/_, _%_, _<_, _^_}
+use Prim.Native.Nat.{ℕ, _*_, _/_, _%_}
 use native.Mathlib.Omega.{arith}
 use borrow.Author.Tests.{eqb-true, eqb-false, eq-eqb, ne-eqb}
 use lib.Dec.{eqb}
@@ -11,20 +11,16 @@ use lib.IntN.{ℤ}
 use Rattle.integers.specs.Faults.{firstFault}
 use Rattle.integers.specs.Lists.{upTo}
 use Rattle.integers.proofs.Order.{by-test}
-use Rattle.plane.specs.Plane.{Pt}
 use Rattle.table.specs.Table.{partCount}
 use Rattle.table.proofs.Rules.{count-parts}
-use Rattle.text.specs.Text.{refusal}
 use Rattle.pair.specs.Pair.{pairContour}
-use Rattle.minkowski.specs.Pairs.{Operand, operandParts, pairContours, resultBounds, pairKinds}
-use Rattle.minkowski_rows.specs.Rows.{walksIn}
-use Rattle.minkowski_count.specs.Counting.{Countable, allCount}
+use Rattle.minkowski.specs.Pairs.{Operand, operandParts, resultBounds, pairKinds}
 use Rattle.minkowski_work.proofs.Faults.{Judged, operands-none, judged}
 use Rattle.minkowski_work.proofs.Counted.{pairs-count, few-contours}
 use Rattle.minkowski_work.proofs.Walked.{unrolleds, contours-in}
 use Rattle.pair_lines.specs.Lines.{pairsHead, pairLine}
 use Rattle.pair_lines.proofs.Pairs.{line-of-pair}
-use Rattle.pairs_job.specs.Job.{reflectedOf, leftOf, rightOf, jobFault, shapeFault, contoursOf}
+use Rattle.pairs_job.specs.Job.{reflectedOf, leftOf, rightOf, jobFault, shapeFault}
 use Rattle.pairs_job.proofs.Shape.{shape-told, shape-passed}
 use Rattle.pairs_work.specs.declared.Begun.{Begun}
 use Rattle.pairs_work.specs.Begun.{begunOf, Begins, refusedBegun}

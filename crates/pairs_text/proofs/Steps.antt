@@ -1,16 +1,15 @@
 -- What calls hand over: the front of what is left (`front-handed-over`), at least a piece where there is any (`some-handed-over`), and from 0 on to the end the whole
 -- text and nothing else (`all-handed-over`). Assumes nothing.
-use mathlib.Core.Path.{_≡_, refl, sym, _∙_, ap, subst}
+use mathlib.Core.Path.{_≡_, sym, _∙_, ap, subst}
 use mathlib.Core.Bool.{true, false}
-use mathlib.Core.List.{List, [], _∷_, _++_, flatten, append-nil}
-use Prim.Native.Nat.{ℕ, zero, suc, _+_, _-_, _<_, _≤_}
+use mathlib.Core.List.{List, [], _++_, flatten, append-nil}
+use Prim.Native.Nat.{ℕ, zero, suc, _+_, _-_, _≤_}
 use native.Mathlib.Omega.{arith}
 use borrow.Author.Tests.{ltb-true, ltb-false}
 use lib.ListN.{length, drop, length-drop, drop-of-length-le}
 use lib.Seq.{drop-drop}
 use Rattle.integers.proofs.Order.{by-test}
 use Rattle.integers.proofs.Sums.{flatten-append}
-use Rattle.pairs_job.specs.Job.{pairsText}
 use Rattle.pairs_text.specs.Pieces.{chunkRoom, piecesOf, textFrom, chunkOf, nextOf, moreOf}
 use Rattle.pairs_text.specs.HandedOver.{FrontHandedOver, SomeHandedOver, HandsOver, last, goes, AllHandedOver}
 use Rattle.pairs_text.proofs.Pieces.{in-pieces}
