@@ -43,7 +43,7 @@ textFrom bytes k = flatten (drop k (piecesOf bytes))
 
 -- ---- those that one call hands over
 
--- a piece is put as long as the room that is left is the longest line's
+-- pieces are put as long as what is left of the room is at least the longest line's
 unfoldable pub taking : ℕ → List (List ℕ) → List (List ℕ)
 taking room [] = []
 taking room (p ∷ ps) = cond (ltb room lineRoom) [] (p ∷ taking (room - length p) ps)

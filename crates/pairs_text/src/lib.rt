@@ -4,7 +4,7 @@
 // and text.
 ghost use mathlib.Core.Path.{_≡_};
 ghost use mathlib.Core.List.{[], flatten};
-ghost use Prim.Native.Nat.{_<_, _≤_};
+ghost use Prim.Native.Nat.{_≤_};
 ghost use lib.ListN.{length, getD};
 ghost use Rattle.io.specs.Counts.{Counts};
 ghost use Rattle.integers.specs.Lists.{overlay};
