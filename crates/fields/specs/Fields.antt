@@ -1,4 +1,4 @@
--- Lines and fields of a text, which is a list of bytes (issue 14: "one line a triangle (three points, three neighbours or `none`)").
+-- Lines and fields of a text, which is a list of bytes ("one line a triangle (three points, three neighbours or `none`)").
 -- Assumes nothing.
 use mathlib.Core.Bool.{Bool, true, false, not, cond}
 use mathlib.Core.List.{List, [], _∷_}

@@ -1,4 +1,4 @@
--- A mesh written by hand (issue 14: "a first line `limit 0 ear` and then one line a triangle (three points, three neighbours or `none`) .. with a refusal
+-- A mesh written by hand ("a first line `limit 0 ear` and then one line a triangle (three points, three neighbours or `none`) .. with a refusal
 -- that names the line where the text is wrong"). Assumes nothing.
 use mathlib.Core.Bool.{Bool, false, cond}
 use mathlib.Core.List.{List, [], _∷_, _++_, map, flatten}

@@ -1,16 +1,20 @@
 // A mesh written by hand turned into a mesh file: `to_mesh_file`, of any bytes. Its answer and the lent bytes as it returns equal `conversion` and
 // `bytesConverted` of specs/Conversion.antt: a text that is not as a mesh is written is refused by its first wrong line and changes nothing. The words
-// are gathered line by line and written once the whole text is judged. Leans on mesh_lines, fields, table_write and table_words.
+// are gathered line by line and written once the whole text is judged. `put_told` puts what is told of a refusal into lent bytes (specs/Told.antt). Leans on
+// mesh_lines, fields, table_write, table_words and text.
 ghost use mathlib.Core.Path.{_≡_};
 ghost use mathlib.Core.List.{_∷_};
 ghost use Prim.Native.Nat.{_+_, _*_, _-_, _≤_};
 ghost use lib.ListN.{length};
 ghost use Rattle.integers.specs.Lists.{overlay};
+ghost use Rattle.io.specs.Counts.{Counts};
 ghost use Rattle.table.specs.Stored.{wordBytes};
+ghost use Rattle.text.specs.Put.{PutText};
 ghost use Rattle.mesh_fields.specs.Put.{Put};
 ghost use Rattle.mesh_text.specs.Text.{maxWritten, maxTelling, fileRoom, fits, lineWords};
 ghost use Rattle.mesh_text.specs.Gathering.{gatherRoom, Taken, Gathered};
 ghost use Rattle.mesh_text.specs.Conversion.{maxText, conversion, bytesConverted};
+ghost use Rattle.mesh_text.specs.Told.{toldRoom, wrongTold, toldOf};
 use fields::Run;
 
 // The longest text that is read: the most triangles, written with no byte to spare, take less than half of it.
@@ -28,6 +32,9 @@ const RECORD: usize = 36;
 pub const FILE_ROOM: usize = HEADER + RECORD * MAX_WRITTEN;
 
 const GATHER_ROOM: usize = 9 * MAX_WRITTEN + 2;
+
+// The bytes of the longest that is told of a text; a line's number has at most 20 digits.
+pub const TOLD_ROOM: usize = 172;
 
 // What a text was turned into: a file of so many bytes; or what it was refused by: its first wrong line, counted from 1, or its length.
 pub enum Converted {
@@ -149,4 +156,31 @@ pub fn to_mesh_file(text: &[u8], out: &mut [u8; FILE_ROOM]) -> Converted
     let count = read.count - 1;
     let size = 9 * count + 2;
     Converted::Written(write_file(count, &words[..size], out))
+}
+
+// Which line is wrong, and what a line looks like.
+fn put_wrong(line: usize, out: &mut [u8]) -> usize
+    requires { ⌜ toldRoom ≤ length (now out) ⌝ }
+    ensures { λ r. ⌜ PutText (wrongTold line) 0 (now (out .entry)) (now (out .exit)) r ⌝ }
+{
+    let number = text::put_word_decimal(b"line ", line as u64, out, 0);
+    let words = text::put_bytes(b" is not as a mesh is written\n", out, number);
+    text::put_bytes(
+        b"the first line: limit N ear|fan|centroid; then a line a triangle: (x,y) (x,y) (x,y) N N N, with none for no neighbour\n",
+        out,
+        words,
+    )
+}
+
+// Puts what is told of a text on the front of the lent bytes and answers how many bytes it has, none where a file was written. The last clause says again,
+// in io's words, that they stand within the lent ones, for a caller that lends them on.
+pub fn put_told(told: Converted, out: &mut [u8; TOLD_ROOM]) -> usize
+    ensures text { λ r. ⌜ PutText (toldOf told) 0 (now (out .entry)) (now (out .exit)) r ⌝ }
+    ensures counted { λ r. ⌜ Counts r (now (out .exit)) ⌝ }
+{
+    match told {
+        Converted::Written(_length) => 0,
+        Converted::Wrong(line) => put_wrong(line, out),
+        Converted::TooLong => text::put_bytes(b"the text is longer than 262,144 bytes\n", out, 0),
+    }
 }

@@ -1,6 +1,6 @@
-// The lines that the pairs program prints (issue 13; specs/Lines.antt), put on the front of lent bytes: `put_head` the head line, `put_line` the line of one
-// pair of unrolled walks, merged into a work buffer. By the law `line-of-pair` it is the line of the pair's contour, and a buffer of 53,399 bytes holds any.
-// Leans on text and minkowski_count.
+// The lines that the pairs program prints (specs/Lines.antt), put on the front of lent bytes: `put_head` the head line, `put_line` the line of one pair of
+// unrolled walks, merged into a work buffer. By the law `line-of-pair` it is the line of the pair's contour, and a buffer of 53,399 bytes holds any. Leans on
+// text and minkowski_count.
 ghost use Prim.Native.Nat.{_+_, _≤_};
 ghost use lib.ListN.{length};
 ghost use Rattle.table.specs.Table.{pointsOf};

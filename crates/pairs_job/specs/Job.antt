@@ -1,5 +1,5 @@
--- A pair job (issue 13): "one u32 (0 sum, 1 difference); then for the left and then the right operand four i32 (least x, greatest x, least y, greatest y)
--- and a stored table", little-endian. Its operation, its operands, its faults, and what is printed of it. Assumes nothing.
+-- A pair job, which the pairs program reads: "one u32 (0 sum, 1 difference); then for the left and then the right operand four i32 (least x, greatest x, least
+-- y, greatest y) and a stored table", little-endian. Its operation, its operands, its faults, and what is printed of it. Assumes nothing.
 use mathlib.Core.Path.{_≡_}
 use mathlib.Core.Bool.{Bool, true, not, cond}
 use mathlib.Core.List.{List, [], _∷_, _++_, map, flatten}

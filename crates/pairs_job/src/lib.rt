@@ -1,6 +1,6 @@
-// A pair job's bytes (issue 13): an operation, and for either operand four bounds and a stored table. `shape_fault` tells what is wrong with their shape (13,
-// and 7 for their length and counts); of a job without such a fault `bounds_at` and `read_operand` read an operand, whose table begins at word LEFT or at word
-// `right_place`. What they answer are equations with specs/Job.antt. Leans on table_words and table.
+// A pair job's bytes, which the pairs program reads: an operation, and for either operand four bounds and a stored table. `shape_fault` tells what is wrong
+// with their shape (13, and 7 for their length and counts); of a job without such a fault `bounds_at` and `read_operand` read an operand, whose table begins at
+// word LEFT or at word `right_place`. What they answer are equations with specs/Job.antt. Leans on table_words and table.
 ghost use mathlib.Core.Path.{_≡_};
 ghost use mathlib.Core.Bool.{false};
 ghost use Prim.Native.Nat.{_+_, _*_, _<_, _≤_};

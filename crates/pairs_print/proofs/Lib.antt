@@ -1,4 +1,2 @@
--- Laws that belong to no one function: the text in pieces; what a job answered before its lines.
-pub mod Pieces
-pub mod Sizes
-pub mod Started
+-- How much a loop over steps still has before it.
+pub mod Left

@@ -1,15 +1,15 @@
--- What a pair job answers before its lines: its fault, or the numbers of its head line, with the walks of both operands in work buffers for any operand
--- (`Begins`). Assumes nothing.
+-- What a pair job answers before its lines: its fault, or how many parts its operands have and the result's bounds, with the walks of both operands in work
+-- buffers for any operand (`Begins`). Assumes nothing.
 use mathlib.Core.Path.{_≡_}
 use mathlib.Core.Bool.{Bool, false, cond}
-use mathlib.Core.List.{List, flatten}
+use mathlib.Core.List.{List}
 use Prim.Native.Nat.{ℕ, _+_, _*_}
 use lib.Dec.{eqb}
 use lib.ListN.{length}
 use lib.IntN.{ℤ}
 use Rattle.integers.specs.Faults.{firstFault}
 use Rattle.table.specs.Table.{partCount, maxParts, maxCorners}
-use Rattle.minkowski.specs.Pairs.{Operand, noBounds, resultBounds, pairContours, pairKinds}
+use Rattle.minkowski.specs.Pairs.{Operand, noBounds, resultBounds, pairKinds}
 use Rattle.minkowski_work.specs.Scratch.{Walked}
 use Rattle.pairs_job.specs.Job.{shapeFault}
 use Rattle.pairs_work.specs.declared.Begun.{Begun}
@@ -36,9 +36,9 @@ pub record PairsTold (reflected : Bool) (l r : Operand) (lp : List (List ℤ)) (
   pub right : f ≡ 0 → Walked reflected r rf rp
 
 abbrev pub refusedBegun : ℕ → Begun
-refusedBegun f = record { fault = f; left = 0; right = 0; corners = 0; bounds = noBounds }
+refusedBegun f = record { fault = f; left = 0; right = 0; bounds = noBounds }
 
--- how many parts each operand has, how many corners all pairs have, and the result's bounds; f is the fault number
+-- how many parts each operand has, and the result's bounds; f is the fault number
 unfoldable pub begunOf : Bool → Operand → Operand → ℕ → Begun
 begunOf reflected l r f =
     cond (eqb f 0)
@@ -46,7 +46,6 @@ begunOf reflected l r f =
       fault = 0;
       left = partCount (l .starts);
       right = partCount (r .starts);
-      corners = length (flatten (pairContours reflected l r));
       bounds = resultBounds reflected (l .bounds) (r .bounds);
     })
     (refusedBegun f)

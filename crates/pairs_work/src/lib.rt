@@ -1,6 +1,6 @@
-// A pair job before its lines: `begin_job` takes any bytes, tells the job's fault or the numbers of its head line, and leaves the walks of both operands in lent work
-// buffers, which pair_lines puts into lines (`Begins` of specs/Begun.antt, with pairs_job's `jobFault`, `leftOf` and `rightOf`). Corners are counted here, so that
-// the lines can be printed pair by pair and need no room for all. Leans on pairs_job, minkowski_faults, minkowski_work and minkowski_count.
+// A pair job before its lines: `begin_job` takes any bytes, tells the job's fault or how many parts its operands have and the result's bounds, and leaves the walks of
+// both operands in its caller's work buffers, which pair_lines puts into lines (`Begins` of specs/Begun.antt, with pairs_job's `jobFault`, `leftOf` and `rightOf`). Of a
+// job that is refused nothing is said of the buffers. Leans on pairs_job, minkowski_faults and minkowski_work.
 ghost use mathlib.Core.Path.{_≡_};
 ghost use Rattle.integers.specs.Faults.{firstFault};
 ghost use Rattle.minkowski.specs.Pairs.{pairKinds};
@@ -17,13 +17,11 @@ pub const POINTS: usize = table::MAX_CORNERS + table::MAX_PARTS;
 
 pub const FIRSTS: usize = table::MAX_PARTS + 1;
 
-// What a job answers before its lines: the fault number, 0 for none, how many parts each operand has, how many corners all pairs have, and the result's bounds; all
-// 0 where it is refused.
+// What a job answers before its lines: the fault number, 0 for none, how many parts each operand has, and the result's bounds; all 0 where it is refused.
 pub struct Begun {
     pub fault: u32,
     pub left: usize,
     pub right: usize,
-    pub corners: usize,
     pub bounds: IntRect,
 }
 
@@ -35,7 +33,6 @@ fn refused(fault: u32) -> Begun
         fault: fault,
         left: 0,
         right: 0,
-        corners: 0,
         bounds: IntRect {
             min_x: 0,
             max_x: 0,
@@ -123,20 +120,11 @@ fn begin_operands(
     }
     let left = left_starts.len() - 1;
     let right = right_starts.len() - 1;
-    let corners = minkowski_count::count_all(
-        left_firsts,
-        left_points,
-        left,
-        right_firsts,
-        right_points,
-        right,
-    );
     let bounds = minkowski_faults::result_bounds(left_bounds, right_bounds, reflected);
     Begun {
         fault: 0,
         left: left,
         right: right,
-        corners: corners,
         bounds: bounds,
     }
 }

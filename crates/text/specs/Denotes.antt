@@ -1,4 +1,4 @@
--- What the digits of a number denote (issue 14: "a law over `digits`, not only that its fuel suffices"). Proved in proofs/Denotes.antt. Assumes nothing.
+-- What the digits of a number denote ("a law over `digits`, not only that its fuel suffices"). Proved in proofs/Denotes.antt. Assumes nothing.
 use mathlib.Core.Path.{_≡_}
 use mathlib.Core.List.{List, [], _∷_}
 use Prim.Native.Nat.{ℕ, _+_, _-_, _*_, _^_, _≤_, _<_}

@@ -1,4 +1,4 @@
-//! A pair job (issue 13): one u32 (0 sum, 1 difference), then for the left and then
+//! A pair job: one u32 (0 sum, 1 difference), then for the left and then
 //! the right operand four i32 (least x, greatest x, least y, greatest y) and a stored
 //! table, little-endian; its faults, 13, 7, and then those of pairs; and the text of
 //! the pairs program.

@@ -21,26 +21,11 @@ slice-aggregate-to-mesh-file c = search needs
 to-mesh-file-requires : tie.Need-to-mesh-file-requires
 to-mesh-file-requires c κs = search needs
 
-enum-known-told : tie.Need-enum-known-told
-enum-known-told c = search needs
+put-told-requires : tie.Need-put-told-requires
+put-told-requires c κs = search needs
 
-array-share-prefix-file : tie.Need-array-share-prefix-file
-array-share-prefix-file c = written-within _ _ refl (c .before .before .before .to-mesh-file .ensures .0) (c .before .before .before .to-mesh-file .ensures .1) (c .before .told .given .1)
-
-slice-aggregate-write-output : tie.Need-slice-aggregate-write-output
-slice-aggregate-write-output c = sym (length-take-le _ _ (written-within _ _ refl (c .before .before .before .before .to-mesh-file .ensures .0) (c .before .before .before .before .to-mesh-file .ensures .1) (c .before .before .told .given .1)))
-
-write-output-requires : tie.Need-write-output-requires
-write-output-requires c κs = search needs
-
-enum-known-told-2 : tie.Need-enum-known-told-2
-enum-known-told-2 c = search needs
-
-tell-line-requires : tie.Need-tell-line-requires
-tell-line-requires c κs = search needs
-
-enum-told : tie.Need-enum-told
-enum-told c = search needs
+array-share-prefix-said : tie.Need-array-share-prefix-said
+array-share-prefix-said c = search needs
 
 slice-aggregate-write-all : tie.Need-slice-aggregate-write-all
 slice-aggregate-write-all c = search needs
@@ -48,14 +33,27 @@ slice-aggregate-write-all c = search needs
 write-all-requires : tie.Need-write-all-requires
 write-all-requires c κs = search needs
 
+enum-known-told : tie.Need-enum-known-told
+enum-known-told c = search needs
+
+array-share-prefix-file : tie.Need-array-share-prefix-file
+array-share-prefix-file c =
+    let f = c .before .before .before .before .before .before .before .to-mesh-file .ensures in
+    written-within _ _ refl (f .0) (f .1) (c .before .told .given .1)
+
+slice-aggregate-write-output : tie.Need-slice-aggregate-write-output
+slice-aggregate-write-output c =
+    let f = c .before .before .before .before .before .before .before .before .to-mesh-file .ensures in
+    sym (length-take-le _ _ (written-within _ _ refl (f .0) (f .1) (c .before .before .told .given .1)))
+
+write-output-requires : tie.Need-write-output-requires
+write-output-requires c κs = search needs
+
 returns : tie.Need-returns
 returns c = search needs
 
 returns-2 : tie.Need-returns-2
 returns-2 c = search needs
-
-returns-3 : tie.Need-returns-3
-returns-3 c = search needs
 
 pub main-spec : {M : Type 1} → statement M
 main-spec =
@@ -66,15 +64,13 @@ main-spec =
     array-share-prefix-text
     slice-aggregate-to-mesh-file
     to-mesh-file-requires
+    put-told-requires
+    array-share-prefix-said
+    slice-aggregate-write-all
+    write-all-requires
     enum-known-told
     array-share-prefix-file
     slice-aggregate-write-output
     write-output-requires
-    enum-known-told-2
-    tell-line-requires
-    enum-told
-    slice-aggregate-write-all
-    write-all-requires
     returns
-    returns-2
-    returns-3)
+    returns-2)

@@ -1,11 +1,11 @@
--- `pairs_work::begin_operands` meets its contract: a refusal, or the walks of both operands with their corners counted. Assumes nothing.
+-- `pairs_work::begin_operands` meets its contract: a refusal, or the walks of both operands. Assumes nothing.
 use mathlib.Core.Path.{sym, _∙_}
 use native.Mathlib.Omega.{arith}
 use borrow.Author.Needs.{needs}
 use Rattle.table.proofs.Rules.{sound}
 use Rattle.minkowski_faults.specs.Kinds.{operand}
 use Rattle.minkowski_work.proofs.Faults.{operands-none, judged}
-use Rattle.pairs_work.proofs.Answer.{begun-refused, begun-accepted, countable, counted}
+use Rattle.pairs_work.proofs.Answer.{begun-refused, begun-accepted}
 use Rattle.pairs_work.proofs.begin_operands.Statement.{statement}
 use Rattle.pairs_work.proofs.begin_operands.Tie as tie
 
@@ -65,26 +65,14 @@ sub-right c =
     let j = judged l r (operands-none (g .reflected) l r e) in
     omega (arith, sound (l .starts) (l .corners) (j .0 .sound) .some, sound (r .starts) (r .corners) (j .1 .sound) .some)
 
-count-all-requires : tie.Need-count-all-requires
-count-all-requires c κs =
-    let s = c .before .before .before .before .before .before .before .before .before .before .before .before .before .before .before .before .before .before .before .before in
-    let g = s .args in
-    let l = operand (g .left-starts .now) (g .left-corners .now) (g .left-bounds) in
-    let r = operand (g .right-starts .now) (g .right-corners .now) (g .right-bounds) in
-    let w = c .before .before .before .before .before .before .before .before .before .before .before .pairs-fault .ensures in
-    let n = c .before .before .before .before .if1 .left in
-    let e = sym (w .told) ∙ n in
-    let j = judged l r (operands-none (g .reflected) l r e) in
-    countable (g .reflected) l r (w .left n) (w .right n) (j .0) (j .1)
-
 result-bounds-requires : tie.Need-result-bounds-requires
 result-bounds-requires c κs =
-    let s = c .before .before .before .before .before .before .before .before .before .before .before .before .before .before .before .before .before .before .before .before .before in
+    let s = c .before .before .before .before .before .before .before .before .before .before .before .before .before .before .before .before in
     let g = s .args in
     let l = operand (g .left-starts .now) (g .left-corners .now) (g .left-bounds) in
     let r = operand (g .right-starts .now) (g .right-corners .now) (g .right-bounds) in
-    let w = c .before .before .before .before .before .before .before .before .before .before .before .before .pairs-fault .ensures in
-    let n = c .before .before .before .before .before .if1 .left in
+    let w = c .before .before .before .before .before .before .before .pairs-fault .ensures in
+    let n = c .if1 .left in
     let e = sym (w .told) ∙ n in
     let j = judged l r (operands-none (g .reflected) l r e) in
     (j .0 .bounded, j .1 .bounded)
@@ -103,15 +91,15 @@ same-length-8 c = search needs
 
 returns-2 : tie.Need-returns-2
 returns-2 c =
-    let s = c .before .before .before .before .before .before .before .before .before .before .before .before .before .before .before .before .before .before .before .before .before .before in
+    let s = c .before .before .before .before .before .before .before .before .before .before .before .before .before .before .before .before .before in
     let g = s .args in
     let l = operand (g .left-starts .now) (g .left-corners .now) (g .left-bounds) in
     let r = operand (g .right-starts .now) (g .right-corners .now) (g .right-bounds) in
-    let w = c .before .before .before .before .before .before .before .before .before .before .before .before .before .pairs-fault .ensures in
-    let n = c .before .before .before .before .before .before .if1 .left in
+    let w = c .before .before .before .before .before .before .before .before .pairs-fault .ensures in
+    let n = c .before .if1 .left in
     let e = sym (w .told) ∙ n in
     record {
-      answer = begun-accepted (g .reflected) l r e (counted (g .reflected) l r (w .left n) (w .right n) (c .before .count-all .ensures)) (c .result-bounds .ensures);
+      answer = begun-accepted (g .reflected) l r e (c .result-bounds .ensures);
       left = λ q. w .left n;
       right = λ q. w .right n;
     }
@@ -129,7 +117,6 @@ begin-operands-spec =
     returns
     sub-left
     sub-right
-    count-all-requires
     result-bounds-requires
     same-length-5
     same-length-6

@@ -1,10 +1,10 @@
--- A first line has at most 154 bytes, whatever its numbers (`head-any`), and a refusal at most 29 (`refusal-any`); what was put on the front of lent bytes
--- lies within them (`put-inside`, `put-front`). Assumes nothing.
-use mathlib.Core.Path.{_≡_, sym}
+-- A head line has at most 154 bytes, whatever its numbers (`head-any`), and a refusal at most 29 (`refusal-any`); what was put on the front of lent bytes
+-- lies within them (`put-inside`). Assumes nothing.
+use mathlib.Core.Path.{sym}
 use mathlib.Core.List.{List}
 use Prim.Native.Nat.{ℕ, suc, _≤_}
 use native.Mathlib.Omega.{arith}
-use lib.ListN.{length, take}
+use lib.ListN.{length}
 use lib.IntN.{ℤ, pos, negsuc}
 use Rattle.table.specs.declared.IntRect.{IntRect}
 use Rattle.text.specs.Text.{signedDecimal, refusal}
@@ -14,14 +14,15 @@ use Rattle.text.proofs.Puts.{put-whole}
 use Rattle.text.proofs.Refusals.{refusal-length}
 use Rattle.pair_lines.specs.Lines.{pairsHead}
 use Rattle.pair_lines.proofs.Pieces.{head-length, bounds-length}
-use Rattle.pairs_work.proofs.Reading.{front-fits, front-length}
+use Rattle.pairs_work.proofs.Reading.{front-fits}
+use Rattle.pairs_text.specs.Walks.{firstRoom}
 
 signed-any : (z : ℤ) → length (signedDecimal z) ≤ 21
 unfolding signedDecimal
 signed-any (pos n) = omega (arith, decimal-size n)
 signed-any (negsuc n) = omega (arith, decimal-size (suc n))
 
-pub head-any : (n k : ℕ) (b : IntRect) → length (pairsHead n k b) ≤ 154
+pub head-any : (n k : ℕ) (b : IntRect) → length (pairsHead n k b) ≤ firstRoom
 head-any n k b =
     omega (
       arith,
@@ -38,9 +39,5 @@ head-any n k b =
 pub refusal-any : (f : ℕ) → length (refusal f) ≤ 29
 refusal-any f = omega (arith, refusal-length f, decimal-size f)
 
-module _ {t out out′ : List ℕ} {r : ℕ} (p : PutText t 0 out out′ r) where
-  pub put-inside : r ≤ length out′
-  put-inside = front-fits t out (put-whole p .1) r (sym (put-whole p .0))
-
-  pub put-front : r ≡ length (take r out′)
-  put-front = front-length t out (put-whole p .1) r (sym (put-whole p .0))
+pub put-inside : {t out out′ : List ℕ} {r : ℕ} → PutText t 0 out out′ r → r ≤ length out′
+put-inside {t} {out} {out′} {r} p = front-fits t out (put-whole p .1) r (sym (put-whole p .0))

@@ -1,2 +1,0 @@
--- What is printed of a pair job, in pieces.
-pub mod Printed

@@ -1,0 +1,61 @@
+-- The pieces as the walks of both operands in work buffers have them (`piecesIn`), and what the inner functions promise of them. Assumes nothing.
+use mathlib.Core.Path.{_≡_}
+use mathlib.Core.Bool.{cond}
+use mathlib.Core.List.{List, _∷_, map, flatten}
+use Prim.Native.Nat.{ℕ, _+_, _*_, _/_, _%_, _<_, _≤_, _^_}
+use lib.Dec.{eqb, ltb}
+use lib.ListN.{length, drop}
+use lib.IntN.{ℤ}
+use Rattle.integers.specs.Lists.{upTo, overlay}
+use Rattle.table.specs.Table.{maxContour}
+use Rattle.text.specs.Text.{refusal}
+use Rattle.minkowski_rows.specs.Rows.{walksIn}
+use Rattle.minkowski_count.specs.Counting.{Countable, allCount}
+use Rattle.pair_lines.specs.Lines.{pairsHead, pairLine}
+use Rattle.pair_lines.specs.Putting.{pairOf, lineRoom}
+use Rattle.pairs_work.specs.declared.Begun.{Begun}
+use Rattle.pairs_text.specs.declared.Chunk.{Chunk}
+use Rattle.pairs_text.specs.Pieces.{taking}
+
+-- the bytes of the longest first line
+abbrev pub firstRoom : ℕ
+firstRoom = 154
+
+-- x is what a job answered before its lines
+module _ (x : Begun) (lf : List ℕ) (lp : List (List ℤ)) (rf : List ℕ) (rp : List (List ℤ)) where
+  unfoldable pub firstIn : List ℕ
+  firstIn = cond (eqb (x .fault) 0) (pairsHead (x .left * x .right) (allCount (walksIn lf lp (x .left)) (walksIn rf rp (x .right))) (x .bounds)) (refusal (x .fault))
+
+  -- the line of pair k: left walk k / right, right walk k % right
+  abbrev pub lineIn : ℕ → List ℕ
+  lineIn k = pairLine (k / x .right) (k % x .right) (pairOf lf lp (x .left) (k / x .right) rf rp (x .right) (k % x .right))
+
+  unfoldable pub piecesIn : List (List ℕ)
+  piecesIn = firstIn ∷ map lineIn (upTo (x .left * x .right))
+
+  -- as many pairs as a head line can tell, none of a job that is refused; of another the walks of both operands, with corners few enough to be counted
+  pub record Started : Type 0 where
+    pub few : x .left * x .right < 4294967296
+    pub refused : (x .fault ≡ 0 → ⊥) → x .left * x .right ≡ 0
+    pub lefts : x .fault ≡ 0 → Countable lf lp (x .left)
+    pub rights : x .fault ≡ 0 → Countable rf rp (x .right)
+    pub corners : x .fault ≡ 0 → allCount (walksIn lf lp (x .left)) (walksIn rf rp (x .right)) < 2 ^ 32
+
+  -- with room to merge two walks
+  pub record Workable (work : List ℤ) : Type 0 where
+    pub started : Started
+    pub for-corners : 4 * maxContour ≤ length work
+
+  -- and to put piece k
+  pub record Placed (k : ℕ) (work : List ℤ) (out : List ℕ) : Type 0 where
+    pub workable : Workable work
+    pub inside : k < 1 + x .left * x .right
+    pub for-line : lineRoom ≤ length out
+
+-- those of some pieces that one call puts from piece `from` on into lent bytes, which held `old`
+pub record Handed (pieces : List (List ℕ)) (from : ℕ) (old new : List ℕ) (r : Chunk) : Type 0 where
+  pub size : r .size ≡ length (flatten (taking (length old) (drop from pieces)))
+  pub next : r .next ≡ from + length (taking (length old) (drop from pieces))
+  pub more : r .more ≡ ltb (r .next) (length pieces)
+  pub bytes : new ≡ overlay (flatten (taking (length old) (drop from pieces))) old
+  pub fits : r .size ≤ length new
