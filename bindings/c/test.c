@@ -409,8 +409,9 @@ static void placed_by_contours(void)
     CHECK(placed(lent_placement(among, 4, around, 8, 4, 0), 0, BEZINKWOLU_TOUCHING));
     CHECK(placed(lent_placement(no_parts, 1, around, 0, 0, 0), 0, BEZINKWOLU_APART));
     CHECK(placed(lent_placement(no_parts, 1, around, 0, -FAR, FAR), 0, BEZINKWOLU_APART));
-    /* a corner that stands twice in a row leaves no strict inside */
-    CHECK(placed(lent_placement(five, 2, twice, 10, 0, 0), 0, BEZINKWOLU_TOUCHING));
+    /* a corner that stands twice in a row hides no overlap */
+    CHECK(placed(lent_placement(five, 2, twice, 10, 0, 0), 0, BEZINKWOLU_OVERLAPPING));
+    CHECK(placed(lent_placement(five, 2, twice, 10, 4, 4), 0, BEZINKWOLU_TOUCHING));
     /* on the rim of two, and strictly inside a third */
     CHECK(placed(lent_placement(both, 3, beside, 16, 4, 2), 0, BEZINKWOLU_TOUCHING));
     CHECK(placed(lent_placement(three, 4, beside, 24, 4, 2), 0, BEZINKWOLU_OVERLAPPING));

