@@ -6,6 +6,7 @@ ghost use mathlib.Core.Path.{_≡_};
 ghost use mathlib.Core.Bool.{true, cond};
 ghost use Prim.Native.Nat.{_+_};
 ghost use lib.Dec.{ltb};
+ghost use Rattle.plane.specs.Plane.{inRange};
 ghost use Rattle.table.specs.Table.{startsBroken, tableBroken, resultBroken, offRange, withinBounds, boundsBroken, pointsOf};
 
 // Document 01: "Limits: 2,048 parts, 8,192 corners, 1,026 corners a contour."
@@ -92,19 +93,27 @@ pub fn result_broken(starts: &[u32], corners: &[i32]) -> bool
     starts_broken(count, count, starts)
 }
 
-// Whether some number is not strictly between -2^30 and 2^30 (fault 2).
+// Whether z is out of range, or one before was.
+fn or_off(before: bool, z: i32) -> bool
+    ensures { λ r. ⌜ r ≡ cond (inRange z) before true ⌝ }
+{
+    if plane::in_range(z) {
+        return before;
+    }
+    true
+}
+
+// Whether some number is not strictly between -2^30 and 2^30 (fault 2). All are looked at, for a loop without a way out is done many numbers at a time.
 pub fn off_range(numbers: &[i32]) -> bool
     ensures { λ r. ⌜ r ≡ offRange (now (numbers .entry)) ⌝ }
 {
+    let mut off = false;
     let mut i = 0;
     while i < numbers.len() {
-        let z = numbers[i];
-        if !plane::in_range(z) {
-            return true;
-        }
+        off = or_off(off, numbers[i]);
         i += 1;
     }
-    false
+    off
 }
 
 // Whether a corner lies within the bounds, their ends included.
