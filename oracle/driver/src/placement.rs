@@ -187,8 +187,8 @@ where
     D: Fn([HandedOperand; 2], Handed<u32>, Handed<i32>) -> ToldPairs,
     F: Fn(HandedTable, Point) -> ToldPlacement,
 {
-    /// The contours of all differences, or the refusal; and whether the operands are as
-    /// they were.
+    /// The contours of all differences, or the refusal; and whether the operands, and what
+    /// stands about what was written, are as they were.
     fn differences(&self, left: &Operand, right: &Operand) -> Kept<Result<Table, u32>> {
         let (mut l, mut r) = (LentTable::new(&left.table), LentTable::new(&right.table));
         let operands = [(&mut l, left), (&mut r, right)].map(|(lent, operand)| HandedOperand {
@@ -198,22 +198,27 @@ where
         let mut written = Written::before(ample(&left.table, &right.table));
         let (starts, corners) = (written.starts.handed(), written.corners.handed());
         let told = (self.difference)(operands, starts, corners);
-        let table = || Table {
-            starts: written.starts.slice()[..=told.contours as usize].to_vec(),
-            corners: written.corners.slice()[..2 * told.corners as usize].to_vec(),
+        let (contours, numbers) = (told.contours as usize, 2 * told.corners as usize);
+        let (table, begun) = match told.fault {
+            0 => {
+                let starts = written.starts.slice()[..=contours].to_vec();
+                let corners = written.corners.slice()[..numbers].to_vec();
+                (Ok(Table { starts, corners }), contours + 1)
+            }
+            fault => (Err(fault), 0),
         };
+        let kept = l.holds(&left.table) && r.holds(&right.table);
+        let places = written.starts.begun_anew(begun) && written.corners.begun_anew(numbers);
         Kept {
-            told: match told.fault {
-                0 => Ok(table()),
-                fault => Err(fault),
-            },
-            kept: l.holds(&left.table) && r.holds(&right.table),
+            told: table,
+            kept: kept && places,
         }
     }
 }
 
-/// One pair of meshes in so many of the numbers that an entry point takes, by so many
-/// places.
+/// At least so many pairs of meshes, and one more in so many of the numbers that an entry
+/// point takes, by so many places.
+const LEAST: u64 = 25;
 const SHARE: u64 = 160;
 const PLACES: usize = 8;
 
@@ -260,7 +265,7 @@ where
     }
 
     fn inputs<'a>(&self, rng: &'a mut Rng, count: u64) -> Box<dyn Iterator<Item = Moved> + 'a> {
-        Box::new((0..count.div_ceil(SHARE)).flat_map(move |_| moved(rng)))
+        Box::new((0..LEAST + count / SHARE).flat_map(move |_| moved(rng)))
     }
 
     fn rattle(&self, input: &Moved) -> Kept<ToldPlacement> {
@@ -420,6 +425,31 @@ mod tests {
                 told
             });
             seen(&entry, at);
+        }
+    }
+
+    /// Of what the differences are asked with: right but for a place that is changed after
+    /// the call.
+    fn planted(change: impl Fn([HandedOperand; 2], Handed<u32>, Handed<i32>)) -> impl EntryPoint {
+        let difference = move |operands, starts, corners| {
+            let told = difference(operands, starts, corners);
+            change(operands, starts, corners);
+            told
+        };
+        of_meshes_beside(difference, asked(judged))
+    }
+
+    #[test]
+    fn overruns_of_the_differences_are_caught() {
+        for at in overruns::ALL {
+            for side in [0, 1] {
+                seen(&planted(|o, _, _| plant(o[side].table.starts, at)), at);
+                seen(&planted(|o, _, _| plant(o[side].table.corners, at)), at);
+            }
+        }
+        for at in overruns::ENDS {
+            seen(&planted(|_, starts, _| plant(starts, at)), at);
+            seen(&planted(|_, _, corners| plant(corners, at)), at);
         }
     }
 
