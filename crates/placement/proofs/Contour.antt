@@ -18,6 +18,7 @@ use Rattle.plane.specs.Contour.{lastOf}
 use Rattle.plane.proofs.Edges.{links-last, ≢-eqPt}
 use Rattle.plane.proofs.Sides.{area-first}
 use Rattle.pair.specs.Walk.{cornerAt}
+use Rattle.placement.proofs.Bools.{or-none, or-all, and-none, and-and, or-or}
 use Rattle.placement.specs.declared.Contact.the-variants.{Apart, Touching, Overlapping}
 use Rattle.placement.specs.Placement.{every, some, side, onOrLeft, leftOrNone, leftOf, among, insideAt, strictlyInsideAt, contactIn}
 
@@ -32,20 +33,12 @@ module _ (t : Pt × Pt → Bool) (e : Pt × Pt) where
   every-last : (l : List (Pt × Pt)) → every t (l ++ (e ∷ [])) ≡ every t (e ∷ l)
   unfolding every
   every-last [] = refl
-  every-last (f ∷ l) = by-test (t f) (λ h. rw h (every-last l)) (λ h. rw h (neither (t e)))
-    where
-      neither : (b : Bool) → false ≡ cond b false false
-      neither true = refl
-      neither false = refl
+  every-last (f ∷ l) = by-test (t f) (λ h. rw h (every-last l)) (λ h. rw h (sym (and-none (t e))))
 
   some-last : (l : List (Pt × Pt)) → some t (l ++ (e ∷ [])) ≡ some t (e ∷ l)
   unfolding some
   some-last [] = refl
-  some-last (f ∷ l) = by-test (t f) (λ h. rw h (either (t e))) (λ h. rw h (some-last l))
-    where
-      either : (b : Bool) → true ≡ cond b true true
-      either true = refl
-      either false = refl
+  some-last (f ∷ l) = by-test (t f) (λ h. rw h (sym (or-all (t e)))) (λ h. rw h (some-last l))
 
 -- what holds of the edges in either order
 round : (P : List (Pt × Pt) → Bool) → ((e : Pt × Pt) (m : List (Pt × Pt)) → P (m ++ (e ∷ [])) ≡ P (e ∷ m)) → (l : List Pt) → (length l ≡ 0 → ⊥)
@@ -94,16 +87,6 @@ module _ (z : Pt) (l : List Pt) where
     lefts = round (some (leftOf z)) (some-last (leftOf z)) l h;
   }
 
-  both : (a b c : Bool) → cond a (cond b c false) false ≡ cond (cond a b false) c false
-  both true b c = refl
-  both false b c = refl
-
-  either : (a b c : Bool) → cond a true (cond b true c) ≡ cond (cond b true a) true c
-  either true true c = refl
-  either true false c = refl
-  either false true c = refl
-  either false false c = refl
-
   -- where side s of the edge into corner k is told
   module _ {i k : ℕ} {strict left : Bool} (t : InTurn i k strict left) (h : k < length l) {s : ℤ} (e : s ≡ areaTwo (cornerAt l i) (cornerAt l k) z) where
     pub in-turn : {strict′ left′ : Bool} → ltZ s (pos 0) ≡ false → strict′ ≡ cond strict (cond (ltZ (pos 0) s) true (eqPt (cornerAt l i) (cornerAt l k))) false
@@ -111,11 +94,11 @@ module _ (z : Pt) (l : List Pt) where
     in-turn f g j = record {
       weakly = t .weakly ∙ every-next (onOrLeft z) _ k h ∙ rw (← e, ≤-leZ (ltZ-≤ s (pos 0) f));
       strictly =
-          t .strictly ∙ ap (λ b. cond strict b false) (every-next (leftOrNone z) _ k h) ∙ both strict (leftOrNone z (cornerAt l i, cornerAt l k)) _
+          t .strictly ∙ ap (λ b. cond strict b false) (every-next (leftOrNone z) _ k h) ∙ and-and strict (leftOrNone z (cornerAt l i, cornerAt l k)) _
           ∙ ap (λ x. cond (cond strict (cond (ltZ (pos 0) x) true (eqPt (cornerAt l i) (cornerAt l k))) false) (every (leftOrNone z) (links (cornerAt l k) (drop (k + 1) l))) false) (sym e)
           ∙ ap (λ b. cond b (every (leftOrNone z) (links (cornerAt l k) (drop (k + 1) l))) false) (sym g);
       lefts =
-          t .lefts ∙ ap (λ b. cond left true b) (some-next (leftOf z) _ k h) ∙ either left (leftOf z (cornerAt l i, cornerAt l k)) _
+          t .lefts ∙ ap (λ b. cond left true b) (some-next (leftOf z) _ k h) ∙ or-or left (leftOf z (cornerAt l i, cornerAt l k)) _
           ∙ ap (λ x. cond (cond (ltZ (pos 0) x) true left) true (some (leftOf z) (links (cornerAt l k) (drop (k + 1) l)))) (sym e)
           ∙ ap (λ b. cond b true (some (leftOf z) (links (cornerAt l k) (drop (k + 1) l)))) (sym j);
     }
@@ -127,33 +110,25 @@ module _ (z : Pt) (l : List Pt) where
         let below = ltZ-< s (pos 0) f in
         let w : every (onOrLeft z) (neighbours l) ≡ false = t .weakly ∙ every-next (onOrLeft z) _ k h ∙ rw (← e, <-leZ below) in
         let v : every (leftOrNone z) (neighbours l) ≡ false =
-        t .strictly ∙ ap (λ b. cond strict b false) (every-next (leftOrNone z) _ k h ∙ rw (← e, ≤-ltZ (<-≤ below), apart-of (cornerAt l i) (cornerAt l k) (subst (λ x. x <ℤ pos 0) e below))) ∙ none strict in
+        t .strictly ∙ ap (λ b. cond strict b false) (every-next (leftOrNone z) _ k h ∙ rw (← e, ≤-ltZ (<-≤ below), apart-of (cornerAt l i) (cornerAt l k) (subst (λ x. x <ℤ pos 0) e below))) ∙ and-none strict in
         rw (v, w)
       where
-        none : (b : Bool) → cond b false false ≡ false
-        none true = refl
-        none false = refl
-
         apart-of : (a b : Pt) → areaTwo a b z <ℤ pos 0 → eqPt a b ≡ false
         apart-of a b below = ≢-eqPt {a = a} {b = b} (λ q. omega (zarith, subst (λ c. areaTwo a c z <ℤ pos 0) (sym q) below, area-first a z))
 
   -- at the end nothing is left
   module _ {i k : ℕ} {strict left : Bool} (t : InTurn i k strict left) (h : length l ≤ k) where
-    itself : (b : Bool) → cond b true false ≡ b
-    itself true = refl
-    itself false = refl
-
     told-weakly : every (onOrLeft z) (neighbours l) ≡ true
     unfolding every links
     told-weakly = t .weakly ∙ rw (drop-of-length-le l {i = k} h)
 
     told-strictly : every (leftOrNone z) (neighbours l) ≡ strict
     unfolding every links
-    told-strictly = t .strictly ∙ rw (drop-of-length-le l {i = k} h) (itself strict)
+    told-strictly = t .strictly ∙ rw (drop-of-length-le l {i = k} h) (or-none strict)
 
     told-left : some (leftOf z) (neighbours l) ≡ left
     unfolding some links
-    told-left = t .lefts ∙ rw (drop-of-length-le l {i = k} h) (itself left)
+    told-left = t .lefts ∙ rw (drop-of-length-le l {i = k} h) (or-none left)
 
     pub turned-strictly : strict ≡ true → left ≡ true → Overlapping ≡ contactIn z l
     unfolding contactIn strictlyInsideAt
@@ -177,13 +152,7 @@ module _ {u a v b : ℤ} (p : u ≡ a) (q : v ≡ b) (before : Bool) where
 some-turn : (t : Pt → Bool) (l : List Pt) (k : ℕ) → k < length l → (found : Bool) {found′ : Bool} → found′ ≡ cond (t (cornerAt l k)) true found
     → cond found true (some t (drop k l)) ≡ cond found′ true (some t (drop (k + 1) l))
 unfolding some
-some-turn t l k h found e = rw (add-one, drop-cons l k O, e) (either found (t (cornerAt l k)) _)
-  where
-    either : (a b c : Bool) → cond a true (cond b true c) ≡ cond (cond b true a) true c
-    either true true c = refl
-    either true false c = refl
-    either false true c = refl
-    either false false c = refl
+some-turn t l k h found e = rw (add-one, drop-cons l k O, e) (or-or found (t (cornerAt l k)) _)
 
 module _ (z : Pt) (l : List Pt) where
   pub record AmongTurn (k : ℕ) (right left above below : Bool) : Type 0 where
@@ -210,9 +179,5 @@ module _ (z : Pt) (l : List Pt) where
   unfolding among some
   among-end {k} {r} {f} {a} {b} t h =
       let e : drop k l ≡ [] = drop-of-length-le l {i = k} h in
-      let at : (g : Pt → Bool) (x : Bool) → some g l ≡ cond x true (some g (drop k l)) → some g l ≡ x = λ g x p. p ∙ ap (λ m. cond x true (some g m)) e ∙ itself x in
+      let at : (g : Pt → Bool) (x : Bool) → some g l ≡ cond x true (some g (drop k l)) → some g l ≡ x = λ g x p. p ∙ ap (λ m. cond x true (some g m)) e ∙ or-none x in
       rw (at _ r (t .rightward), at _ f (t .leftward), at _ a (t .upward), at _ b (t .downward))
-    where
-      itself : (b : Bool) → cond b true false ≡ b
-      itself true = refl
-      itself false = refl

@@ -14,6 +14,7 @@ use Rattle.plane.specs.Plane.{Pt}
 use Rattle.table.specs.Table.{pointsOf, partsOf, tableParts, partCount}
 use Rattle.table.proofs.Parts.{length-parts}
 use Rattle.table.proofs.Rules.{result-ascends}
+use Rattle.placement.proofs.Bools.{or-none, or-all}
 use Rattle.placement.specs.declared.Contact.the-variants.{Apart, Touching, Overlapping}
 use Rattle.placement.specs.Placement.{some, insideAt, strictlyInsideAt, contactIn, contactBy, placeFault, placedOf, Placeable}
 use Rattle.placement.specs.declared.Placed.the-variants.{At, Refused}
@@ -74,12 +75,8 @@ module _ (z : Pt) (ps : List (List Pt)) where
         let t = told-touching z (getD ps k []) e in
         record {
           strictly = b .strictly ∙ some-turn (strictlyInsideAt z) k h ∙ rw (t .0);
-          weakly = b .weakly ∙ ap (λ x. cond touches true x) (some-turn (insideAt z) k h ∙ rw (t .1)) ∙ both touches;
+          weakly = b .weakly ∙ ap (λ x. cond touches true x) (some-turn (insideAt z) k h ∙ rw (t .1)) ∙ or-all touches;
         }
-      where
-        both : (b : Bool) → cond b true true ≡ true
-        both true = refl
-        both false = refl
 
     pub overlapped : contactIn z (getD ps k []) ≡ Overlapping → Overlapping ≡ contactBy z ps
     unfolding contactBy
@@ -92,11 +89,7 @@ module _ (z : Pt) (ps : List (List Pt)) where
 
     all-weakly : some (insideAt z) ps ≡ touches
     unfolding some
-    all-weakly = b .weakly ∙ rw (drop-of-length-le ps {i = k} h) (itself touches)
-      where
-        itself : (b : Bool) → cond b true false ≡ b
-        itself true = refl
-        itself false = refl
+    all-weakly = b .weakly ∙ rw (drop-of-length-le ps {i = k} h) (or-none touches)
 
     pub by-end : cond touches Touching Apart ≡ contactBy z ps
     unfolding contactBy

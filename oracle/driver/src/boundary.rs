@@ -8,6 +8,7 @@ use crate::lent::{Handed, Lent};
 use crate::listing::{listing_beside, TEXT};
 use crate::mesh::{mesh_fault_beside, to_convex_polygons_beside, Row};
 use crate::pairs::{all_pairs_beside, Bounds, HandedOperand, ToldPairs};
+use crate::placement::{of_meshes_beside, placement_beside, ToldPlacement};
 use crate::plane::{angle_cmp_beside, area_two_beside, cross_product_beside};
 use crate::split::with_max_vertices_beside;
 use crate::table::{read_table_beside, show_part_beside, write_table_beside};
@@ -40,7 +41,7 @@ pub struct Called {
 mod archive {
     use super::{Called, Walk};
     use super::{Bounds, Counts, Place, Places, Row, Told, ToldLength, ToldPairs, ToldPart};
-    use super::{ToldEdge, ToldNext, ToldPair, ToldPlace, ToldPoint, ToldStep};
+    use super::{ToldEdge, ToldNext, ToldPair, ToldPlace, ToldPlacement, ToldPoint, ToldStep};
     use crate::listing::TEXT;
 
     extern "C" {
@@ -184,6 +185,14 @@ mod archive {
             corners: *mut i32,
             corners_lent: usize,
         ) -> ToldPairs;
+        pub fn bezinkwolu_placement(
+            starts: *const u32,
+            starts_length: usize,
+            corners: *const i32,
+            corners_length: usize,
+            x: i32,
+            y: i32,
+        ) -> ToldPlacement;
         pub fn bezinkwolu_listing(
             bytes: *const u8,
             bytes_length: usize,
@@ -305,6 +314,10 @@ pub const ENTRY_POINTS: &[Named] = &[
     ("difference_parts", |s, n| {
         let entry = all_pairs_beside(Operation::Difference, difference_parts);
         run(&entry, s, n)
+    }),
+    ("placement", |s, n| run(&placement_beside(placement), s, n)),
+    ("placement of two meshes", |s, n| {
+        run(&of_meshes_beside(difference_parts, placement), s, n)
     }),
     ("listing", |s, n| run(&listing_beside(listing), s, n)),
 ];
@@ -547,6 +560,20 @@ fn difference_parts(
     corners: Handed<i32>,
 ) -> ToldPairs {
     all_pairs(Operation::Difference, operands, starts, corners)
+}
+
+pub fn placement(contours: HandedTable, (x, y): Point) -> ToldPlacement {
+    let HandedTable { starts, corners } = contours;
+    unsafe {
+        archive::bezinkwolu_placement(
+            starts.at,
+            starts.length,
+            corners.at,
+            corners.length,
+            x,
+            y,
+        )
+    }
 }
 
 // Safe: the lent text is as long as the function's array.

@@ -13,6 +13,7 @@
 //! - `walk`: one walk begun, its point, edge and advance, a walk stepped; a pair
 //!   begun, stepped, and stepped to its end
 //! - `pairs`: `sum_parts`, `difference_parts`
+//! - `placement`: a place by contours, and by two meshes
 //! - `listing`: the text that the area program prints for a file
 //! - `sample`: what a stored sample is, and `SAMPLES`, all of them: `plane_sample`,
 //!   `table_sample`, `mesh_sample`, `split_sample`
@@ -29,6 +30,7 @@ pub mod mesh;
 mod mesh_sample;
 pub mod pairs;
 pub mod pairs_sample;
+pub mod placement;
 pub mod plane;
 mod plane_sample;
 pub mod sample;

@@ -382,7 +382,7 @@ pub fn any(rng: &mut Rng, corners: usize, reach: i32) -> Contour {
     contour.into_iter().take(corners).collect()
 }
 
-fn gcd(a: u64, b: u64) -> u64 {
+pub(crate) fn gcd(a: u64, b: u64) -> u64 {
     if b == 0 {
         a
     } else {

@@ -11,6 +11,7 @@
 //! - `operands`: part tables with bounds; `pair_damage`: with one fault or two
 //! - `tables`: part tables, small ones exhaustively, each rule broken, the limits
 //! - `table_calls`: what is asked of the calls on tables, and the memory lent
+//! - `placements`: what is asked of `placement`, of contours and of two meshes
 //! - `stored`: stored tables and mesh files, good and damaged
 //! - `places`: walks as a caller may make them
 //! - `walk_calls`: what is asked of the calls on walks
@@ -23,6 +24,7 @@ pub mod mesh_damage;
 pub mod meshes;
 pub mod operands;
 pub mod pair_damage;
+pub mod placements;
 pub mod places;
 pub mod plane;
 pub mod rng;

@@ -13,6 +13,9 @@
 //! - `pairs`: 7, 2, 9, 8, 10, 20
 //! - `job`: a pair job, 13 and 7, then those of pairs; its text
 //! - `walk`: a walk begun, stepped, its point, and a pair's step
+//! - `placement`: a place by the contours of a pair result, 7 and 2; by two meshes
+//!   (not document 01's: from what the call promises)
+//! - `triangles`: whether two triangles meet, and whether they overlap
 //! - `room`: 22 and 21, once the answer's size is known
 //! - `round`: once round a convex area above zero; strictly convex
 //! - `listing`: the text of the area program
@@ -23,11 +26,13 @@ pub mod limits;
 pub mod listing;
 pub mod mesh;
 pub mod pairs;
+pub mod placement;
 pub mod room;
 pub mod round;
 pub mod shown;
 pub mod stored;
 pub mod table;
+pub mod triangles;
 pub mod walk;
 
 /// A fault's number; 0 is none.

@@ -43,20 +43,22 @@ impl Table {
     }
 }
 
+/// 7 of contours that no limits bind, as those of a pair result.
+pub fn breaks_starts(table: &Table) -> bool {
+    let starts = &table.starts;
+    starts.first() != Some(&0)
+        || starts.windows(2).any(|w| w[1] < w[0])
+        || starts.last().map(|&end| end as usize) != Some(table.corner_count())
+        || !table.corners.len().is_multiple_of(2)
+}
+
 /// 7: against the rules or the limits.
 pub fn breaks_rules(table: &Table) -> bool {
-    let starts = &table.starts;
-    let count = table.corner_count();
-    let (Some(&begin), Some(&end)) = (starts.first(), starts.last()) else {
-        return true;
-    };
-    let falls_or_is_long = |w: &[u32]| w[1] < w[0] || (w[1] - w[0]) as usize > CONTOUR;
-    begin != 0
-        || end as usize != count
-        || !table.corners.len().is_multiple_of(2)
-        || starts.len() > PARTS + 1
-        || count > CORNERS
-        || starts.windows(2).any(falls_or_is_long)
+    let is_long = |w: &[u32]| (w[1] - w[0]) as usize > CONTOUR;
+    breaks_starts(table)
+        || table.parts() > PARTS
+        || table.corner_count() > CORNERS
+        || table.starts.windows(2).any(is_long)
 }
 
 /// 2, of the corners.

@@ -1,11 +1,12 @@
-//! `bench [ROUNDS [joining|structs|splits|pairs|crate]]`: times our calls, the Rust's and, of all
-//! pairs, a C++ one from this one program on the same inputs, in turn, and prints our
-//! time over theirs. docs/BENCHMARKS.md says what they show.
+//! `bench [ROUNDS [joining|structs|splits|pairs|placement|crate]]`: times our calls, the
+//! Rust's and, of all pairs and of a place by contours, C++ ones from this one program on
+//! the same inputs, in turn, and prints our time over theirs. docs/BENCHMARKS.md says what they show.
 
 mod bindings;
 mod meshes;
 mod pairs;
 mod peers;
+mod placement;
 mod timing;
 
 use std::env;
@@ -19,11 +20,12 @@ fn main() {
     let rounds = words.first().and_then(|word| word.parse().ok());
     let rounds = rounds.unwrap_or(ROUNDS);
     let only = words.get(1).map(String::as_str);
-    let topics: [(&str, fn(usize)); 5] = [
+    let topics: [(&str, fn(usize)); 6] = [
         ("joining", meshes::joining),
         ("structs", meshes::structs),
         ("splits", meshes::splits),
         ("pairs", pairs::pairs),
+        ("placement", placement::placements),
         ("crate", bindings::crate_calls),
     ];
     for (name, topic) in topics {

@@ -1,16 +1,58 @@
 //! The C++ beside ours (oracle/peers), where a compiler was found.
 
-pub use linked::Operand;
+pub use linked::{placements, Operand};
 
 #[cfg(peers)]
 mod linked {
     use judge::table::Table;
+    use judge::Point;
     use std::ffi::c_void;
 
     extern "C" {
         fn peers_operand(starts: *const u32, parts: usize, corners: *const i32) -> *mut c_void;
         fn peers_free(operand: *mut c_void);
         fn peers_t1_all(left: *const c_void, right: *const c_void, out: *mut i32) -> usize;
+    }
+
+    type Placed = unsafe extern "C" fn(*const u32, usize, *const i32, i32, i32) -> u32;
+
+    extern "C" {
+        fn peers_placement_whole(s: *const u32, parts: usize, c: *const i32, x: i32, y: i32)
+            -> u32;
+        fn peers_placement_leaving(
+            s: *const u32,
+            parts: usize,
+            c: *const i32,
+            x: i32,
+            y: i32,
+        ) -> u32;
+        fn peers_placement_checked(
+            starts: *const u32,
+            starts_length: usize,
+            corners: *const i32,
+            corners_length: usize,
+            x: i32,
+            y: i32,
+        ) -> u32;
+    }
+
+    /// A place by contours: every edge asked, each contour left at the first edge that
+    /// the place is right of, and that after the refusals.
+    pub fn placements() -> Option<[fn(&Table, Point) -> u32; 3]> {
+        // Safe: the C++ reads the lists within the starts.
+        fn placed(f: Placed, table: &Table, (x, y): Point) -> u32 {
+            let (starts, corners) = (table.starts.as_ptr(), table.corners.as_ptr());
+            unsafe { f(starts, table.parts(), corners, x, y) }
+        }
+        fn checked(Table { starts, corners }: &Table, (x, y): Point) -> u32 {
+            let (s, c) = (starts.as_ptr(), corners.as_ptr());
+            unsafe { peers_placement_checked(s, starts.len(), c, corners.len(), x, y) }
+        }
+        Some([
+            |table, place| placed(peers_placement_whole, table, place),
+            |table, place| placed(peers_placement_leaving, table, place),
+            checked,
+        ])
     }
 
     /// An operand as the C++ takes it, and as CGAL does where it is installed.
@@ -73,6 +115,11 @@ mod linked {
 #[cfg(not(peers))]
 mod linked {
     use judge::table::Table;
+    use judge::Point;
+
+    pub fn placements() -> Option<[fn(&Table, Point) -> u32; 3]> {
+        None
+    }
 
     /// There was no C++ compiler, so there is none of these.
     pub enum Operand {}
