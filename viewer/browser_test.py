@@ -670,7 +670,7 @@ class Viewer(unittest.TestCase):
 
     def words(self, places):
         """What the page says of each place."""
-        return self.js("return arguments[0].map(([x, y]) => placed(x, y).word)", places)
+        return self.js("return arguments[0].map(([x, y]) => verdictOn(x, y).word)", places)
 
     def settled(self, x, y):
         """Puts the right piece at a place; answers what is then told in words."""
@@ -829,11 +829,13 @@ class Viewer(unittest.TestCase):
         self.assertEqual(self.view(), view)
 
     def test_places_and_pairs_beside_one_another(self):
-        self.vamp()
+        self.d.find_element(By.ID, "files").send_keys(str(ROOT / "examples/vamp.job"))
+        self.settle()
+        self.paste(VAMP_CONTOURS)
         self.assertEqual(self.rows(), [])
         self.click("#tabs [data-mode=pairs]")
         self.assertEqual([r[0] for r in self.rows()], ["0 0", "0 1"])
-        self.assertFalse(self.d.find_element(By.ID, "verdict").is_displayed())
+        self.assertEqual(self.js("return document.getElementById('verdict').textContent"), "")
         self.assertIn("difference, 10 corners", self.labels())
         at = self.place(0, 0)
         self.key(Keys.ARROW_UP)
@@ -889,7 +891,7 @@ class Viewer(unittest.TestCase):
         self.drop(**difference(lefts, rights, contours))
         self.assertEqual(self.words([[1000, 9], [1000, 1], [3000, 1]]), ["touching", "overlapping", "apart"])
         times = self.js("""const times = [];
-            for (let k = 0; k < 15; k++) { const t = performance.now(); placed(100 * k, 9); times.push(performance.now() - t); }
+            for (let k = 0; k < 15; k++) { const t = performance.now(); verdictOn(100 * k, 9); times.push(performance.now() - t); }
             return times.sort((a, b) => a - b)""")
         self.assertLess(times[7], 50, f"a place takes {times[7]} ms")
 
@@ -912,9 +914,10 @@ class Viewer(unittest.TestCase):
         def channels(colour):
             return [int(colour[k:k + 2], 16) for k in (1, 3, 5)]
 
-        # each way in which parts are drawn: on paper and over triangles, light and dark
-        palette, ways = self.js("return [PALETTE, [LIGHT, DARK].flatMap((c) => [[c.paper, OPACITY.plain], [c.triangle, OPACITY.overTriangles]])]")
-        for paper, opacity in ways:
+        # each way in which parts are drawn: on paper and over triangles, and the outlines of pieces at places, light and dark
+        ways = self.js("""return [LIGHT, DARK].flatMap((c) => [
+            [PALETTE, c.paper, OPACITY.plain], [PALETTE, c.triangle, OPACITY.overTriangles], [[c.left, ...[APART, TOUCHING, OVERLAPPING].map((word) => c[word])], c.covered, 1]])""")
+        for palette, paper, opacity in ways:
             for name, matrix in blind.items():
                 seen = []
                 for colour in palette:
