@@ -787,6 +787,9 @@ class Viewer(unittest.TestCase):
             self.point(*self.place(x, y))
             self.assertEqual(self.text("#verdict"), f"{self.words([[x, y]])[0]} at ({x},{y})")
         self.assertEqual(self.tip(), ["", ""])
+        moved = self.pixels()
+        self.js("redraw()")
+        self.assertEqual(self.pixels(), moved, "what was kept beneath the piece is what is drawn anew")
         # a pressed mouse drags the view, and the place stays beneath it
         ActionChains(self.d, duration=0).click_and_hold().move_by_offset(-50, 30).release().perform()
         self.frame()
@@ -891,9 +894,9 @@ class Viewer(unittest.TestCase):
         self.drop(**difference(lefts, rights, contours))
         self.assertEqual(self.words([[1000, 9], [1000, 1], [3000, 1]]), ["touching", "overlapping", "apart"])
         times = self.js("""const times = [];
-            for (let k = 0; k < 15; k++) { const t = performance.now(); verdictOn(100 * k, 9); times.push(performance.now() - t); }
+            for (let k = 0; k < 15; k++) { const t = performance.now(); placeAt(100 * k, 9); draw(); context.getImageData(0, 0, 1, 1); times.push(performance.now() - t); }
             return times.sort((a, b) => a - b)""")
-        self.assertLess(times[7], 50, f"a place takes {times[7]} ms")
+        self.assertLess(times[7], 60, f"a move of the piece takes {times[7]} ms")
 
     # ---- colours and themes
 
@@ -997,6 +1000,10 @@ class Viewer(unittest.TestCase):
         self.assertEqual(made, self.js("return drawSvg(viewForPrint(), LIGHT)"))
         bad = subprocess.run([str(HERE / "picture"), str(ROOT / "examples/refused_3.out")], capture_output=True, text=True)
         self.assertEqual((bad.returncode, bad.stdout), (3, ""))
+        for places, sentence in [(["0", "0"], "Only the pair job of a difference has places."), (["0"], "--placed takes an X and a Y for each place"), (["0", "1.5"], "1.5 is no whole number")]:
+            bad = subprocess.run([str(HERE / "picture"), str(ROOT / "examples/vamp.contours"), "--placed", *places], capture_output=True, text=True)
+            self.assertEqual((bad.returncode, bad.stdout), (2, ""))
+            self.assertIn(sentence, bad.stderr)
 
     def test_the_readmes_pictures_are_what_is_drawn_now(self):
         self.drop(bag__txt=(ROOT / "examples/bag.txt").read_bytes(), bag__out=BAG)
