@@ -39,6 +39,8 @@ BAG = (ROOT / "examples/bag.out").read_text()
 DART_MESH = (ROOT / "crates/areas/stdin").read_bytes()
 JOB = (ROOT / "examples/pocket.job").read_bytes()
 CONTOURS = (ROOT / "examples/pocket.contours").read_text()
+VAMP_JOB = (ROOT / "examples/vamp.job").read_bytes()
+VAMP_CONTOURS = (ROOT / "examples/vamp.contours").read_text()
 
 
 def listing(parts):
@@ -67,6 +69,33 @@ def table(parts):
     starts = [0, *itertools.accumulate(len(p) for p in parts)]
     corners = [n for p in parts for c in p for n in c]
     return struct.pack(f"<2I{len(starts)}I{len(corners)}i", len(parts), len(corners) // 2, *starts, *corners)
+
+
+def difference(lefts, rights, contours):
+    """The pair job of a difference, and contours as the pair program prints them, in bounds that agree."""
+    def bounds(parts):
+        xs, ys = zip(*[c for p in parts for c in p] or [(0, 0)])
+        return min(xs), max(xs), min(ys), max(ys)
+    a, b = bounds(lefts), bounds(rights)
+    job = struct.pack("<I4i", 1, *a) + table(lefts) + struct.pack("<4i", *b) + table(rights)
+    lines = [f"contours {len(contours)} corners {sum(map(len, contours))} bounds {a[0] - b[1]} {a[1] - b[0]} {a[2] - b[3]} {a[3] - b[2]}"]
+    for k, contour in enumerate(contours):
+        lines.append(" ".join([f"{k // len(rights)} {k % len(rights)} {len(contour)}", *(f"({x},{y})" for x, y in contour)]))
+    return {"job": job, "contours": "\n".join(lines) + "\n"}
+
+
+def word_of(contours, x, y):
+    """What contours say of a place, by the sides of their edges."""
+    found = "apart"
+    for contour in filter(None, contours):
+        edges = [(a, b) for a, b in zip(contour, contour[1:] + contour[:1]) if a != b]
+        areas = [(b[0] - a[0]) * (y - a[1]) - (b[1] - a[1]) * (x - a[0]) for a, b in edges]
+        if edges and min(areas) > 0:
+            return "overlapping"
+        xs, ys = zip(*contour)
+        if min(areas, default=0) >= 0 and min(xs) <= x <= max(xs) and min(ys) <= y <= max(ys):
+            found = "touching"
+    return found
 
 
 def mesh(rows, limit=0, split=0):
@@ -634,6 +663,199 @@ class Viewer(unittest.TestCase):
         self.click("#tabs [data-mode=parts]")
         self.assertEqual(self.rows()[0][2], "16")
 
+    # ---- places
+
+    def vamp(self):
+        self.drop(vamp__job=VAMP_JOB, vamp__contours=VAMP_CONTOURS)
+
+    def words(self, places):
+        """What the page says of each place."""
+        return self.js("return arguments[0].map(([x, y]) => verdictOn(x, y).word)", places)
+
+    def settled(self, x, y):
+        """Puts the right piece at a place; answers what is then told in words."""
+        self.js("placeAt(...arguments)", x, y)
+        self.frame()
+        return self.text("#verdict")
+
+    def test_the_right_piece_is_apart_touching_or_overlapping(self):
+        self.vamp()
+        self.assertEqual(self.text("#verdict"), "overlapping at (0,0)")
+        seen = set()
+        # in the throat; with an edge on the throat's; with a corner on the vamp's outer edge; on the vamp
+        for x, y, word in [(0, -90, "apart"), (0, -15, "touching"), (150, -20, "touching"), (-70, 70, "overlapping")]:
+            self.assertEqual(self.settled(x, y), f"{word} at ({x},{y})")
+            self.assertIn(f"right piece {word} at ({x},{y})", self.labels())
+            self.assertIn(word, self.labels())
+            colour = self.js("return coloursNow()[arguments[0]]", word)
+            pieces = [p for p in self.svg().iter(SVG + "polygon") if p.get("stroke") == colour and p.find(SVG + "title") is not None]
+            self.assertEqual([p.find(SVG + "title").text for p in pieces], [f"right part {j} {word} at ({x},{y})" for j in range(2)])
+            spot = [float(n) for n in pieces[0].get("points").split()[0].split(",")]
+            self.near(spot, self.place(x - 25, y - 30))
+            seen.add(self.pixel(*self.place(x + 27, y + 8)))
+        self.assertEqual(len(seen), 4)
+        self.assertEqual(self.js("return [APART, TOUCHING, OVERLAPPING].map((word) => (ROLES[word].hatches || []).length)"), [0, 1, 2], "told without colours too")
+
+    def test_places_about_each_corner_and_edge_of_the_contours(self):
+        self.vamp()
+        contours = [[tuple(map(int, c)) for c in re.findall(r"\((-?\d+),(-?\d+)\)", line)] for line in VAMP_CONTOURS.splitlines()[1:]]
+        corners = {c for contour in contours for c in contour}
+        middles = {((a[0] + b[0]) // 2, (a[1] + b[1]) // 2) for contour in contours for a, b in zip(contour, contour[1:] + contour[:1])}
+        places = [(x + dx, y + dy) for x, y in sorted(corners | middles) for dx in (-1, 0, 1) for dy in (-1, 0, 1)]
+        wanted = [word_of(contours, x, y) for x, y in places]
+        self.assertEqual(self.words(places), wanted)
+        self.assertEqual(set(wanted), {"apart", "touching", "overlapping"})
+        # the corner that is farthest right is touched, and one unit on there is nothing
+        x, y = max(corners)
+        self.assertEqual(self.settled(x, y), f"touching at ({x},{y})")
+        self.assertEqual(self.settled(x + 1, y), f"apart at ({x + 1},{y})")
+
+    def test_places_by_any_contours(self):
+        chance = random.Random(2)
+
+        def somewhere(reach):
+            return chance.randint(-reach, reach), chance.randint(-reach, reach)
+        for reach in [3, FAR]:
+            contours = [[somewhere(reach) for _ in range(chance.randint(0, 4))] for _ in range(40)]
+            # corners that stand twice, segments there and back, points
+            contours += [c[:1] + c for c in contours] + [c[:2] for c in contours] + [c[:1] for c in contours]
+            places = list(itertools.product(range(-4, 5), repeat=2)) if reach == 3 else [c for contour in contours for c in contour] + [somewhere(reach) for _ in range(60)]
+            for contour in contours:
+                self.js("state.contours = { count: 1, corners: Int32Array.from(arguments[0].flat()), starts: Uint32Array.from([0, arguments[0].length]) }", contour)
+                self.assertEqual(self.words(places), [word_of([contour], *z) for z in places], contour)
+
+    def test_places_near_2_to_the_30_where_doubles_are_wrong(self):
+        chance = random.Random(3)
+        wrong = 0
+        for _ in range(40):
+            # from (-FAR, -FAR) an edge (p, q), and the two whole-number points whose doubled areas with it are -1 and 1
+            p, q = (chance.randint(FAR, 2 * FAR) | 1 for _ in range(2))
+            try:
+                u = pow(q, -1, p)
+            except ValueError:
+                continue
+            ends = [(u, (q * u - 1) // p), (p - u, q - (q * u - 1) // p)]
+            contour = [(-FAR, -FAR), (p - FAR, q - FAR), (-FAR, FAR)]
+            places = [(x - FAR, y - FAR) for x, y in ends]
+            self.drop(**difference([[(-FAR, -FAR), (FAR, -FAR), (FAR, FAR), (-FAR, FAR)]], [[(0, 0)]], [contour]))
+            self.assertEqual(self.words(places), ["apart", "overlapping"], (p, q))
+            wrong += self.js("const [p, q, ends] = arguments; return ends.filter(([x, y]) => p * y - q * x === 0).length", p, q, ends)
+        self.assertGreater(wrong, 20, "doubles tell no side of these")
+        # half-way along an edge there is no side
+        self.drop(**difference([[(-FAR, -FAR), (FAR, -FAR), (FAR, FAR), (-FAR, FAR)]], [[(0, 0)]], [[(-FAR, -FAR), (FAR - 2, FAR - 4), (-FAR, FAR)]]))
+        self.assertEqual(self.settled(-1, -2), "touching at (-1,-2)")
+        self.assertEqual(self.settled(-1, -1), "overlapping at (-1,-1)")
+        self.assertEqual(self.settled(-1, -3), "apart at (-1,-3)")
+
+    def test_an_empty_contour_covers_nothing(self):
+        square = [(0, 0), (4, 0), (4, 4), (0, 4)]
+        self.drop(**difference([square], [[]], [[]]))
+        self.assertEqual(self.text("#verdict"), "apart at (0,0)")
+        self.assertEqual(set(self.words([[2, 2], [0, 0], [4, 4]])), {"apart"})
+        # beside one that is not empty
+        self.drop(**difference([square], [[], [(0, 0)]], [[], square]))
+        self.assertEqual(self.words([[2, 2], [0, 0], [4, 2], [5, 4]]), ["overlapping", "touching", "touching", "apart"])
+
+    def test_a_sum_has_no_moving_piece(self):
+        def none():
+            self.point(*self.place(100, 100))
+            self.assertEqual(self.js("return state.mode"), "pairs")
+            self.assertFalse(self.d.find_element(By.ID, "verdict").is_displayed())
+            self.assertFalse(self.d.find_element(By.CSS_SELECTOR, "#tabs [data-mode=places]").is_displayed())
+            at = self.place(0, 0)
+            self.key(Keys.ARROW_RIGHT)
+            self.near(self.place(0, 0), (at[0] - 60, at[1]))
+        self.drop(job=JOB, contours=CONTOURS)
+        none()
+        # nor has a difference without its contours, nor contours alone
+        self.setUp()
+        self.drop(job=VAMP_JOB)
+        none()
+        self.setUp()
+        self.drop(contours=VAMP_CONTOURS)
+        none()
+        self.drop(job=VAMP_JOB)
+        self.assertEqual(self.js("return state.mode"), "places")
+        self.drop(job=JOB)
+        none()
+
+    def test_the_right_piece_follows_the_pointer(self):
+        self.vamp()
+        self.js("Object.assign(state.view, { x: 30, y: 0, scale: 2.5 }); redraw()")
+        before = self.view()
+        for x, y in [(0, -90), (-70, 70), (151, -20), (150, -20)]:
+            self.point(*self.place(x, y))
+            self.assertEqual(self.text("#verdict"), f"{self.words([[x, y]])[0]} at ({x},{y})")
+        self.assertEqual(self.tip(), ["", ""])
+        moved = self.pixels()
+        self.js("redraw()")
+        self.assertEqual(self.pixels(), moved, "what was kept beneath the piece is what is drawn anew")
+        # a pressed mouse drags the view, and the place stays beneath it
+        ActionChains(self.d, duration=0).click_and_hold().move_by_offset(-50, 30).release().perform()
+        self.frame()
+        self.assertEqual(self.text("#verdict"), "touching at (150,-20)")
+        self.near(self.place(before["x"], before["y"]), (before["w"] / 2 - 50, before["h"] / 2 + 30), 1)
+        # between whole numbers it is the nearer one
+        self.js("Object.assign(state.view, { x: 0, y: 0, scale: 200 }); redraw()")
+        self.point(*self.place(0.4, -0.6))
+        self.assertRegex(self.text("#verdict"), r" at \(0,-1\)$")
+
+    def test_the_right_piece_is_carried_by_a_finger_and_two_pinch(self):
+        self.vamp()
+        view = self.view()
+        touch = """const box = canvas.getBoundingClientRect();
+            const touch = (type, id, [x, y]) => canvas.dispatchEvent(new PointerEvent(type, { pointerId: id, pointerType: 'touch', clientX: box.left + x, clientY: box.top + y, bubbles: true }));"""
+        self.js(touch + "touch('pointerdown', 7, arguments[0]); touch('pointermove', 7, arguments[1]); touch('pointerup', 7, arguments[1]);", self.place(0, -90), self.place(-70, 70))
+        self.assertEqual(self.text("#verdict"), "overlapping at (-70,70)")
+        self.assertEqual(self.view(), view)
+        self.js(touch + """touch('pointerdown', 7, [250, 300]); touch('pointerdown', 8, [350, 300]);
+            touch('pointermove', 7, [200, 300]); touch('pointermove', 8, [400, 300]); touch('pointerup', 7, [200, 300]); touch('pointerup', 8, [400, 300]);""")
+        self.assertAlmostEqual(self.view()["scale"] / view["scale"], 2, places=6)
+
+    def test_the_right_piece_by_keys(self):
+        self.vamp()
+        view = self.view()
+        self.settled(150, -20)
+        for keys, place in [([Keys.ARROW_RIGHT], "apart at (151,-20)"), ([Keys.ARROW_LEFT] * 2, "overlapping at (149,-20)"), ([Keys.ARROW_UP], "overlapping at (149,-19)"), ([Keys.ARROW_DOWN] * 3, "overlapping at (149,-22)")]:
+            self.key(*keys)
+            self.assertEqual(self.text("#verdict"), place)
+        for key, place in [(Keys.ARROW_RIGHT, "(159,-22)"), (Keys.ARROW_UP, "(159,-12)"), (Keys.ARROW_LEFT, "(149,-12)"), (Keys.ARROW_DOWN, "(149,-22)")]:
+            ActionChains(self.d, duration=0).key_down(Keys.SHIFT).send_keys(key).key_up(Keys.SHIFT).perform()
+            self.frame()
+            self.assertTrue(self.text("#verdict").endswith(" at " + place), self.text("#verdict"))
+        self.assertEqual(self.view(), view, "the view stays")
+        self.js("zoomAt(10, 10, 8)")
+        self.key(Keys.ARROW_UP)
+        x, y = self.place(149, -21)
+        self.assertTrue(0 < x < view["w"] and 0 < y < view["h"], "a piece that is moved by keys is brought into view")
+        self.key("f")
+        self.assertEqual(self.view(), view)
+
+    def test_places_and_pairs_beside_one_another(self):
+        self.d.find_element(By.ID, "files").send_keys(str(ROOT / "examples/vamp.job"))
+        self.settle()
+        self.paste(VAMP_CONTOURS)
+        self.assertEqual(self.rows(), [])
+        self.click("#tabs [data-mode=pairs]")
+        self.assertEqual([r[0] for r in self.rows()], ["0 0", "0 1"])
+        self.assertEqual(self.js("return document.getElementById('verdict').textContent"), "")
+        self.assertIn("difference, 10 corners", self.labels())
+        at = self.place(0, 0)
+        self.key(Keys.ARROW_UP)
+        self.near(self.place(0, 0), (at[0], at[1] + 60))
+        self.drop(dart__out=DART)
+        self.assertEqual(self.text("#tabs"), "Parts\nPairs\nPlaces")
+        self.click("#tabs [data-mode=places]")
+        self.assertTrue(self.text("#verdict").endswith(" at (0,0)"))
+        # the listing put away, places stay; the contours put away, pairs are left
+        self.click(".chip button")
+        self.assertEqual((self.js("return state.mode"), self.text("#tabs")), ("places", "Pairs\nPlaces"))
+        self.js("document.querySelectorAll('.chip button')[1].click()")
+        self.frame()
+        self.assertEqual(self.js("return state.mode"), "pairs")
+        self.assertFalse(self.d.find_element(By.ID, "tabs").is_displayed())
+        self.assertFalse(self.d.find_element(By.ID, "verdict").is_displayed())
+
     # ---- large ones
 
     def test_2048_parts_are_drawn_quickly(self):
@@ -665,6 +887,17 @@ class Viewer(unittest.TestCase):
         self.assertLess(time.monotonic() - began, 10)
         self.assertEqual(self.text(".line p"), lines[-1])
 
+    def test_places_among_32768_contours(self):
+        lefts = [[(x, 0), (x + 9, 0), (x + 9, 9)] for x in range(2048)]
+        rights = [[(0, -10 * j), (1, -10 * j), (0, 1 - 10 * j)] for j in range(16)]
+        contours = [[(x, 10 * j), (x + 9, 10 * j), (x + 9, 10 * j + 9), (x, 10 * j + 9)] for x in range(2048) for j in range(16)]
+        self.drop(**difference(lefts, rights, contours))
+        self.assertEqual(self.words([[1000, 9], [1000, 1], [3000, 1]]), ["touching", "overlapping", "apart"])
+        times = self.js("""const times = [];
+            for (let k = 0; k < 15; k++) { const t = performance.now(); placeAt(100 * k, 9); draw(); context.getImageData(0, 0, 1, 1); times.push(performance.now() - t); }
+            return times.sort((a, b) => a - b)""")
+        self.assertLess(times[7], 60, f"a move of the piece takes {times[7]} ms")
+
     # ---- colours and themes
 
     def test_colours_differ_for_colour_blind_readers(self):
@@ -684,9 +917,10 @@ class Viewer(unittest.TestCase):
         def channels(colour):
             return [int(colour[k:k + 2], 16) for k in (1, 3, 5)]
 
-        # each way in which parts are drawn: on paper and over triangles, light and dark
-        palette, ways = self.js("return [PALETTE, [LIGHT, DARK].flatMap((c) => [[c.paper, OPACITY.plain], [c.triangle, OPACITY.overTriangles]])]")
-        for paper, opacity in ways:
+        # each way in which parts are drawn: on paper and over triangles, and the outlines of pieces at places, light and dark
+        ways = self.js("""return [LIGHT, DARK].flatMap((c) => [
+            [PALETTE, c.paper, OPACITY.plain], [PALETTE, c.triangle, OPACITY.overTriangles], [[c.left, ...[APART, TOUCHING, OVERLAPPING].map((word) => c[word])], c.covered, 1]])""")
+        for palette, paper, opacity in ways:
             for name, matrix in blind.items():
                 seen = []
                 for colour in palette:
@@ -766,6 +1000,10 @@ class Viewer(unittest.TestCase):
         self.assertEqual(made, self.js("return drawSvg(viewForPrint(), LIGHT)"))
         bad = subprocess.run([str(HERE / "picture"), str(ROOT / "examples/refused_3.out")], capture_output=True, text=True)
         self.assertEqual((bad.returncode, bad.stdout), (3, ""))
+        for places, sentence in [(["0", "0"], "Only the pair job of a difference has places."), (["0"], "--placed takes an X and a Y for each place"), (["0", "1.5"], "1.5 is no whole number")]:
+            bad = subprocess.run([str(HERE / "picture"), str(ROOT / "examples/vamp.contours"), "--placed", *places], capture_output=True, text=True)
+            self.assertEqual((bad.returncode, bad.stdout), (2, ""))
+            self.assertIn(sentence, bad.stderr)
 
     def test_the_readmes_pictures_are_what_is_drawn_now(self):
         self.drop(bag__txt=(ROOT / "examples/bag.txt").read_bytes(), bag__out=BAG)
@@ -773,6 +1011,9 @@ class Viewer(unittest.TestCase):
         self.drop(pocket__job=JOB, pocket__contours=CONTOURS)
         self.js("selectPair(1, 0)")
         self.assertEqual((ROOT / "docs/pictures/pair.svg").read_text(), self.js("return drawSvg(viewForPrint(), LIGHT)"))
+        self.vamp()
+        self.js("showPlaces([[0, -90], [150, -20], [-70, 70]])")
+        self.assertEqual((ROOT / "docs/pictures/placed.svg").read_text(), self.js("return drawSvg(viewForPrint(), LIGHT)"))
 
     def test_the_page_is_one_file_and_asks_the_network_nothing(self):
         page = (HERE / "index.html").read_text()
@@ -785,6 +1026,7 @@ def screenshots(folder):
     folder.mkdir(parents=True, exist_ok=True)
     bag = {"bag__txt": (ROOT / "examples/bag.txt").read_bytes(), "bag__out": BAG}
     pocket = {"pocket__job": JOB, "pocket__contours": CONTOURS}
+    vamp = {"vamp__job": VAMP_JOB, "vamp__contours": VAMP_CONTOURS}
     scenes = [
         ("empty", {}, ""),
         ("dart", {"dart__out": DART}, ""),
@@ -794,6 +1036,8 @@ def screenshots(folder):
         ("parts-2048-near", {"quilt__out": listing(quilt(32, 16, 100))}, "zoomAt(400, 300, 6)"),
         ("sum", pocket, "selectPair(1, 0)"),
         ("sum-dark", pocket, "selectPair(1, 0); setTheme(true)"),
+        ("places", vamp, "placeAt(150, -20)"),
+        ("places-dark", vamp, "placeAt(-70, 70); setTheme(true)"),
         ("refused", {**bag, "bag__out": "refused 4\n"}, ""),
         ("bad", {"dart__out": DART}, "showText('parts 2', 'bad.out')"),
     ]
