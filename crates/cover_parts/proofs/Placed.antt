@@ -1,7 +1,7 @@
 -- Where meshes meet and overlap (`meshes-placed`): by pairs of polygons, and then whatever the polygons are that cover the meshes. Assumes nothing.
 use mathlib.Core.Path.{_≡_, subst₂}
 use mathlib.Core.Bool.{true}
-use mathlib.Core.List.{List, [], map}
+use mathlib.Core.List.{List, map}
 use mathlib.Core.Logic.{_↔_, Iff·symm, Iff·trans}
 use lib.IntN.{ℤ, pos}
 use lib.Signed.{_<ℤ_}
@@ -9,6 +9,7 @@ use Rattle.integers.specs.Lists.{All, Any}
 use Rattle.integers.proofs.Elements.{all-map, all-every, all-flatten, all-image}
 use Rattle.plane.specs.Plane.{Pt}
 use Rattle.pair.specs.Pair.{pairContour}
+use Rattle.pair.specs.Premise.{strictlyConvex}
 use Rattle.pair.proofs.Theorem.{demand3}
 use Rattle.convex_pairs.proofs.Convexity.{Polygon}
 use Rattle.minkowski.specs.Pairs.{pairsOf}
@@ -35,12 +36,12 @@ polygons-overlap X Y a b q z hq =
     (Iff·trans (pairs-iff (λ A B. StrictlyInside (pairContour true A B) q z) (λ A B. Overlap A B q z) Polygon Polygon X Y (λ A B p r. pair-overlap A B p r q z hq) a b)
     (Iff·symm (wholes-overlap X Y q z hq)))
 
-pairs-filled : (X Y : List (List Pt)) → All Polygon X → All Polygon Y → All (λ l. l ≡ [] → ⊥) (pairsOf true X Y)
+pairs-convex : (X Y : List (List Pt)) → All Polygon X → All Polygon Y → All (λ l. strictlyConvex l ≡ true) (pairsOf true X Y)
 unfolding pairsOf
-pairs-filled X Y a b =
-    all-flatten (λ l. l ≡ [] → ⊥) (map (λ A. map (pairContour true A) Y) X) .1
-    (all-image (All (λ l. l ≡ [] → ⊥)) (λ A. map (pairContour true A) Y) X .1
-    (all-map X (λ A p. all-image (λ l. l ≡ [] → ⊥) (pairContour true A) Y .1 (all-map Y (λ B r. demand3 true A B (polygon-once A p) (polygon-once B r) .reaches .nonempty) b)) a))
+pairs-convex X Y a b =
+    all-flatten (λ l. strictlyConvex l ≡ true) (map (λ A. map (pairContour true A) Y) X) .1
+    (all-image (All (λ l. strictlyConvex l ≡ true)) (λ A. map (pairContour true A) Y) X .1
+    (all-map X (λ A p. all-image (λ l. strictlyConvex l ≡ true) (pairContour true A) Y .1 (all-map Y (λ B r. demand3 true A B (polygon-once A p) (polygon-once B r) .convex) b)) a))
 
 pub meshes-placed : MeshesPlaced
 meshes-placed how m mesh how′ m′ mesh′ h k q z hq =
@@ -53,7 +54,7 @@ meshes-placed how m mesh how′ m′ mesh′ h k q z hq =
     let wholes : Any (λ l. StrictlyInside l q z) (pairsOf true X Y) ↔ Overlapping S T q z =
     Iff·trans (polygons-overlap X Y (split-polygons how m mesh h) (split-polygons how′ m′ mesh′ k) q z hq) (same-overlap X Y S T f g q z, same-overlap S T X Y (same-back X S f) (same-back Y T g) q z) in
     record {
-      filled = pairs-filled X Y (split-polygons how m mesh h) (split-polygons how′ m′ mesh′ k);
+      convex = pairs-convex X Y (split-polygons how m mesh h) (split-polygons how′ m′ mesh′ k);
       meets = Iff·trans (pairs-cover true how m mesh how′ m′ mesh′ h k q z hq)
           (pairs-iff (λ s t. Sum true (triangleContour s) (triangleContour t) q z) (λ s t. Meet (triangleContour s) (triangleContour t) q z) (λ s. Unit {0}) (λ t. Unit {0}) mesh mesh′
           (λ s t a b. sum-meet (triangleContour s) (triangleContour t) q z) (all-every (λ s. Unit {0}) mesh (λ s. tt)) (all-every (λ t. Unit {0}) mesh′ (λ t. tt)));

@@ -1,7 +1,7 @@
 -- Where a mesh, moved by z/q, meets or overlaps another, read off the contours of all pairs of their parts (`Placed`). Assumes nothing.
 use mathlib.Core.Path.{_≡_}
 use mathlib.Core.Bool.{true}
-use mathlib.Core.List.{List, [], map}
+use mathlib.Core.List.{List, map}
 use mathlib.Core.Logic.{_↔_}
 use Prim.Native.Nat.{ℕ}
 use lib.IntN.{ℤ, pos}
@@ -10,6 +10,7 @@ use Rattle.integers.specs.Lists.{All, Any}
 use Rattle.integers.specs.Faults.{firstFault}
 use Rattle.plane.specs.Plane.{Pt}
 use Rattle.mesh.specs.Mesh.{Mesh, meshKinds}
+use Rattle.pair.specs.Premise.{strictlyConvex}
 use Rattle.minkowski.specs.Pairs.{pairsOf}
 use Rattle.split.specs.declared.ConvexSplitStrategy.{ConvexSplitStrategy}
 use Rattle.split.specs.Splitting.{splitParts}
@@ -19,8 +20,8 @@ use Rattle.cover_parts.specs.Parts.{triangleContour}
 
 -- L are the contours of all pairs, and the second mesh is moved by z/q
 pub record Placed (L : List (List Pt)) (mesh mesh′ : Mesh) (q : ℤ) (z : Pt) : Type 0 where
-  -- none is empty, so none holds every point
-  pub filled : All (λ l. l ≡ [] → ⊥) L
+  -- each goes once round a convex area, so it holds neither every point nor a whole line
+  pub convex : All (λ l. strictlyConvex l ≡ true) L
   -- z/q is inside one exactly where some triangles of the two share a point
   pub meets : Covered L q z ↔ SomePair (λ s t. Meet (triangleContour s) (triangleContour t) q z) mesh mesh′
   -- strictly inside one exactly where some triangles share a point strictly inside both

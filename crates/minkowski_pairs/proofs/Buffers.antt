@@ -14,7 +14,7 @@ use Rattle.pair.specs.Premise.{onceRound}
 use Rattle.pair.proofs.Theorem.{demand3, sum-is-de-berg}
 use Rattle.minkowski.specs.Pairs.{Operand, operandParts, pairsOf, pairContours, pairsFault}
 use Rattle.minkowski.proofs.EachPair.{length-pairs, each-pair}
-use Rattle.minkowski_pairs.specs.Results.{resultContours, ResultIsPairs, Emitted, TableReach, TableDeBerg, PairsShard}
+use Rattle.minkowski_pairs.specs.Results.{resultContours, ResultIsPairs, EmittedWhole, TableReach, TableDeBerg, PairsShard}
 
 pub result-is-pairs : ResultIsPairs
 result-is-pairs reflected l r s c h = contours-left (pairContours reflected l r) (length (operandParts l) * length (operandParts r)) (pairsFault reflected l r (length s) (length c)) s c (sym (length-pairs reflected (operandParts l) (operandParts r))) h
@@ -26,12 +26,12 @@ pair-stands :
 pair-stands reflected l r s c h i j hi hj = ap (λ ps. getD ps (i * length (operandParts r) + j) []) (result-is-pairs reflected l r s c h) ∙ each-pair reflected (operandParts l) (operandParts r) i j hi hj
 
 -- demand 3 of the contour that the two walks give
-pub emitted : (reflected : Bool) (A B : List Pt) → onceRound A ≡ true → onceRound B ≡ true → Emitted reflected A B (pairContour reflected A B)
+pub emitted : (reflected : Bool) (A B : List Pt) → onceRound A ≡ true → onceRound B ≡ true → EmittedWhole reflected A B (pairContour reflected A B)
 emitted reflected A B a b = record { walked = refl; reach = demand3 reflected A B a b }
 
 pub table-reach : TableReach
 table-reach reflected l r s c h i j hi hj a b =
-    subst (Emitted reflected _ _) (sym (pair-stands reflected l r s c h i j hi hj)) (emitted reflected (getD (operandParts l) i []) (getD (operandParts r) j []) a b)
+    subst (EmittedWhole reflected _ _) (sym (pair-stands reflected l r s c h i j hi hj)) (emitted reflected (getD (operandParts l) i []) (getD (operandParts r) j []) a b)
 
 pub table-de-berg : TableDeBerg
 table-de-berg l r s c h i j hi hj a b =

@@ -34,7 +34,7 @@ ResultIsPairs =
 -- ---- demand 3 of the table
 
 -- demand 3's whole sentence of a contour K emitted for A and B: "the one that document 01's two walks give, beginning with the sum of the walks' first points", and the rest of it
-pub record Emitted (reflected : Bool) (A B K : List Pt) : Type 0 where
+pub record EmittedWhole (reflected : Bool) (A B K : List Pt) : Type 0 where
   pub walked : K ≡ pairContour reflected A B
   pub reach : FarthestReach (pointOf A (begin false A) +ᵖ pointOf B (begin reflected B)) A (second reflected B) K
 
@@ -44,7 +44,7 @@ TableReach =
     (reflected : Bool) (l r : Operand) (s : List ℕ) (c : List ℤ) → pairsFault reflected l r (length s) (length c) ≡ 0 →
     (i j : ℕ) → i < length (operandParts l) → j < length (operandParts r) →
     onceRound (getD (operandParts l) i []) ≡ true → onceRound (getD (operandParts r) j []) ≡ true →
-    Emitted reflected (getD (operandParts l) i []) (getD (operandParts r) j []) (getD (resultContours reflected l r s c) (i * length (operandParts r) + j) [])
+    EmittedWhole reflected (getD (operandParts l) i []) (getD (operandParts r) j []) (getD (resultContours reflected l r s c) (i * length (operandParts r) + j) [])
 
 -- "on strictly convex contours the sum is proved to be de Berg et al.'s"
 abbrev pub TableDeBerg : Type 0

@@ -5,5 +5,5 @@ pub mod Steps
 pub mod Rows
 pub mod Started
 pub mod Sizes
-pub mod Placed
+pub mod Fitting
 pub mod Putting

@@ -17,7 +17,7 @@ use Rattle.pairs_work.specs.declared.Begun.{Begun}
 use Rattle.pairs_text.specs.declared.Chunk.{Chunk}
 use Rattle.pairs_text.specs.Pieces.{taking}
 
--- the bytes of the longest first line
+-- room for any first line
 abbrev pub firstRoom : ℕ
 firstRoom = 154
 
@@ -33,7 +33,7 @@ module _ (x : Begun) (lf : List ℕ) (lp : List (List ℤ)) (rf : List ℕ) (rp 
   unfoldable pub piecesIn : List (List ℕ)
   piecesIn = firstIn ∷ map lineIn (upTo (x .left * x .right))
 
-  -- as many pairs as a head line can tell, none of a job that is refused; of another the walks of both operands, with corners few enough to be counted
+  -- fewer pairs than 2^32, none of a job that is refused; of another the walks of both operands, with corners few enough to be counted
   pub record Started : Type 0 where
     pub few : x .left * x .right < 4294967296
     pub refused : (x .fault ≡ 0 → ⊥) → x .left * x .right ≡ 0
@@ -47,7 +47,7 @@ module _ (x : Begun) (lf : List ℕ) (lp : List (List ℤ)) (rf : List ℕ) (rp 
     pub for-corners : 4 * maxContour ≤ length work
 
   -- and to put piece k
-  pub record Placed (k : ℕ) (work : List ℤ) (out : List ℕ) : Type 0 where
+  pub record Fitting (k : ℕ) (work : List ℤ) (out : List ℕ) : Type 0 where
     pub workable : Workable work
     pub inside : k < 1 + x .left * x .right
     pub for-line : lineRoom ≤ length out

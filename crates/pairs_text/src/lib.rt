@@ -10,7 +10,7 @@ ghost use Rattle.io.specs.Counts.{Counts};
 ghost use Rattle.integers.specs.Lists.{overlay};
 ghost use Rattle.text.specs.Put.{PutText};
 ghost use Rattle.pairs_text.specs.Pieces.{chunkOf, nextOf, moreOf};
-ghost use Rattle.pairs_text.specs.Walks.{firstRoom, firstIn, piecesIn, Started, Placed, Workable, Handed};
+ghost use Rattle.pairs_text.specs.Walks.{firstRoom, firstIn, piecesIn, Started, Fitting, Workable, Handed};
 use pairs_work::Begun;
 use pairs_work::FIRSTS;
 use pairs_work::POINTS;
@@ -65,7 +65,7 @@ fn put_piece(
     work: &mut [i32],
     out: &mut [u8],
 ) -> usize
-    requires { ⌜ Placed begun (now lf) (now lp) (now rf) (now rp) k (now work) (now out) ⌝ }
+    requires { ⌜ Fitting begun (now lf) (now lp) (now rf) (now rp) k (now work) (now out) ⌝ }
     ensures { λ r. ⌜ PutText (getD (piecesIn begun (now (lf .entry)) (now (lp .entry)) (now (rf .entry)) (now (rp .entry))) k []) 0 (now (out .entry)) (now (out .exit)) r ⌝ }
 {
     if k == 0 {

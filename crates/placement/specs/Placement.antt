@@ -1,6 +1,6 @@
 -- Where a whole-number place lies by the contours of a pair result: inside none (apart), on the rim of some and strictly inside none (touching), strictly inside some
--- (overlapping). Of differences that says whether the second piece, moved to the place, meets or overlaps the first ("Those contours bound where a piece may lie"):
--- placement_meshes/specs. Contours are any starts and corners. Assumes nothing.
+-- (overlapping). Of the differences of two meshes that says whether the second, moved to the place, meets or overlaps the first ("Those contours bound where a piece may lie"):
+-- placement_meshes/specs. Contours are any starts and corners; of one that is not convex the tests say where the place lies by its edges, no more. Assumes nothing.
 use mathlib.Core.Path.{_≡_}
 use mathlib.Core.Bool.{Bool, true, false, cond}
 use mathlib.Core.List.{List, [], _∷_}
@@ -28,7 +28,7 @@ module _ {A : Type 0} where
   some t [] = false
   some t (x ∷ l) = cond (t x) true (some t l)
 
--- ---- one contour, counter-clockwise as pair contours are
+-- ---- one contour, counter-clockwise and convex as those of meshes' parts are
 
 -- how far z is left of an edge: the doubled area of its ends and z
 abbrev pub side : Pt → Pt × Pt → ℤ
@@ -44,7 +44,7 @@ leftOrNone z e = cond (ltZ (pos 0) (side z e)) true (eqPt (e .0) (e .1))
 abbrev pub leftOf : Pt → Pt × Pt → Bool
 leftOf z e = ltZ (pos 0) (side z e)
 
--- z is not past all corners to one side: by its edges alone a contour on one line, as two segments in line give, would cover the whole line, and an empty one everything
+-- z is within the corners' least and greatest x and y: by its edges alone a contour on one line, as two segments in line give, would cover the whole line, and an empty one everything
 unfoldable pub among : List Pt → Pt → Bool
 among l z =
     cond (some (λ c. leZ (c .x) (z .x)) l)

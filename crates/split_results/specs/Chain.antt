@@ -13,12 +13,12 @@ use Rattle.pair.specs.Berg.{deBerg}
 use Rattle.split.specs.declared.ConvexSplitStrategy.{ConvexSplitStrategy}
 use Rattle.split.specs.Splitting.{splitParts}
 use Rattle.minkowski.specs.Pairs.{pairsFault}
-use Rattle.minkowski_pairs.specs.Results.{resultContours, Emitted}
+use Rattle.minkowski_pairs.specs.Results.{resultContours, EmittedWhole}
 use Rattle.split_operand.specs.Operand.{splitOperand}
 
 -- K is the exact sum or difference of A and B: all that demand 3 says of it, and a sum is de Berg et al.'s
 pub record Exact (reflected : Bool) (A B K : List Pt) : Type 0 where
-  pub whole : Emitted reflected A B K
+  pub whole : EmittedWhole reflected A B K
   pub berg : reflected ≡ false → K ≡ deBerg A B
 
 -- every contour that an accepted call leaves for the split parts of two accepted meshes is exact

@@ -3,7 +3,7 @@ use Prim.Native.Nat.{_*_}
 use native.Mathlib.Omega.{arith}
 use borrow.Author.Needs.{needs}
 use Rattle.text.proofs.Puts.{put-as}
-use Rattle.pairs_text.proofs.Placed.{first-refused, first-head}
+use Rattle.pairs_text.proofs.Fitting.{first-refused, first-head}
 use Rattle.pairs_text.proofs.Sizes.{refusal-any, head-any}
 use Rattle.pairs_text.proofs.put_first.Statement.{statement}
 use Rattle.pairs_text.proofs.put_first.Tie as tie

@@ -2,7 +2,7 @@
 use native.Mathlib.Omega.{arith}
 use borrow.Author.Needs.{needs}
 use Rattle.text.proofs.Puts.{put-as}
-use Rattle.pairs_text.proofs.Placed.{piece-first, piece-line, some-right, puttable}
+use Rattle.pairs_text.proofs.Fitting.{piece-first, piece-line, some-right, puttable}
 use Rattle.pairs_text.proofs.put_piece.Statement.{statement}
 use Rattle.pairs_text.proofs.put_piece.Tie as tie
 

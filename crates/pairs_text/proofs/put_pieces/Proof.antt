@@ -4,7 +4,7 @@ use Prim.Native.Nat.{_-_}
 use native.Mathlib.Omega.{arith}
 use lib.ListN.{length}
 use Rattle.pairs_text.specs.Walks.{piecesIn}
-use Rattle.pairs_text.proofs.Placed.{count-pieces}
+use Rattle.pairs_text.proofs.Fitting.{count-pieces}
 use Rattle.pairs_text.proofs.Putting.{Putting, putting-none, rest-length, putting-length, putting-inside, putting-turn, handed-full, handed-all}
 use Rattle.pairs_text.proofs.put_pieces.Statement.{statement}
 use Rattle.pairs_text.proofs.put_pieces.Tie as tie

@@ -18,7 +18,7 @@ use Rattle.minkowski_count.specs.Counting.{allCount}
 use Rattle.pair_lines.specs.Lines.{pairsHead}
 use Rattle.pair_lines.specs.Putting.{Puttable}
 use Rattle.pairs_work.specs.declared.Begun.{Begun}
-use Rattle.pairs_text.specs.Walks.{firstIn, lineIn, piecesIn, Placed}
+use Rattle.pairs_text.specs.Walks.{firstIn, lineIn, piecesIn, Fitting}
 
 module _ (x : Begun) (lf : List ℕ) (lp : List (List ℤ)) (rf : List ℕ) (rp : List (List ℤ)) where
   pub count-pieces : length (piecesIn x lf lp rf rp) ≡ 1 + x .left * x .right
@@ -58,7 +58,7 @@ module _ (x : Begun) (lf : List ℕ) (lp : List (List ℤ)) (rf : List ℕ) (rp 
       let z : suc k - 1 ≡ k = omega arith in
       ap (lineIn x lf lp rf rp) z ∙ sym (line-at k (omega arith))
 
-  module _ {k : ℕ} {work : List ℤ} {out : List ℕ} (p : Placed x lf lp rf rp k work out) (d : k ≡ 0 → ⊥) where
+  module _ {k : ℕ} {work : List ℤ} {out : List ℕ} (p : Fitting x lf lp rf rp k work out) (d : k ≡ 0 → ⊥) where
     pub some-right : 0 < x .right
     some-right = some (x .left) (x .right) (omega (arith, p .inside))
       where
