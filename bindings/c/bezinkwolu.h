@@ -206,10 +206,10 @@ typedef struct bezinkwolu_told_placement {
 } bezinkwolu_told_placement;
 
 /* Where the place (x, y) lies by the contours of a pair result: starts and corners as the two calls above leave them, contours + 1 starts and 2 * corners numbers, not
- * the room that was lent. The limits of a part table do not bind. Contours are taken to go counter-clockwise once round a convex
- * area, as those of meshes' parts do: a place inside one that is not convex may be told apart.
- * Strictly inside a contour: left of each of its edges that has a length, and there is one. Inside: on or left of each edge, and within the corners'
- * least and greatest x and y. An empty contour covers nothing. Each contour is asked alone: a place on an edge that two of them share is strictly inside neither.
+ * the room that was lent. The limits of a part table do not bind. Contours are taken to go counter-clockwise once round a convex area, as those of meshes' parts do: a
+ * place inside one that is not convex may be told apart.
+ * Strictly inside a contour: left of each of its edges that has a length, and there is one. Inside: on or left of each edge, and within the corners' least and greatest
+ * x and y. An empty contour covers nothing. Each contour is asked alone: a place on an edge that two of them share is strictly inside neither.
  * Of the differences (difference_parts, left less right) of two accepted meshes' parts, split or not: 2 exactly where the right mesh, moved by (x, y), overlaps the left
  * one, 1 exactly where they meet and do not overlap, 0 where they are apart: proved (crates/placement_meshes).
  * Refuses: 7 for starts that do not begin with 0, that fall, or that do not end with how many corners there are, and for an odd corners_length; 2 (of x, y or any

@@ -105,8 +105,9 @@ impl PairTable {
         self.bbox
     }
 
-    /// Where the place (x, y) lies by these contours. Strictly inside one is left of each of its edges; inside is on or left of each, and within the corners' least and greatest x and y;
-    /// an empty contour covers nothing. Contours are taken to go once round a convex area, as those of meshes' parts do: a place inside one that is not convex may be told apart. Each is asked alone: a place on an edge that two of them share is strictly inside neither.
+    /// Where the place (x, y) lies by these contours. Strictly inside one is left of each of its edges; inside is on or left of each, and within the corners' least and
+    /// greatest x and y; an empty contour covers nothing. Contours are taken to go once round a convex area, as those of meshes' parts do: a place inside one that is not
+    /// convex may be told apart. Each is asked alone: a place on an edge that two of them share is strictly inside neither.
     ///
     /// Of the differences of two meshes' parts, split or not, this is how the meshes lie: the right one, moved by (x, y), overlaps the left one, touches it, or is
     /// apart from it: proved.
