@@ -32,7 +32,7 @@ fn sum(a: i32, b: i32) -> i32
 }
 
 // The sum of point i of a and point j of b is put as corner k.
-fn put_sum(a: &[[i32; 2]], i: usize, b: &[[i32; 2]], j: usize, out: &mut [i32], k: usize)
+pub fn put_sum(a: &[[i32; 2]], i: usize, b: &[[i32; 2]], j: usize, out: &mut [i32], k: usize)
     requires { ⌜ (i < length (now a)) × Grid (now a) × (j < length (now b)) × Grid (now b) × RoomAfter ((cornerAt (now a) i +ᵖ cornerAt (now b) j) ∷ []) (now out) k ⌝ }
     ensures { λ r. ⌜ Put ((cornerAt (now (a .entry)) i +ᵖ cornerAt (now (b .entry)) j) ∷ []) (now (out .entry)) k (now (out .exit)) (k + 1) ⌝ }
 {
@@ -44,7 +44,7 @@ fn put_sum(a: &[[i32; 2]], i: usize, b: &[[i32; 2]], j: usize, out: &mut [i32], 
 }
 
 // From point i to the next.
-fn edge(a: &[[i32; 2]], i: usize) -> IntVector
+pub fn edge(a: &[[i32; 2]], i: usize) -> IntVector
     requires { ⌜ (i + 1 < length (now a)) × Grid (now a) ⌝ }
     ensures { λ r. ⌜ (vector r ≡ edgeAt (pointsIn (now (a .entry))) i) × Short r ⌝ }
 {

@@ -1,0 +1,2 @@
+-- Where walks lie, and that unrolled parts are walks.
+pub mod Walks
