@@ -1,37 +1,25 @@
-// The numbers of a walk's points (direction_keys), written into lent buffers, once for each walk. Leans on direction_keys, pair_merge (laws of edges read),
-// convex_ring (points read), plane.
+// The numbers of walks' points (direction_keys), by which pairs are merged: `number_walks` writes them for all walks of two operands, once, into a lent buffer with a place
+// a point (`Numbered` of specs/Numbers.antt). Leans on direction_keys, pair_merge (edges read), pair_walks and plane.
 ghost use mathlib.Core.Path.{_≡_};
-ghost use Prim.Native.Nat.{_+_, _<_, _≤_};
-ghost use lib.ListN.{length};
-ghost use Rattle.plane.specs.Machine.{vector, Short};
+ghost use Prim.Native.Nat.{_+_, _<_, _≤_, _^_};
+ghost use lib.ListN.{length, getD};
 ghost use Rattle.convex_ring.specs.Buffers.{Grid};
 ghost use Rattle.pair_points.proofs.Turns.{edgeAt};
 ghost use Rattle.pair_merge.specs.Putting.{pointsIn, Mergeable};
 ghost use Rattle.direction_keys.specs.Marks.{mark, leftNumber, rightNumber, SmallEdge};
-ghost use Rattle.pair_numbers.specs.Numbers.{LeftNumbers, RightNumbers};
-use plane::IntVector;
+ghost use Rattle.pair_walks.specs.Walks.{Walks};
+ghost use Rattle.pair_numbers.specs.Numbers.{NumbersOf, WalkIn, Numbered, NumberedTo};
 use plane::Ordering;
 
 // Above the number of any edge: that of the last point.
 const LAST: u64 = 18446744073709551615;
-
-// From point i to the next.
-fn edge(a: &[[i32; 2]], i: usize) -> IntVector
-    requires { ⌜ (i + 1 < length (now a)) × Grid (now a) ⌝ }
-    ensures { λ r. ⌜ (vector r ≡ edgeAt (pointsIn (now (a .entry))) i) × Short r ⌝ }
-{
-    plane::subtract(
-        convex_ring::corner_at(a, i + 1),
-        convex_ring::corner_at(a, i),
-    )
-}
 
 // The key of edge i, doubled.
 fn edge_number(a: &[[i32; 2]], i: usize) -> u64
     requires { ⌜ (i + 1 < length (now a)) × Mergeable (now a) ⌝ }
     ensures { λ r. ⌜ (r ≡ rightNumber (pointsIn (now (a .entry))) i) × SmallEdge (edgeAt (pointsIn (now (a .entry))) i) ⌝ }
 {
-    2 * direction_keys::key_of(edge(a, i))
+    2 * direction_keys::key_of(pair_merge::edge(a, i))
 }
 
 // 1 where the edge after edge i comes before it in direction.
@@ -42,7 +30,7 @@ fn mark(a: &[[i32; 2]], i: usize) -> u64
     if i + 1 + 1 == a.len() {
         return 0;
     }
-    let order = plane::angle_cmp(edge(a, i + 1), edge(a, i));
+    let order = plane::angle_cmp(pair_merge::edge(a, i + 1), pair_merge::edge(a, i));
     match order {
         Ordering::Less => 1,
         Ordering::Equal => 0,
@@ -50,47 +38,58 @@ fn mark(a: &[[i32; 2]], i: usize) -> u64
     }
 }
 
-// The number of point i of a right walk, and of a left one.
-fn right_number(a: &[[i32; 2]], i: usize) -> u64
+// The number of point i of a walk, of the left operand's where `first`.
+fn number_of(a: &[[i32; 2]], i: usize, first: bool) -> u64
     requires { ⌜ (i < length (now a)) × Mergeable (now a) ⌝ }
-    ensures { λ r. ⌜ r ≡ rightNumber (pointsIn (now (a .entry))) i ⌝ }
-{
-    if i + 1 == a.len() {
-        return LAST;
-    }
-    edge_number(a, i)
-}
-
-fn left_number(a: &[[i32; 2]], i: usize) -> u64
-    requires { ⌜ (i < length (now a)) × Mergeable (now a) ⌝ }
-    ensures { λ r. ⌜ r ≡ leftNumber (pointsIn (now (a .entry))) i ⌝ }
+    ensures { λ r. ⌜ r ≡ numberOf first (pointsIn (now (a .entry))) i ⌝ }
 {
     if i + 1 == a.len() {
         return LAST;
     }
     let number = edge_number(a, i);
-    number - mark(a, i)
+    if first {
+        return number - mark(a, i);
+    }
+    number
 }
 
-// The numbers of all points of a right walk, and of a left one.
-pub fn right_numbers(a: &[[i32; 2]], out: &mut [u64])
-    requires { ⌜ Mergeable (now a) × (length (now a) ≤ 4294967296) × (length (now out) ≡ length (now a)) ⌝ }
-    ensures { λ r. ⌜ RightNumbers (now (out .exit)) (now (a .entry)) ⌝ }
+// The numbers of all points of a walk.
+fn put_numbers(a: &[[i32; 2]], first: bool, out: &mut [u64])
+    requires { ⌜ Mergeable (now a) × (length (now a) < 2 ^ 32) × (length (now out) ≡ length (now a)) ⌝ }
+    ensures { λ r. ⌜ NumbersOf first (now (out .exit)) (now (a .entry)) ⌝ }
 {
     let mut i: usize = 0;
     while i < a.len() {
-        out[i] = right_number(a, i);
+        out[i] = number_of(a, i, first);
         i += 1;
     }
 }
 
-pub fn left_numbers(a: &[[i32; 2]], out: &mut [u64])
-    requires { ⌜ Mergeable (now a) × (length (now a) ≤ 4294967296) × (length (now out) ≡ length (now a)) ⌝ }
-    ensures { λ r. ⌜ LeftNumbers (now (out .exit)) (now (a .entry)) ⌝ }
+// Those of walk n, whose points stand from firsts[n] to firsts[n + 1].
+fn number_walk(firsts: &[u32], points: &[[i32; 2]], n: usize, first: bool, numbers: &mut [u64])
+    requires { ⌜ Numberable (now firsts) (now points) n (now numbers) ⌝ }
+    ensures { λ r. ⌜ WalkNumbered first (now (firsts .entry)) n (walkAt (now (firsts .entry)) (now (points .entry)) n) (now (numbers .entry)) (now (numbers .exit)) ⌝ }
 {
-    let mut i: usize = 0;
-    while i < a.len() {
-        out[i] = left_number(a, i);
-        i += 1;
+    let from = firsts[n] as usize;
+    let to = firsts[n + 1] as usize;
+    put_numbers(&points[from..to], first, &mut numbers[from..to]);
+}
+
+// Those of all walks of two operands, the left one's first.
+pub fn number_walks(
+    firsts: &[u32],
+    points: &[[i32; 2]],
+    left: usize,
+    right: usize,
+    numbers: &mut [u64],
+)
+    requires { ⌜ Walks (now firsts) (now points) (left + right) × (length (now points) < 2 ^ 32) × (length (now points) ≤ length (now numbers)) ⌝ }
+    ensures { λ r. ⌜ (length (now (numbers .exit)) ≡ length (now (numbers .entry))) × NumberedTo (left + right) (walksIn (now (firsts .entry)) (now (points .entry)) (left + right)) (now (firsts .entry)) (now (numbers .exit)) left ⌝ }
+{
+    let all = left + right;
+    let mut n: usize = 0;
+    while n < all {
+        number_walk(firsts, points, n, n < left, numbers);
+        n += 1;
     }
 }
