@@ -1,12 +1,13 @@
 -- The walks of two operands that neither 9 nor 10 is told of have edges for which keys are exact (`walks-close`): no edge is longer than the bounds are wide, and the
--- bounds of both are together no wider than the result's. Assumes nothing.
-use mathlib.Core.Path.{_≡_, sym, subst}
+-- bounds of both are together no wider than the result's. So such walks with their numbers can be merged by them (`operands-keyed`). Assumes nothing.
+use mathlib.Core.Path.{_≡_, sym, _∙_, ap, subst₂}
 use mathlib.Core.Bool.{Bool, true, false, cond}
 use mathlib.Core.List.{List, [], map}
-use Prim.Native.Nat.{ℕ, _+_, _≤_, _<_}
+use Prim.Native.Nat.{ℕ, _+_, _≤_, _<_, _^_}
 use native.Mathlib.Omega.{arith}
 use lib.IntN.{ℤ, pos, natAbs, _+ℤ_, _-ℤ_, negℤ}
-use lib.ListN.{length, getD}
+use lib.ListN.{length, getD, length-take, length-drop}
+use lib.Seq.{getD-take, getD-drop}
 use lib.Signed.{_≤ℤ_, ltZ}
 use Rattle.integers.specs.Lists.{All}
 use Rattle.integers.proofs.Elements.{all-getD, all-map, all-image}
@@ -26,6 +27,8 @@ use Rattle.pair_points.proofs.OnContour.{unrolled-points}
 use Rattle.minkowski.specs.Pairs.{Operand, operandParts, sumBounds, resultBounds}
 use Rattle.minkowski_pairs.proofs.Bounds.{InBounds, turnedBounds, inside-neg, parts-inside, Unrefused}
 use Rattle.direction_keys.specs.Marks.{SmallEdge, Close}
+use Rattle.pair_walks.specs.Walks.{walksIn, walkIn, Walks, leftsIn, rightsIn}
+use Rattle.pair_numbers.specs.Numbers.{NumberedTo, Keyed}
 
 -- ---- edges within bounds
 
@@ -136,3 +139,32 @@ walks-close reflected l r u p q h k =
     (result-walk reflected (l .bounds) (r .bounds) (ranges _ (u .result-bounds))) _ _
     (all-getD (All (InBounds (l .bounds))) (map (unrolled false) (operandParts l)) [] (walks-within false l (u .left-table) (u .left-bounds)) p h)
     (all-getD (All (InBounds (walkBounds reflected (r .bounds)))) (map (unrolled reflected) (operandParts r)) [] (walks-within reflected r (u .right-table) (u .right-bounds)) q k)
+
+-- ---- the walks of two operands in a buffer, with a number a point
+
+module _
+    (reflected : Bool) (l r : Operand) (firsts : List ℕ) (points : List (List ℤ)) (left right : ℕ)
+    (lefts : leftsIn firsts points left right ≡ map (unrolled false) (operandParts l)) (rights : rightsIn firsts points left right ≡ map (unrolled reflected) (operandParts r)) where
+  abbrev ws : List (List Pt)
+  ws = walksIn firsts points (left + right)
+
+  pub operands-keyed :
+      (numbers : List ℕ) → Unrefused reflected l r → Walks firsts points (left + right) → length points < 2 ^ 32 → length points ≤ length numbers → NumberedTo (left + right) ws firsts numbers left →
+      Keyed firsts points numbers left right
+  operands-keyed numbers u w few size n = record { walks = w; few = few; size = size; numbered = n; close = close }
+    where
+      all : length ws ≡ left + right
+      all = sym (w .gathered .parts)
+
+      left-at : (p : ℕ) → p < left → getD (map (unrolled false) (operandParts l)) p [] ≡ walkIn firsts points (left + right) p
+      left-at p h = ap (λ a. getD a p []) (sym lefts) ∙ getD-take left ws p [] h
+
+      right-at : (q : ℕ) → getD (map (unrolled reflected) (operandParts r)) q [] ≡ walkIn firsts points (left + right) (left + q)
+      right-at q = ap (λ a. getD a q []) (sym rights) ∙ getD-drop left ws q []
+
+      close : (p q : ℕ) → p < left → q < right → Close (walkIn firsts points (left + right) p) (walkIn firsts points (left + right) (left + q))
+      close p q h k =
+          subst₂ Close (left-at p h) (right-at q)
+          (walks-close reflected l r u p q
+          (omega (arith, h, all, ap length lefts, length-take left ws))
+          (omega (arith, k, all, ap length rights, length-drop left ws)))
