@@ -84,6 +84,41 @@ def difference(lefts, rights, contours):
     return {"job": job, "contours": "\n".join(lines) + "\n"}
 
 
+def minkowski(a, b, sign):
+    """The contour of two convex parts, added (1) or subtracted (-1): the hull of all sums of corners, from its lowest, then leftmost corner."""
+    def half(points):
+        out = []
+        for x, y in points:
+            while len(out) > 1 and (out[-1][0] - out[-2][0]) * (y - out[-2][1]) <= (out[-1][1] - out[-2][1]) * (x - out[-2][0]):
+                out.pop()
+            out.append((x, y))
+        return out[:-1]
+    points = sorted({(p[0] + sign * q[0], p[1] + sign * q[1]) for p in a for q in b})
+    ring = half(points) + half(points[::-1])
+    first = ring.index(min(ring, key=lambda c: (c[1], c[0])))
+    return ring[first:] + ring[:first]
+
+
+def contours_of(lefts, rights, sign):
+    """What `contours` prints for two meshes of these parts, added (1) or subtracted (-1)."""
+    made = [minkowski(a, b, sign) for a in lefts for b in rights]
+    xs, ys = zip(*(c for contour in made for c in contour))
+    lines = [f"contours {len(made)} corners {sum(map(len, made))} bounds {min(xs)} {max(xs)} {min(ys)} {max(ys)}"]
+    for k, contour in enumerate(made):
+        lines.append(" ".join([f"{k // len(rights)} {k % len(rights)} {len(contour)}", *(f"({x},{y})" for x, y in contour)]))
+    return "\n".join(lines) + "\n"
+
+
+def triangles_of(parts):
+    """A mesh file of parts, each as a fan of triangles without neighbours."""
+    return mesh([(*p[0], *p[k], *p[k + 1], NONE, NONE, NONE) for p in parts for k in range(1, len(p) - 1)])
+
+
+# a strap of two parts and a buckle of three
+STRAP = [[(0, 0), (40, 0), (40, 10), (0, 10)], [(40, 0), (70, 5), (40, 10)]]
+BUCKLE = [[(2, 1), (8, 1), (8, 4), (2, 4)], [(2, 4), (4, 4), (4, 9), (2, 9)], [(4, 9), (4, 4), (11, 8)]]
+
+
 def word_of(contours, x, y):
     """What contours say of a place, by the sides of their edges."""
     found = "apart"
@@ -375,7 +410,7 @@ class Viewer(unittest.TestCase):
 
     def test_changed_bytes_are_refused_by_place_or_read_as_they_stand(self):
         chance = random.Random(1)
-        seeds = [DART.encode(), CONTOURS.encode(), (ROOT / "crates/pairs/stdout").read_bytes(), b"refused 3\n", DART_MESH, JOB]
+        seeds = [DART.encode(), CONTOURS.encode(), (ROOT / "crates/pairs/stdout").read_bytes(), b"refused 3\n", DART_MESH, JOB, table(STRAP)]
         given = []
         for _ in range(1200):
             data = bytearray(chance.choice(seeds))
@@ -407,7 +442,7 @@ class Viewer(unittest.TestCase):
                 elif kind in ("listing", "contours", "refused"):
                     self.assertEqual(text, data.decode().replace("\r\n", "\n").rstrip("\n"))
                 else:
-                    self.assertIn(kind, ("mesh", "job"))
+                    self.assertIn(kind, ("mesh", "job", "table"))
         self.assertGreater(len({kind for kind, _ in answers}), 4)
 
     def test_several_files_are_taken_whole_or_not_at_all(self):
@@ -415,8 +450,10 @@ class Viewer(unittest.TestCase):
         self.drop(bag__out=BAG, bad="parts x")
         self.assertIn("bad, line 1", self.message())
         self.assertEqual(len(self.rows()), 2)
-        self.drop(one__out=DART, two__out=BAG)
-        self.assertIn("a second listing beside one.out", self.message())
+        self.drop(one__out=DART, two__out=BAG, three__out=DART)
+        self.assertIn("three.out: it is of neither one.out nor two.out, and one picture shows two meshes.", self.message())
+        self.drop(one__contours=CONTOURS, two__contours=VAMP_CONTOURS)
+        self.assertIn("a second contours beside one.contours", self.message())
         self.assertEqual(len(self.rows()), 2)
         self.click("#message button")
         self.assertEqual(self.message(), "")
@@ -856,6 +893,213 @@ class Viewer(unittest.TestCase):
         self.assertFalse(self.d.find_element(By.ID, "tabs").is_displayed())
         self.assertFalse(self.d.find_element(By.ID, "verdict").is_displayed())
 
+    # ---- two meshes
+
+    def pairs_seen(self):
+        """The picture of each pair."""
+        self.js("state.mode = 'pairs'; fit(); refresh()")
+        return [self.js("selectPair(...arguments); return drawSvg()", i, j) for i in range(len(STRAP)) for j in range(len(BUCKLE))]
+
+    def test_two_meshes_and_contours_are_drawn_as_a_pair_job_is(self):
+        contours = contours_of(STRAP, BUCKLE, -1)
+        job = difference(STRAP, BUCKLE, [minkowski(a, b, -1) for a in STRAP for b in BUCKLE])
+        self.assertEqual(job["contours"], contours)
+        self.drop(**job)
+        places = self.js("placeAt(30, 2); return drawSvg()")
+        pairs = self.pairs_seen()
+        left, right = listing(STRAP), listing(BUCKLE)
+        for ways in [[{"left__out": left, "right__out": right, "c": contours}], [{"c": contours, "left__tab": table(STRAP), "right__tab": table(BUCKLE)}],
+                     [{"c": contours}, {"left__tab": table(STRAP)}, {"right__out": right}], [{"left__out": left, "right__tab": table(BUCKLE)}, {"c": contours}]]:
+            with self.subTest(ways=[list(way) for way in ways]):
+                self.setUp()
+                for way in ways:
+                    self.drop(**way)
+                self.assertEqual(self.message(), "")
+                self.assertEqual(self.text("#verdict"), "overlapping at (0,0)")
+                self.assertEqual(self.text("#tabs"), "Pairs\nPlaces")
+                self.assertIn("Two meshes: 2 left parts, 3 right parts. The contours are of their difference.", self.text("#summary"))
+                self.assertEqual(self.js("placeAt(30, 2); return drawSvg()"), places)
+                self.assertEqual(self.pairs_seen(), pairs)
+                self.assertEqual(self.rows(), [[f"1 {j}", "3", str(len(b)), str(len(minkowski(STRAP[1], b, -1)))] for j, b in enumerate(BUCKLE)])
+
+    def test_a_word_says_which_mesh_is_left(self):
+        self.drop(strap__out=listing(STRAP), buckle__tab=table(BUCKLE), c=contours_of(STRAP, BUCKLE, -1))
+        self.assertEqual(self.text("#sides"), "left: strap.out\nright: buckle.tab\nExchange")
+        self.assertEqual(self.text("#sources"), "left listing: strap.out\n×\nright stored table: buckle.tab\n×\ncontours: c\n×")
+        self.drop(dart__out=DART)
+        self.assertEqual(self.text("#tabs"), "Parts\nPairs\nPlaces")
+        self.assertFalse(self.d.find_element(By.ID, "sides").is_displayed())
+
+    def test_places_of_two_meshes(self):
+        self.drop(strap__out=listing(STRAP), buckle__out=listing(BUCKLE), c=contours_of(STRAP, BUCKLE, -1))
+        contours = [minkowski(a, b, -1) for a in STRAP for b in BUCKLE]
+        places = list(itertools.product(range(-12, 75, 3), range(-12, 15)))
+        wanted = [word_of(contours, x, y) for x, y in places]
+        self.assertEqual(self.words(places), wanted)
+        self.assertEqual(set(wanted), {"apart", "touching", "overlapping"})
+        self.js("Object.assign(state.view, { x: 30, y: 0, scale: 6 }); redraw()")
+        self.point(*self.place(38, -4))
+        self.assertEqual(self.text("#verdict"), f"{word_of(contours, 38, -4)} at (38,-4)")
+        self.key(Keys.ARROW_DOWN, Keys.ARROW_DOWN, Keys.ARROW_DOWN)
+        self.assertEqual(self.text("#verdict"), f"{word_of(contours, 38, -7)} at (38,-7)")
+
+    def test_contours_that_do_not_fit_are_not_drawn_and_a_sentence_says_why(self):
+        contours = contours_of(STRAP, BUCKLE, -1)
+        self.drop(strap=listing(STRAP), other=listing(BUCKLE[:2]), c=contours)
+        self.assertIn("The contours do not fit: there are 2 left parts (strap) and 2 right parts (other), and 6 contours of 2 left parts times 3 right parts.", self.text("#summary"))
+        self.assertNotIn("other way round", self.text("#summary"))
+        self.assertEqual(self.rows(), [["0 0", "4", "4", "–"], ["0 1", "4", "4", "–"]])
+        self.assertEqual(self.js("return [state.mode, contourAt(0, 0), canPlace()]"), ["pairs", None, False])
+        self.assertTrue({"left 0", "right 0"} <= set(self.labels()), "both meshes are")
+        moved = [[(x + 1, y) for x, y in p] for p in BUCKLE]
+        self.drop(strap=listing(STRAP), moved=table(moved), c=contours)
+        self.assertIn("The contours do not fit: their bounds -11 68 -9 9 are neither the sum’s nor the difference’s of strap and moved.", self.text("#summary"))
+        turned = [BUCKLE[2], BUCKLE[0], BUCKLE[1]]
+        self.drop(strap=listing(STRAP), turned=listing(turned), c=contours)
+        self.assertIn("the contour of pair 0 0 reaches otherwise than left part 0 and right part 0 together.", self.text("#summary"))
+        # one side is enough to see that counts differ; put away, the others are as they were
+        self.setUp()
+        self.drop(c=contours)
+        self.drop(buckle=listing(BUCKLE))
+        self.assertIn("there are 3 left parts (buckle), and 6 contours of 2 left parts times 3 right parts. The other way round they fit", self.text("#summary"))
+        self.js("document.querySelector('.chip button').click()")
+        self.frame()
+        self.assertEqual(self.text("#sources"), "contours: c\n×")
+        self.assertIn("Left and right parts come from the pair job", self.text("#summary"))
+
+    def test_left_and_right_exchanged(self):
+        for sign, mode in [(-1, "places"), (1, "pairs")]:
+            # two parts each: counts do not tell the order
+            self.setUp()
+            self.drop(c=contours_of(STRAP, BUCKLE[:2], sign), strap=listing(STRAP), buckle=listing(BUCKLE[:2]))
+            good = self.js("return drawSvg()")
+            self.assertEqual(self.js("return [state.mode, state.match.why]"), [mode, None])
+            self.drop(c=contours_of(STRAP, BUCKLE[:2], sign), buckle=listing(BUCKLE[:2]), strap=listing(STRAP))
+            self.assertIn("The contours do not fit: ", self.text("#summary"))
+            self.assertIn("The other way round they fit: exchange left and right.", self.text("#summary"))
+            self.click("#exchange")
+            self.assertEqual(self.text("#sides"), "left: strap\nright: buckle\nExchange")
+            self.assertEqual(self.js("return drawSvg()"), good)
+            self.assertNotIn("do not fit", self.text("#summary"))
+            self.click("#exchange")
+            self.assertIn("The other way round they fit", self.text("#summary"))
+        # parts without contours are exchanged too
+        self.js("putAway(sources().find(({ slot }) => slot === 'contours')); selectPair(0, 1)")
+        self.click("#exchange")
+        self.assertEqual(self.js("return [state.i, state.j, lefts()[1].corners.length, rights()[0].corners.length]"), [1, 0, 6, 8])
+
+    def test_a_right_mesh_about_the_origin_tells_sum_from_difference(self):
+        # bounds are the same added and subtracted; a triangle tells, a rectangle does not need to
+        triangle, rectangle = [[(-2, -1), (2, -1), (0, 1)]], [[(-2, -1), (2, -1), (2, 1), (-2, 1)]]
+        for right, sign, told in [(triangle, 1, "sum"), (triangle, -1, "difference"), (rectangle, 1, "either"), (rectangle, -1, "either")]:
+            self.setUp()
+            self.drop(left=listing(STRAP), right=table(right), c=contours_of(STRAP, right, sign))
+            self.assertEqual(self.js("return [state.match.operation, canPlace()]"), [told, told != "sum"])
+        wanted = [word_of([minkowski(a, rectangle[0], -1) for a in STRAP], x, y) for x, y in [(0, 12), (0, 11), (0, 10)]]
+        self.assertEqual(self.words([[0, 12], [0, 11], [0, 10]]), wanted)
+        # triangles alone do not tell it
+        self.setUp()
+        self.drop(left=triangles_of(STRAP), right=triangles_of(triangle), c=contours_of(STRAP, triangle, -1))
+        self.assertIn("The bounds fit a sum and a difference alike; parts will tell which it is.", self.text("#summary"))
+        self.drop(left__out=listing(STRAP), right__out=listing(triangle), left=triangles_of(STRAP), right=triangles_of(triangle))
+        self.assertEqual(self.text("#verdict"), "overlapping at (0,0)")
+
+    def test_two_meshes_alone_are_shown_in_two_colours(self):
+        for files in [{"a": listing(STRAP), "b": listing(BUCKLE)}, {"a": table(STRAP), "b": listing(BUCKLE)}, {"a": triangles_of(STRAP), "b": triangles_of(BUCKLE)}]:
+            self.setUp()
+            self.drop(**files)
+            self.assertIn("Contours come from what ./run contours difference LEFT RIGHT, or sum, prints: drop it too.", self.text("#summary"))
+            self.assertEqual(self.text("#sides"), "left: a\nright: b\nExchange")
+            seen = {p.get("stroke") for p in self.svg().iter(SVG + "polygon") if p.find(SVG + "title") is not None}
+            self.assertEqual(seen, set(self.js("return [coloursNow().left, coloursNow().right]")))
+            self.assertFalse(self.d.find_element(By.CSS_SELECTOR, "#tabs [data-mode=places]").is_displayed())
+        # the meshes' contours, and then parts
+        self.drop(c=contours_of(STRAP, BUCKLE, -1))
+        self.assertEqual(self.text("#verdict"), "overlapping at (0,0)")
+        titles = [e.text for e in self.svg().iter(SVG + "title")]
+        self.assertEqual([w for w in titles if w.startswith("right")], [f"right triangle {k} overlapping at (0,0)" for k in range(5)])
+        self.drop(a=listing(STRAP))
+        self.drop(b=table(BUCKLE))
+        self.assertEqual(self.text("#sources").count("×"), 5)
+        titles = [e.text for e in self.svg().iter(SVG + "title")]
+        self.assertEqual([w for w in titles if w.startswith("right")], [f"right part {k} overlapping at (0,0)" for k in range(3)])
+        outlines = [p for p in self.svg().iter(SVG + "polygon") if p.get("stroke-width") == "0.8"]
+        self.assertEqual(len(outlines), 3 + 5, "the triangles are beneath the parts")
+        self.click("label:has(#triangles)")
+        self.assertEqual([p for p in self.svg().iter(SVG + "polygon") if p.get("stroke-width") == "0.8"], [])
+        self.click("#tabs [data-mode=pairs]")
+        self.assertEqual(len(self.rows()), 3)
+
+    def test_a_side_put_away_leaves_the_other_by_itself(self):
+        self.drop(a__out=listing(STRAP), b__tab=table(BUCKLE))
+        self.click(".chip button")
+        self.assertEqual(self.text("#sources"), "stored table: b.tab\n×")
+        self.assertEqual([row[:2] for row in self.rows()], [["0", "4"], ["1", "4"], ["2", "3"]])
+        # beside contours it stays the side that it is
+        self.drop(a__out=listing(STRAP), b__tab=table(BUCKLE), c=contours_of(STRAP, BUCKLE, -1))
+        self.js("putAway(sources().find(({ words }) => words === 'left listing'))")
+        self.frame()
+        self.assertEqual(self.text("#sides"), "left: missing\nright: b.tab\nExchange")
+        self.assertIn("The left mesh is missing", self.text("#summary"))
+        self.drop(a__tab=table(STRAP))
+        self.assertEqual(self.text("#verdict"), "overlapping at (0,0)")
+
+    def test_two_meshes_and_a_pair_job_replace_one_another(self):
+        self.drop(job=JOB, contours=CONTOURS)
+        self.drop(a=listing(STRAP), b=listing(BUCKLE))
+        self.assertEqual(self.message(), "The pair job job was put away.")
+        self.assertIn("The contours do not fit", self.text("#summary"))
+        self.drop(job=JOB)
+        self.assertEqual(self.message(), "The two meshes were put away, for the pair job has parts of its own.")
+        self.assertEqual(self.text("#sources"), "pair job: job\n×\ncontours: contours\n×")
+
+    def test_a_refusal_of_two_meshes(self):
+        self.drop(a=listing(STRAP), b=listing(BUCKLE), c="refused 10\n")
+        self.assertIn("The program refused these two meshes: fault 10", self.text("#summary"))
+        self.drop(d="refused 3\n")
+        self.assertIn("The program refused these two meshes: fault 3", self.text("#summary"))
+        self.drop(a=listing(BUCKLE), b=listing(STRAP))
+        self.assertIn("Contours come from what ./run contours", self.text("#summary"))
+
+    def test_a_table_alone_is_drawn_as_parts_with_areas_worked_out(self):
+        self.drop(strap__tab=table(STRAP))
+        self.assertEqual(self.rows(), [["0", "4", "800"], ["1", "3", "300"]])
+        self.assertEqual(self.text("#head"), "part corners doubled area")
+        self.assertIn("2 parts, 7 corners, total doubled area 1100", self.text("#summary"))
+        self.assertIn("the doubled areas are worked out by this page", self.text("#summary"))
+        self.assertEqual([e for e in self.labels() if "‱" in e], [])
+        self.assertFalse(self.d.find_element(By.ID, "shares").is_displayed())
+        self.click("#rows tr:nth-child(2)")
+        self.assertEqual(self.text(".line p"), "part 1: 3 corners (40,0) (70,5) (40,10)")
+        self.drop(strap=triangles_of(STRAP))
+        self.assertEqual(self.drawn(), (3, 2))
+        # the largest area, a part without corners, one that runs clockwise
+        square = [(-FAR, -FAR), (FAR, -FAR), (FAR, FAR), (-FAR, FAR)]
+        self.drop(far__tab=table([square, [], square[::-1]]))
+        self.assertEqual(self.rows(), [["0", "4", str(8 * FAR * FAR)], ["1", "0", "0"], ["2", "4", str(8 * FAR * FAR)]])
+        self.drop(dart__out=DART)
+        self.assertEqual(self.rows()[0], ["0", "3", "16", "5000"])
+
+    def test_tables_jobs_and_meshes_are_told_apart_by_what_they_say(self):
+        def kind(data):
+            return self.js("return read(Uint8Array.from(atob(arguments[0]), (c) => c.charCodeAt(0))).kind", base64.b64encode(data).decode())
+        for parts in [[], [[]], [[(5, 5)]], [STRAP[1]], STRAP, [[], []], quilt(32, 16, 100)]:
+            self.assertEqual(kind(table(parts)), "table", len(parts))
+        # jobs whose left bounds could be starts; a job has no least bound above a greatest
+        for left in [[(-5, -5), (0, -5), (0, 7)], [(0, 0), (20, 0), (0, 20)], [(-3, -3), (0, -3), (0, 1)]]:
+            for parts in [[left], [left, []]]:
+                self.assertEqual(kind(difference(parts, [left], [[]])["job"]), "job")
+        for rows in [[], [(0, 0, 4, 0, 0, 4, NONE, NONE, NONE)]]:
+            self.assertEqual(kind(mesh(rows)), "mesh")
+        self.drop(dart__out=DART)
+        good = table(STRAP)
+        for data, sentence in [(good[:-4], "the file ends inside the table"), (good + bytes(4), "the table should end here"), (table([STRAP[1]])[:-4], "the file ends inside the table"),
+                               (good[:12] + struct.pack("<I", 9) + good[16:], "the table’s starts fall from 9 to 7"), (good[:16] + struct.pack("<I", 6) + good[20:], "the table’s last start is 6"),
+                               (struct.pack("<3I", 2049, 0, 0) + bytes(9000), "byte 0: the table has 2,049 parts")]:
+            self.drop(bad=data)
+            self.assertIn(sentence, self.message())
+        self.assertEqual(len(self.rows()), 2)
+
     # ---- large ones
 
     def test_2048_parts_are_drawn_quickly(self):
@@ -1000,7 +1244,7 @@ class Viewer(unittest.TestCase):
         self.assertEqual(made, self.js("return drawSvg(viewForPrint(), LIGHT)"))
         bad = subprocess.run([str(HERE / "picture"), str(ROOT / "examples/refused_3.out")], capture_output=True, text=True)
         self.assertEqual((bad.returncode, bad.stdout), (3, ""))
-        for places, sentence in [(["0", "0"], "Only the pair job of a difference has places."), (["0"], "--placed takes an X and a Y for each place"), (["0", "1.5"], "1.5 is no whole number")]:
+        for places, sentence in [(["0", "0"], "Only the contours of a difference have places"), (["0"], "--placed takes an X and a Y for each place"), (["0", "1.5"], "1.5 is no whole number")]:
             bad = subprocess.run([str(HERE / "picture"), str(ROOT / "examples/vamp.contours"), "--placed", *places], capture_output=True, text=True)
             self.assertEqual((bad.returncode, bad.stdout), (2, ""))
             self.assertIn(sentence, bad.stderr)
