@@ -1008,7 +1008,7 @@ class Viewer(unittest.TestCase):
         for files in [{"a": listing(STRAP), "b": listing(BUCKLE)}, {"a": table(STRAP), "b": listing(BUCKLE)}, {"a": triangles_of(STRAP), "b": triangles_of(BUCKLE)}]:
             self.setUp()
             self.drop(**files)
-            self.assertIn("Contours come from what ./run contours difference LEFT RIGHT, or sum, prints: drop it too.", self.text("#summary"))
+            self.assertIn("Contours come from what ./run contours difference LEFT RIGHT, or sum, prints: drop it too.", self.text("#summary").replace("\n", " "))
             self.assertEqual(self.text("#sides"), "left: a\nright: b\nExchange")
             seen = {p.get("stroke") for p in self.svg().iter(SVG + "polygon") if p.find(SVG + "title") is not None}
             self.assertEqual(seen, set(self.js("return [coloursNow().left, coloursNow().right]")))
@@ -1249,6 +1249,49 @@ class Viewer(unittest.TestCase):
             self.assertEqual((bad.returncode, bad.stdout), (2, ""))
             self.assertIn(sentence, bad.stderr)
 
+    def picture(self, *arguments, at=HERE, **more):
+        made = subprocess.run([str(at / "picture"), *map(str, arguments)], capture_output=True, text=True, **more)
+        return made.returncode, made.stdout, made.stderr
+
+    def written(self, **files):
+        """Files in a folder of their own, as drop() takes them."""
+        folder = pathlib.Path(tempfile.mkdtemp(dir=TEMP))
+        paths = [folder / name.replace("__", ".") for name in files]
+        for path, data in zip(paths, files.values()):
+            path.write_bytes(data.encode() if isinstance(data, str) else data)
+        return paths
+
+    def test_pictures_of_contours_and_two_meshes(self):
+        files = {"c": contours_of(STRAP, BUCKLE, -1), "strap__out": listing(STRAP), "buckle__tab": table(BUCKLE)}
+        c, strap, buckle = self.written(**files)
+        self.drop(**files)
+        placed = self.js("showPlaces([[30, 2], [0, -60]]); return drawSvg(viewForPrint(), LIGHT)")
+        self.assertEqual(self.picture(c, strap, buckle, "--placed", 30, 2, 0, -60), (0, placed, ""))
+        self.assertEqual(self.picture(c, strap, buckle, 1, 2), (0, self.js("showPair(1, 2); return drawSvg(viewForPrint(), LIGHT)"), ""))
+        code, out, said = self.picture(c, buckle, strap)
+        self.assertEqual((code, out), (2, ""))
+        self.assertIn("run: The contours do not fit: there are 3 left parts (buckle.tab) and 2 right parts (strap.out)", said)
+        self.drop(strap__out=listing(STRAP), buckle__tab=table(BUCKLE))
+        self.js("putAway(sources().find(({ slot }) => slot === 'contours'))")
+        self.assertEqual(self.picture(strap, buckle), (0, self.js("showPair(0, 0); return drawSvg(viewForPrint(), LIGHT)"), ""))
+
+    def test_a_picture_asks_for_what_a_mesh_or_a_pair_job_needs(self):
+        # both are stood in for: ./run, which tells what it was asked, and Chromium, which tells how many files the page was given
+        home = pathlib.Path(tempfile.mkdtemp(dir=TEMP))
+        shutil.copytree(HERE, home / "viewer")
+        (home / "bin").mkdir()
+        for path, lines in [("run", 'echo "$1 ${2##*/}" >&2\necho "parts 0 corners 0 area2 0"'), ("bin/chromium", 'echo "<title>svg $(grep -c \'^\\["\' page.html | base64)</title>"')]:
+            (home / path).write_text(f"#!/usr/bin/env bash\n{lines}\n")
+            (home / path).chmod(0o755)
+        one = difference(STRAP[1:], BUCKLE[1:2], [minkowski(STRAP[1], BUCKLE[1], -1)])
+        paths = dict(zip("abcjkosty", self.written(a=triangles_of(STRAP), b=triangles_of(BUCKLE), c=contours_of(STRAP, BUCKLE, -1), j=one["job"], k=one["contours"], o=listing(STRAP), s=table(STRAP[1:]), t=table([]), y="limit 0 ear\n")))
+        path = f"{home}/bin:{os.environ['PATH']}"
+        for names, asked in [("a", "areas a\n"), ("ao", ""), ("ab", "areas a\nareas b\n"), ("cab", "areas a\nareas b\n"), ("j", "pairs j\n"), ("jk", ""), ("s", ""), ("t", ""), ("st", ""), ("y", "areas y\n"), ("cos", "")]:
+            with self.subTest(names=names):
+                given = len(names) + asked.count("\n")
+                self.assertEqual(self.picture(*(paths[name] for name in names), at=home / "viewer", env={**os.environ, "PATH": path}), (0, f"{given}\n", asked))
+        self.assertIn("nothing cannot be read", self.picture(paths["c"], "nothing")[2])
+
     def test_the_readmes_pictures_are_what_is_drawn_now(self):
         self.drop(bag__txt=(ROOT / "examples/bag.txt").read_bytes(), bag__out=BAG)
         self.assertEqual((ROOT / "docs/pictures/bag.svg").read_text(), self.js("return drawSvg(viewForPrint(), LIGHT)"))
@@ -1282,6 +1325,12 @@ def screenshots(folder):
         ("sum-dark", pocket, "selectPair(1, 0); setTheme(true)"),
         ("places", vamp, "placeAt(150, -20)"),
         ("places-dark", vamp, "placeAt(-70, 70); setTheme(true)"),
+        ("two-meshes", {"strap__out": listing(STRAP), "buckle__tab": table(BUCKLE)}, ""),
+        ("two-meshes-triangles", {"strap__mesh": triangles_of(STRAP), "buckle__mesh": triangles_of(BUCKLE)}, ""),
+        ("two-meshes-places", {"strap__out": listing(STRAP), "buckle__tab": table(BUCKLE), "strap__mesh": triangles_of(STRAP), "buckle__mesh": triangles_of(BUCKLE), "c__txt": contours_of(STRAP, BUCKLE, -1)}, "placeAt(30, 2)"),
+        ("two-meshes-unlike", {"buckle__out": listing(BUCKLE), "strap__out": listing(STRAP), "c__txt": contours_of(STRAP, BUCKLE, -1)}, ""),
+        ("two-meshes-sum-dark", {"strap__out": listing(STRAP), "buckle__out": listing(BUCKLE), "c__txt": contours_of(STRAP, BUCKLE, 1)}, "setTheme(true); selectPair(1, 2)"),
+        ("table", {"strap__tab": table(STRAP)}, "selectPart(1, true)"),
         ("refused", {**bag, "bag__out": "refused 4\n"}, ""),
         ("bad", {"dart__out": DART}, "showText('parts 2', 'bad.out')"),
     ]
