@@ -909,7 +909,7 @@ class Viewer(unittest.TestCase):
         pairs = self.pairs_seen()
         left, right = listing(STRAP), listing(BUCKLE)
         for ways in [[{"left__out": left, "right__out": right, "c": contours}], [{"c": contours, "left__tab": table(STRAP), "right__tab": table(BUCKLE)}],
-                     [{"c": contours}, {"left__tab": table(STRAP)}, {"right__out": right}], [{"left__out": left, "right__tab": table(BUCKLE)}, {"c": contours}]]:
+                     [{"c": contours}, {"left__tab": table(STRAP)}, {"right__out": right}], [{"left__out": left}, {"c": contours}, {"right__out": right}], [{"left__out": left, "right__tab": table(BUCKLE)}, {"c": contours}]]:
             with self.subTest(ways=[list(way) for way in ways]):
                 self.setUp()
                 for way in ways:
@@ -929,6 +929,11 @@ class Viewer(unittest.TestCase):
         self.drop(dart__out=DART)
         self.assertEqual(self.text("#tabs"), "Parts\nPairs\nPlaces")
         self.assertFalse(self.d.find_element(By.ID, "sides").is_displayed())
+        # what cannot be the left one by its count stays by itself
+        self.setUp()
+        self.drop(bag__out=BAG)
+        self.drop(c=contours_of(STRAP, BUCKLE, -1))
+        self.assertEqual((self.text("#sources"), self.text("#tabs")), ("listing: bag.out\n×\ncontours: c\n×", "Parts\nPairs"))
 
     def test_places_of_two_meshes(self):
         self.drop(strap__out=listing(STRAP), buckle__out=listing(BUCKLE), c=contours_of(STRAP, BUCKLE, -1))
@@ -983,7 +988,14 @@ class Viewer(unittest.TestCase):
             self.assertNotIn("do not fit", self.text("#summary"))
             self.click("#exchange")
             self.assertIn("The other way round they fit", self.text("#summary"))
+        # a part less itself fits both ways, and who looks at pairs goes on with them
+        self.setUp()
+        self.drop(a=listing(STRAP), b=listing(STRAP), c=contours_of(STRAP, STRAP, -1))
+        self.click("#tabs [data-mode=pairs]")
+        self.click("#exchange")
+        self.assertEqual((self.js("return [state.mode, state.match.operation]"), self.text("#sides")), (["pairs", "difference"], "left: b\nright: a\nExchange"))
         # parts without contours are exchanged too
+        self.drop(buckle=listing(BUCKLE[:2]), strap=listing(STRAP))
         self.js("putAway(sources().find(({ slot }) => slot === 'contours')); selectPair(0, 1)")
         self.click("#exchange")
         self.assertEqual(self.js("return [state.i, state.j, lefts()[1].corners.length, rights()[0].corners.length]"), [1, 0, 6, 8])
@@ -1013,6 +1025,10 @@ class Viewer(unittest.TestCase):
             seen = {p.get("stroke") for p in self.svg().iter(SVG + "polygon") if p.find(SVG + "title") is not None}
             self.assertEqual(seen, set(self.js("return [coloursNow().left, coloursNow().right]")))
             self.assertFalse(self.d.find_element(By.CSS_SELECTOR, "#tabs [data-mode=places]").is_displayed())
+        self.point(*self.place(60, 5))
+        self.assertEqual(self.tip(), ["left triangle 2", "left triangle 2: (40,0) (70,5) (40,10), neighbours none none none"])
+        ActionChains(self.d, duration=0).click().perform()
+        self.assertEqual((self.rows(), self.js("return [state.i, state.j]")), ([], [0, 0]))
         # the meshes' contours, and then parts
         self.drop(c=contours_of(STRAP, BUCKLE, -1))
         self.assertEqual(self.text("#verdict"), "overlapping at (0,0)")
