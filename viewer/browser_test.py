@@ -922,6 +922,14 @@ class Viewer(unittest.TestCase):
                 self.assertEqual(self.pairs_seen(), pairs)
                 self.assertEqual(self.rows(), [[f"1 {j}", "3", str(len(b)), str(len(minkowski(STRAP[1], b, -1)))] for j, b in enumerate(BUCKLE)])
 
+    def test_the_tables_of_a_pair_job_beside_its_contours_make_its_picture(self):
+        # the job is its operation, then twice four bounds and a table, each of the length that its counts give
+        parts, corners = struct.unpack_from("<2I", VAMP_JOB, 20)
+        end = 20 + 8 + 4 * (parts + 1) + 8 * corners
+        self.drop(vamp__tab=VAMP_JOB[20:end], tab__tab=VAMP_JOB[end + 16:], c=VAMP_CONTOURS)
+        self.js("showPlaces([[0, -90], [150, -20], [-70, 70]])")
+        self.assertEqual((ROOT / "docs/pictures/placed.svg").read_text(), self.js("return drawSvg(viewForPrint(), LIGHT)"))
+
     def test_a_word_says_which_mesh_is_left(self):
         self.drop(strap__out=listing(STRAP), buckle__tab=table(BUCKLE), c=contours_of(STRAP, BUCKLE, -1))
         self.assertEqual(self.text("#sides"), "left: strap.out\nright: buckle.tab\nExchange")
@@ -958,10 +966,10 @@ class Viewer(unittest.TestCase):
         self.assertTrue({"left 0", "right 0"} <= set(self.labels()), "both meshes are")
         moved = [[(x + 1, y) for x, y in p] for p in BUCKLE]
         self.drop(strap=listing(STRAP), moved=table(moved), c=contours)
-        self.assertIn("The contours do not fit: their bounds -11 68 -9 9 are neither the sum’s nor the difference’s of strap and moved.", self.text("#summary"))
+        self.assertIn("The contours do not fit: they reach, within bounds -11 68 -9 9, neither as the sum nor as the difference of strap and moved does.", self.text("#summary"))
         turned = [BUCKLE[2], BUCKLE[0], BUCKLE[1]]
         self.drop(strap=listing(STRAP), turned=listing(turned), c=contours)
-        self.assertIn("the contour of pair 0 0 reaches otherwise than left part 0 and right part 0 together.", self.text("#summary"))
+        self.assertIn("the contour of pair 0 0 is not the difference of left part 0 and right part 0.", self.text("#summary"))
         # one side is enough to see that counts differ; put away, the others are as they were
         self.setUp()
         self.drop(c=contours)
@@ -1009,12 +1017,36 @@ class Viewer(unittest.TestCase):
             self.assertEqual(self.js("return [state.match.operation, canPlace()]"), [told, told != "sum"])
         wanted = [word_of([minkowski(a, rectangle[0], -1) for a in STRAP], x, y) for x, y in [(0, 12), (0, 11), (0, 10)]]
         self.assertEqual(self.words([[0, 12], [0, 11], [0, 10]]), wanted)
-        # triangles alone do not tell it
-        self.setUp()
-        self.drop(left=triangles_of(STRAP), right=triangles_of(triangle), c=contours_of(STRAP, triangle, -1))
-        self.assertIn("The bounds fit a sum and a difference alike; parts will tell which it is.", self.text("#summary"))
-        self.drop(left__out=listing(STRAP), right__out=listing(triangle), left=triangles_of(STRAP), right=triangles_of(triangle))
+        # of triangles alone by how far they reach; a clasp, open to the right, reaches as far as a square, and does not tell it
+        clasp = [[(-4, -4), (4, -4), (4, -3), (-4, -3)], [(-4, -3), (-3, -3), (-3, 3), (-4, 3)], [(-4, 3), (4, 3), (4, 4), (-4, 4)]]
+        for right, sign, told in [(triangle, 1, "sum"), (triangle, -1, "difference"), (clasp, 1, None), (clasp, -1, None)]:
+            self.setUp()
+            self.drop(left=triangles_of(STRAP), right=triangles_of(right), c=contours_of(STRAP, right, sign))
+            self.assertEqual(self.js("return [state.match.why, state.match.operation, canPlace()]"), [None, told, told == "difference"])
+        self.assertIn("The contours fit a sum and a difference alike; parts will tell which it is.", self.text("#summary"))
+        self.drop(left__out=listing(STRAP))
+        self.drop(right__tab=table(clasp))
         self.assertEqual(self.text("#verdict"), "overlapping at (0,0)")
+
+    def test_the_wrong_order_does_not_pass_where_counts_and_bounds_do(self):
+        a, b = [[(0, 0), (4, 0), (0, 4)]], [[(0, 0), (4, 0), (4, 4)]]
+        contours = contours_of(a, b, -1)
+        for form in [listing, table, triangles_of]:
+            self.setUp()
+            self.drop(b=form(b), a=form(a), c=contours)
+            self.assertIn("The other way round they fit: exchange left and right.", self.text("#summary"))
+            self.click("#exchange")
+            self.assertEqual(self.words([[-4, 0], [-3, 1], [3, -3]]), [word_of([minkowski(a[0], b[0], -1)], x, y) for x, y in [(-4, 0), (-3, 1), (3, -3)]])
+
+    def test_contours_of_any_convex_parts_are_known_again(self):
+        # clockwise, with corners in line and twice, segments and points: what document 01's walks make of them
+        square = [(0, 0), (2, 0), (4, 0), (4, 4), (4, 4), (0, 4)]
+        shapes = [square, square[::-1], [(1, 1), (5, 3)], [(3, 2), (5, 3), (1, 1), (1, 1)], [(7, 7)], [(7, 7), (7, 7)], [(0, 0), (9, 1), (3, 8)], [(-FAR // 2, -FAR // 2), (FAR // 2, -FAR // 2 + 1), (FAR // 2 - 1, FAR // 2)]]
+        for a, b, sign in itertools.product(shapes, shapes, (1, -1)):
+            if len(set(a)) == len(set(b)) == 1:
+                continue
+            made = self.js("const [a, b, sign] = arguments; return contourOf(...[[a, 1], [b, sign]].map(([p, s]) => walkOf({ corners: p.flat() }, s)))", a, b, sign)
+            self.assertEqual(made, [n for c in minkowski(a, b, sign) for n in c], (a, b, sign))
 
     def test_two_meshes_alone_are_shown_in_two_colours(self):
         for files in [{"a": listing(STRAP), "b": listing(BUCKLE)}, {"a": table(STRAP), "b": listing(BUCKLE)}, {"a": triangles_of(STRAP), "b": triangles_of(BUCKLE)}]:
