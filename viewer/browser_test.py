@@ -393,6 +393,7 @@ class Viewer(unittest.TestCase):
             (DART_MESH[:19], "byte 0: there are 19 bytes, and a mesh file’s header has 20"),
             (changed(DART_MESH, 4, 1025), "byte 4: read as a mesh file it has 1,025 triangles"),
             (changed(DART_MESH, 8, 24), "byte 8: the records’ offset is 24"),
+            (changed(DART_MESH, 8, 0), "byte 8: the records’ offset is 0"),
             (changed(DART_MESH, 16, 3), "byte 16: the split is 3"),
             (changed(DART_MESH, 4, 1), "byte 0: the header says 92 bytes for 1 triangle, which take 56"),
             (JOB[:-4], "the file ends inside the right operand"),
@@ -967,9 +968,10 @@ class Viewer(unittest.TestCase):
         moved = [[(x + 1, y) for x, y in p] for p in BUCKLE]
         self.drop(strap=listing(STRAP), moved=table(moved), c=contours)
         self.assertIn("The contours do not fit: they reach, within bounds -11 68 -9 9, neither as the sum nor as the difference of strap and moved does.", self.text("#summary"))
-        turned = [BUCKLE[2], BUCKLE[0], BUCKLE[1]]
-        self.drop(strap=listing(STRAP), turned=listing(turned), c=contours)
-        self.assertIn("the contour of pair 0 0 is not the difference of left part 0 and right part 0.", self.text("#summary"))
+        # the parts in another order: of other corner counts, and of the same
+        for first, second, third in [(2, 0, 1), (1, 0, 2)]:
+            self.drop(strap=listing(STRAP), turned=listing([BUCKLE[first], BUCKLE[second], BUCKLE[third]]), c=contours)
+            self.assertIn("the contour of pair 0 0 is not the difference of left part 0 and right part 0.", self.text("#summary"))
         # one side is enough to see that counts differ; put away, the others are as they were
         self.setUp()
         self.drop(c=contours)
@@ -1077,6 +1079,22 @@ class Viewer(unittest.TestCase):
         self.assertEqual([p for p in self.svg().iter(SVG + "polygon") if p.get("stroke-width") == "0.8"], [])
         self.click("#tabs [data-mode=pairs]")
         self.assertEqual(len(self.rows()), 3)
+
+    def test_a_mesh_and_a_listing_are_one_side_where_they_reach_equally_far(self):
+        contours = contours_of(STRAP, BUCKLE, -1)
+        a, b = {"a__mesh": triangles_of(STRAP), "a__out": listing(STRAP)}, {"b__mesh": triangles_of(BUCKLE), "b__tab": table(BUCKLE)}
+        for order in [["a__mesh", "b__tab", "a__out", "b__mesh"], ["a__out", "b__mesh", "b__tab", "a__mesh"], ["a__out", "a__mesh", "b__mesh", "b__tab"]]:
+            given = {name: {**a, **b}[name] for name in order}
+            for ways in [[{**given, "c": contours}], [{"c": contours}, *({name: data} for name, data in given.items())]]:
+                self.setUp()
+                for way in ways:
+                    self.drop(**way)
+                self.assertEqual(self.text("#sources").split("\n×")[:4], ["left mesh: a.mesh", "\nleft listing: a.out", "\nright mesh: b.mesh", "\nright stored table: b.tab"])
+                self.assertEqual(self.text("#verdict"), "overlapping at (0,0)")
+        self.setUp()
+        self.drop(a__out=listing(STRAP), b__tab=table(BUCKLE), dart__mesh=DART_MESH)
+        self.assertIn("dart.mesh: it is of neither a.out nor b.tab, and one picture shows two meshes.", self.message())
+        self.assertEqual(self.text("#summary"), "Nothing is shown yet.")
 
     def test_a_side_put_away_leaves_the_other_by_itself(self):
         self.drop(a__out=listing(STRAP), b__tab=table(BUCKLE))
