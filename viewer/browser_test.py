@@ -84,6 +84,41 @@ def difference(lefts, rights, contours):
     return {"job": job, "contours": "\n".join(lines) + "\n"}
 
 
+def minkowski(a, b, sign):
+    """The contour of two convex parts, added (1) or subtracted (-1): the hull of all sums of corners, from its lowest, then leftmost corner."""
+    def half(points):
+        out = []
+        for x, y in points:
+            while len(out) > 1 and (out[-1][0] - out[-2][0]) * (y - out[-2][1]) <= (out[-1][1] - out[-2][1]) * (x - out[-2][0]):
+                out.pop()
+            out.append((x, y))
+        return out[:-1]
+    points = sorted({(p[0] + sign * q[0], p[1] + sign * q[1]) for p in a for q in b})
+    ring = half(points) + half(points[::-1])
+    first = ring.index(min(ring, key=lambda c: (c[1], c[0])))
+    return ring[first:] + ring[:first]
+
+
+def contours_of(lefts, rights, sign):
+    """What `contours` prints for two meshes of these parts, added (1) or subtracted (-1)."""
+    made = [minkowski(a, b, sign) for a in lefts for b in rights]
+    xs, ys = zip(*(c for contour in made for c in contour))
+    lines = [f"contours {len(made)} corners {sum(map(len, made))} bounds {min(xs)} {max(xs)} {min(ys)} {max(ys)}"]
+    for k, contour in enumerate(made):
+        lines.append(" ".join([f"{k // len(rights)} {k % len(rights)} {len(contour)}", *(f"({x},{y})" for x, y in contour)]))
+    return "\n".join(lines) + "\n"
+
+
+def triangles_of(parts):
+    """A mesh file of parts, each as a fan of triangles without neighbours."""
+    return mesh([(*p[0], *p[k], *p[k + 1], NONE, NONE, NONE) for p in parts for k in range(1, len(p) - 1)])
+
+
+# a strap of two parts and a buckle of three
+STRAP = [[(0, 0), (40, 0), (40, 10), (0, 10)], [(40, 0), (70, 5), (40, 10)]]
+BUCKLE = [[(2, 1), (8, 1), (8, 4), (2, 4)], [(2, 4), (4, 4), (4, 9), (2, 9)], [(4, 9), (4, 4), (11, 8)]]
+
+
 def word_of(contours, x, y):
     """What contours say of a place, by the sides of their edges."""
     found = "apart"
@@ -358,6 +393,7 @@ class Viewer(unittest.TestCase):
             (DART_MESH[:19], "byte 0: there are 19 bytes, and a mesh file’s header has 20"),
             (changed(DART_MESH, 4, 1025), "byte 4: read as a mesh file it has 1,025 triangles"),
             (changed(DART_MESH, 8, 24), "byte 8: the records’ offset is 24"),
+            (changed(DART_MESH, 8, 0), "byte 8: the records’ offset is 0"),
             (changed(DART_MESH, 16, 3), "byte 16: the split is 3"),
             (changed(DART_MESH, 4, 1), "byte 0: the header says 92 bytes for 1 triangle, which take 56"),
             (JOB[:-4], "the file ends inside the right operand"),
@@ -375,7 +411,7 @@ class Viewer(unittest.TestCase):
 
     def test_changed_bytes_are_refused_by_place_or_read_as_they_stand(self):
         chance = random.Random(1)
-        seeds = [DART.encode(), CONTOURS.encode(), (ROOT / "crates/pairs/stdout").read_bytes(), b"refused 3\n", DART_MESH, JOB]
+        seeds = [DART.encode(), CONTOURS.encode(), (ROOT / "crates/pairs/stdout").read_bytes(), b"refused 3\n", DART_MESH, JOB, table(STRAP)]
         given = []
         for _ in range(1200):
             data = bytearray(chance.choice(seeds))
@@ -407,7 +443,7 @@ class Viewer(unittest.TestCase):
                 elif kind in ("listing", "contours", "refused"):
                     self.assertEqual(text, data.decode().replace("\r\n", "\n").rstrip("\n"))
                 else:
-                    self.assertIn(kind, ("mesh", "job"))
+                    self.assertIn(kind, ("mesh", "job", "table"))
         self.assertGreater(len({kind for kind, _ in answers}), 4)
 
     def test_several_files_are_taken_whole_or_not_at_all(self):
@@ -415,8 +451,10 @@ class Viewer(unittest.TestCase):
         self.drop(bag__out=BAG, bad="parts x")
         self.assertIn("bad, line 1", self.message())
         self.assertEqual(len(self.rows()), 2)
-        self.drop(one__out=DART, two__out=BAG)
-        self.assertIn("a second listing beside one.out", self.message())
+        self.drop(one__out=DART, two__out=BAG, three__out=DART)
+        self.assertIn("three.out: it is of neither one.out nor two.out, and one picture shows two meshes.", self.message())
+        self.drop(one__contours=CONTOURS, two__contours=VAMP_CONTOURS)
+        self.assertIn("a second contours beside one.contours", self.message())
         self.assertEqual(len(self.rows()), 2)
         self.click("#message button")
         self.assertEqual(self.message(), "")
@@ -856,6 +894,278 @@ class Viewer(unittest.TestCase):
         self.assertFalse(self.d.find_element(By.ID, "tabs").is_displayed())
         self.assertFalse(self.d.find_element(By.ID, "verdict").is_displayed())
 
+    # ---- two meshes
+
+    def pairs_seen(self):
+        """The picture of each pair."""
+        self.js("state.mode = 'pairs'; fit(); refresh()")
+        return [self.js("selectPair(...arguments); return drawSvg()", i, j) for i in range(len(STRAP)) for j in range(len(BUCKLE))]
+
+    def test_two_meshes_and_contours_are_drawn_as_a_pair_job_is(self):
+        contours = contours_of(STRAP, BUCKLE, -1)
+        job = difference(STRAP, BUCKLE, [minkowski(a, b, -1) for a in STRAP for b in BUCKLE])
+        self.assertEqual(job["contours"], contours)
+        self.drop(**job)
+        places = self.js("placeAt(30, 2); return drawSvg()")
+        pairs = self.pairs_seen()
+        left, right = listing(STRAP), listing(BUCKLE)
+        for ways in [[{"left__out": left, "right__out": right, "c": contours}], [{"c": contours, "left__tab": table(STRAP), "right__tab": table(BUCKLE)}],
+                     [{"c": contours}, {"left__tab": table(STRAP)}, {"right__out": right}], [{"left__out": left}, {"c": contours}, {"right__out": right}], [{"left__out": left, "right__tab": table(BUCKLE)}, {"c": contours}]]:
+            with self.subTest(ways=[list(way) for way in ways]):
+                self.setUp()
+                for way in ways:
+                    self.drop(**way)
+                self.assertEqual(self.message(), "")
+                self.assertEqual(self.text("#verdict"), "overlapping at (0,0)")
+                self.assertEqual(self.text("#tabs"), "Pairs\nPlaces")
+                self.assertIn("Two meshes: 2 left parts, 3 right parts. The contours are of their difference.", self.text("#summary"))
+                self.assertEqual(self.js("placeAt(30, 2); return drawSvg()"), places)
+                self.assertEqual(self.pairs_seen(), pairs)
+                self.assertEqual(self.rows(), [[f"1 {j}", "3", str(len(b)), str(len(minkowski(STRAP[1], b, -1)))] for j, b in enumerate(BUCKLE)])
+
+    def test_the_tables_of_a_pair_job_beside_its_contours_make_its_picture(self):
+        # the job is its operation, then twice four bounds and a table, each of the length that its counts give
+        parts, corners = struct.unpack_from("<2I", VAMP_JOB, 20)
+        end = 20 + 8 + 4 * (parts + 1) + 8 * corners
+        self.drop(vamp__tab=VAMP_JOB[20:end], tab__tab=VAMP_JOB[end + 16:], c=VAMP_CONTOURS)
+        self.js("showPlaces([[0, -90], [150, -20], [-70, 70]])")
+        self.assertEqual((ROOT / "docs/pictures/placed.svg").read_text(), self.js("return drawSvg(viewForPrint(), LIGHT)"))
+
+    def test_a_word_says_which_mesh_is_left(self):
+        self.drop(strap__out=listing(STRAP), buckle__tab=table(BUCKLE), c=contours_of(STRAP, BUCKLE, -1))
+        self.assertEqual(self.text("#sides"), "left: strap.out\nright: buckle.tab\nExchange")
+        self.assertEqual(self.text("#sources"), "left listing: strap.out\n×\nright stored table: buckle.tab\n×\ncontours: c\n×")
+        self.drop(dart__out=DART)
+        self.assertEqual(self.text("#tabs"), "Parts\nPairs\nPlaces")
+        self.assertFalse(self.d.find_element(By.ID, "sides").is_displayed())
+        # what cannot be the left one by its count stays by itself
+        self.setUp()
+        self.drop(bag__out=BAG)
+        self.drop(c=contours_of(STRAP, BUCKLE, -1))
+        self.assertEqual((self.text("#sources"), self.text("#tabs")), ("listing: bag.out\n×\ncontours: c\n×", "Parts\nPairs"))
+
+    def test_places_of_two_meshes(self):
+        self.drop(strap__out=listing(STRAP), buckle__out=listing(BUCKLE), c=contours_of(STRAP, BUCKLE, -1))
+        contours = [minkowski(a, b, -1) for a in STRAP for b in BUCKLE]
+        places = list(itertools.product(range(-12, 75, 3), range(-12, 15)))
+        wanted = [word_of(contours, x, y) for x, y in places]
+        self.assertEqual(self.words(places), wanted)
+        self.assertEqual(set(wanted), {"apart", "touching", "overlapping"})
+        self.js("Object.assign(state.view, { x: 30, y: 0, scale: 6 }); redraw()")
+        self.point(*self.place(38, -4))
+        self.assertEqual(self.text("#verdict"), f"{word_of(contours, 38, -4)} at (38,-4)")
+        self.key(Keys.ARROW_DOWN, Keys.ARROW_DOWN, Keys.ARROW_DOWN)
+        self.assertEqual(self.text("#verdict"), f"{word_of(contours, 38, -7)} at (38,-7)")
+
+    def test_contours_that_do_not_fit_are_not_drawn_and_a_sentence_says_why(self):
+        contours = contours_of(STRAP, BUCKLE, -1)
+        self.drop(strap=listing(STRAP), other=listing(BUCKLE[:2]), c=contours)
+        self.assertIn("The contours do not fit: there are 2 left parts (strap) and 2 right parts (other), and 6 contours of 2 left parts times 3 right parts.", self.text("#summary"))
+        self.assertNotIn("other way round", self.text("#summary"))
+        self.assertEqual(self.rows(), [["0 0", "4", "4", "–"], ["0 1", "4", "4", "–"]])
+        self.assertEqual(self.js("return [state.mode, contourAt(0, 0), canPlace()]"), ["pairs", None, False])
+        self.assertTrue({"left 0", "right 0"} <= set(self.labels()), "both meshes are")
+        moved = [[(x + 1, y) for x, y in p] for p in BUCKLE]
+        self.drop(strap=listing(STRAP), moved=table(moved), c=contours)
+        self.assertIn("The contours do not fit: they reach, within bounds -11 68 -9 9, neither as the sum nor as the difference of strap and moved does.", self.text("#summary"))
+        # the parts in another order: of other corner counts, and of the same
+        for first, second, third in [(2, 0, 1), (1, 0, 2)]:
+            self.drop(strap=listing(STRAP), turned=listing([BUCKLE[first], BUCKLE[second], BUCKLE[third]]), c=contours)
+            self.assertIn("the contour of pair 0 0 is not the difference of left part 0 and right part 0.", self.text("#summary"))
+        # one side is enough to see that counts differ; put away, the others are as they were
+        self.setUp()
+        self.drop(c=contours)
+        self.drop(buckle=listing(BUCKLE))
+        self.assertIn("there are 3 left parts (buckle), and 6 contours of 2 left parts times 3 right parts. The other way round they fit", self.text("#summary"))
+        self.js("document.querySelector('.chip button').click()")
+        self.frame()
+        self.assertEqual(self.text("#sources"), "contours: c\n×")
+        self.assertIn("Left and right parts come from the pair job", self.text("#summary"))
+
+    def test_left_and_right_exchanged(self):
+        for sign, mode in [(-1, "places"), (1, "pairs")]:
+            # two parts each: counts do not tell the order
+            self.setUp()
+            self.drop(c=contours_of(STRAP, BUCKLE[:2], sign), strap=listing(STRAP), buckle=listing(BUCKLE[:2]))
+            good = self.js("return drawSvg()")
+            self.assertEqual(self.js("return [state.mode, state.match.why]"), [mode, None])
+            self.drop(c=contours_of(STRAP, BUCKLE[:2], sign), buckle=listing(BUCKLE[:2]), strap=listing(STRAP))
+            self.assertIn("The contours do not fit: ", self.text("#summary"))
+            self.assertIn("The other way round they fit: exchange left and right.", self.text("#summary"))
+            self.click("#exchange")
+            self.assertEqual(self.text("#sides"), "left: strap\nright: buckle\nExchange")
+            self.assertEqual(self.js("return drawSvg()"), good)
+            self.assertNotIn("do not fit", self.text("#summary"))
+            self.click("#exchange")
+            self.assertIn("The other way round they fit", self.text("#summary"))
+        # a part less itself fits both ways, and who looks at pairs goes on with them
+        self.setUp()
+        self.drop(a=listing(STRAP), b=listing(STRAP), c=contours_of(STRAP, STRAP, -1))
+        self.click("#tabs [data-mode=pairs]")
+        self.click("#exchange")
+        self.assertEqual((self.js("return [state.mode, state.match.operation]"), self.text("#sides")), (["pairs", "difference"], "left: b\nright: a\nExchange"))
+        # parts without contours are exchanged too
+        self.drop(buckle=listing(BUCKLE[:2]), strap=listing(STRAP))
+        self.js("putAway(sources().find(({ slot }) => slot === 'contours')); selectPair(0, 1)")
+        self.click("#exchange")
+        self.assertEqual(self.js("return [state.i, state.j, lefts()[1].corners.length, rights()[0].corners.length]"), [1, 0, 6, 8])
+
+    def test_a_right_mesh_about_the_origin_tells_sum_from_difference(self):
+        # bounds are the same added and subtracted; a triangle tells, a rectangle does not need to
+        triangle, rectangle = [[(-2, -1), (2, -1), (0, 1)]], [[(-2, -1), (2, -1), (2, 1), (-2, 1)]]
+        for right, sign, told in [(triangle, 1, "sum"), (triangle, -1, "difference"), (rectangle, 1, "either"), (rectangle, -1, "either")]:
+            self.setUp()
+            self.drop(left=listing(STRAP), right=table(right), c=contours_of(STRAP, right, sign))
+            self.assertEqual(self.js("return [state.match.operation, canPlace()]"), [told, told != "sum"])
+        wanted = [word_of([minkowski(a, rectangle[0], -1) for a in STRAP], x, y) for x, y in [(0, 12), (0, 11), (0, 10)]]
+        self.assertEqual(self.words([[0, 12], [0, 11], [0, 10]]), wanted)
+        # of triangles alone by how far they reach; a clasp, open to the right, reaches as far as a square, and does not tell it
+        clasp = [[(-4, -4), (4, -4), (4, -3), (-4, -3)], [(-4, -3), (-3, -3), (-3, 3), (-4, 3)], [(-4, 3), (4, 3), (4, 4), (-4, 4)]]
+        for right, sign, told in [(triangle, 1, "sum"), (triangle, -1, "difference"), (clasp, 1, None), (clasp, -1, None)]:
+            self.setUp()
+            self.drop(left=triangles_of(STRAP), right=triangles_of(right), c=contours_of(STRAP, right, sign))
+            self.assertEqual(self.js("return [state.match.why, state.match.operation, canPlace()]"), [None, told, told == "difference"])
+        self.assertIn("The contours fit a sum and a difference alike; parts will tell which it is.", self.text("#summary"))
+        self.drop(left__out=listing(STRAP))
+        self.drop(right__tab=table(clasp))
+        self.assertEqual(self.text("#verdict"), "overlapping at (0,0)")
+
+    def test_the_wrong_order_does_not_pass_where_counts_and_bounds_do(self):
+        a, b = [[(0, 0), (4, 0), (0, 4)]], [[(0, 0), (4, 0), (4, 4)]]
+        contours = contours_of(a, b, -1)
+        for form in [listing, table, triangles_of]:
+            self.setUp()
+            self.drop(b=form(b), a=form(a), c=contours)
+            self.assertIn("The other way round they fit: exchange left and right.", self.text("#summary"))
+            self.click("#exchange")
+            self.assertEqual(self.words([[-4, 0], [-3, 1], [3, -3]]), [word_of([minkowski(a[0], b[0], -1)], x, y) for x, y in [(-4, 0), (-3, 1), (3, -3)]])
+
+    def test_contours_of_any_convex_parts_are_known_again(self):
+        # clockwise, with corners in line and twice, segments and points: what document 01's walks make of them
+        square = [(0, 0), (2, 0), (4, 0), (4, 4), (4, 4), (0, 4)]
+        shapes = [square, square[::-1], [(1, 1), (5, 3)], [(3, 2), (5, 3), (1, 1), (1, 1)], [(7, 7)], [(7, 7), (7, 7)], [(0, 0), (9, 1), (3, 8)], [(-FAR // 2, -FAR // 2), (FAR // 2, -FAR // 2 + 1), (FAR // 2 - 1, FAR // 2)]]
+        for a, b, sign in itertools.product(shapes, shapes, (1, -1)):
+            if len(set(a)) == len(set(b)) == 1:
+                continue
+            made = self.js("const [a, b, sign] = arguments; return contourOf(...[[a, 1], [b, sign]].map(([p, s]) => walkOf({ corners: p.flat() }, s)))", a, b, sign)
+            self.assertEqual(made, [n for c in minkowski(a, b, sign) for n in c], (a, b, sign))
+
+    def test_two_meshes_alone_are_shown_in_two_colours(self):
+        for files in [{"a": listing(STRAP), "b": listing(BUCKLE)}, {"a": table(STRAP), "b": listing(BUCKLE)}, {"a": triangles_of(STRAP), "b": triangles_of(BUCKLE)}]:
+            self.setUp()
+            self.drop(**files)
+            self.assertIn("Contours come from what ./run contours difference LEFT RIGHT, or sum, prints: drop it too.", self.text("#summary").replace("\n", " "))
+            self.assertEqual(self.text("#sides"), "left: a\nright: b\nExchange")
+            seen = {p.get("stroke") for p in self.svg().iter(SVG + "polygon") if p.find(SVG + "title") is not None}
+            self.assertEqual(seen, set(self.js("return [coloursNow().left, coloursNow().right]")))
+            self.assertFalse(self.d.find_element(By.CSS_SELECTOR, "#tabs [data-mode=places]").is_displayed())
+        self.point(*self.place(60, 5))
+        self.assertEqual(self.tip(), ["left triangle 2", "left triangle 2: (40,0) (70,5) (40,10), neighbours none none none"])
+        ActionChains(self.d, duration=0).click().perform()
+        self.assertEqual((self.rows(), self.js("return [state.i, state.j]")), ([], [0, 0]))
+        # the meshes' contours, and then parts
+        self.drop(c=contours_of(STRAP, BUCKLE, -1))
+        self.assertEqual(self.text("#verdict"), "overlapping at (0,0)")
+        titles = [e.text for e in self.svg().iter(SVG + "title")]
+        self.assertEqual([w for w in titles if w.startswith("right")], [f"right triangle {k} overlapping at (0,0)" for k in range(5)])
+        self.drop(a=listing(STRAP))
+        self.drop(b=table(BUCKLE))
+        self.assertEqual(self.text("#sources").count("×"), 5)
+        titles = [e.text for e in self.svg().iter(SVG + "title")]
+        self.assertEqual([w for w in titles if w.startswith("right")], [f"right part {k} overlapping at (0,0)" for k in range(3)])
+        outlines = [p for p in self.svg().iter(SVG + "polygon") if p.get("stroke-width") == "0.8"]
+        self.assertEqual(len(outlines), 3 + 5, "the triangles are beneath the parts")
+        self.click("label:has(#triangles)")
+        self.assertEqual([p for p in self.svg().iter(SVG + "polygon") if p.get("stroke-width") == "0.8"], [])
+        self.click("#tabs [data-mode=pairs]")
+        self.assertEqual(len(self.rows()), 3)
+
+    def test_a_mesh_and_a_listing_are_one_side_where_they_reach_equally_far(self):
+        contours = contours_of(STRAP, BUCKLE, -1)
+        a, b = {"a__mesh": triangles_of(STRAP), "a__out": listing(STRAP)}, {"b__mesh": triangles_of(BUCKLE), "b__tab": table(BUCKLE)}
+        for order in [["a__mesh", "b__tab", "a__out", "b__mesh"], ["a__out", "b__mesh", "b__tab", "a__mesh"], ["a__out", "a__mesh", "b__mesh", "b__tab"]]:
+            given = {name: {**a, **b}[name] for name in order}
+            for ways in [[{**given, "c": contours}], [{"c": contours}, *({name: data} for name, data in given.items())]]:
+                self.setUp()
+                for way in ways:
+                    self.drop(**way)
+                self.assertEqual(self.text("#sources").split("\n×")[:4], ["left mesh: a.mesh", "\nleft listing: a.out", "\nright mesh: b.mesh", "\nright stored table: b.tab"])
+                self.assertEqual(self.text("#verdict"), "overlapping at (0,0)")
+        self.setUp()
+        self.drop(a__out=listing(STRAP), b__tab=table(BUCKLE), dart__mesh=DART_MESH)
+        self.assertIn("dart.mesh: it is of neither a.out nor b.tab, and one picture shows two meshes.", self.message())
+        self.assertEqual(self.text("#summary"), "Nothing is shown yet.")
+
+    def test_a_side_put_away_leaves_the_other_by_itself(self):
+        self.drop(a__out=listing(STRAP), b__tab=table(BUCKLE))
+        self.click(".chip button")
+        self.assertEqual(self.text("#sources"), "stored table: b.tab\n×")
+        self.assertEqual([row[:2] for row in self.rows()], [["0", "4"], ["1", "4"], ["2", "3"]])
+        # beside contours it stays the side that it is
+        self.drop(a__out=listing(STRAP), b__tab=table(BUCKLE), c=contours_of(STRAP, BUCKLE, -1))
+        self.js("putAway(sources().find(({ words }) => words === 'left listing'))")
+        self.frame()
+        self.assertEqual(self.text("#sides"), "left: missing\nright: b.tab\nExchange")
+        self.assertIn("The left mesh is missing", self.text("#summary"))
+        self.drop(a__tab=table(STRAP))
+        self.assertEqual(self.text("#verdict"), "overlapping at (0,0)")
+
+    def test_two_meshes_and_a_pair_job_replace_one_another(self):
+        self.drop(job=JOB, contours=CONTOURS)
+        self.drop(a=listing(STRAP), b=listing(BUCKLE))
+        self.assertEqual(self.message(), "The pair job job was put away.")
+        self.assertIn("The contours do not fit", self.text("#summary"))
+        self.drop(job=JOB)
+        self.assertEqual(self.message(), "The two meshes were put away, for the pair job has parts of its own.")
+        self.assertEqual(self.text("#sources"), "pair job: job\n×\ncontours: contours\n×")
+
+    def test_a_refusal_of_two_meshes(self):
+        self.drop(a=listing(STRAP), b=listing(BUCKLE), c="refused 10\n")
+        self.assertIn("The program refused these two meshes: fault 10", self.text("#summary"))
+        self.drop(d="refused 3\n")
+        self.assertIn("The program refused these two meshes: fault 3", self.text("#summary"))
+        self.drop(a=listing(BUCKLE), b=listing(STRAP))
+        self.assertIn("Contours come from what ./run contours", self.text("#summary"))
+
+    def test_a_table_alone_is_drawn_as_parts_with_areas_worked_out(self):
+        self.drop(strap__tab=table(STRAP))
+        self.assertEqual(self.rows(), [["0", "4", "800"], ["1", "3", "300"]])
+        self.assertEqual(self.text("#head"), "part corners doubled area")
+        self.assertIn("2 parts, 7 corners, total doubled area 1100", self.text("#summary"))
+        self.assertIn("the doubled areas are worked out by this page", self.text("#summary"))
+        self.assertEqual([e for e in self.labels() if "‱" in e], [])
+        self.assertFalse(self.d.find_element(By.ID, "shares").is_displayed())
+        self.click("#rows tr:nth-child(2)")
+        self.assertEqual(self.text(".line p"), "part 1: 3 corners (40,0) (70,5) (40,10)")
+        self.drop(strap=triangles_of(STRAP))
+        self.assertEqual(self.drawn(), (3, 2))
+        # the largest area, a part without corners, one that runs clockwise
+        square = [(-FAR, -FAR), (FAR, -FAR), (FAR, FAR), (-FAR, FAR)]
+        self.drop(far__tab=table([square, [], square[::-1]]))
+        self.assertEqual(self.rows(), [["0", "4", str(8 * FAR * FAR)], ["1", "0", "0"], ["2", "4", str(8 * FAR * FAR)]])
+        self.drop(dart__out=DART)
+        self.assertEqual(self.rows()[0], ["0", "3", "16", "5000"])
+
+    def test_tables_jobs_and_meshes_are_told_apart_by_what_they_say(self):
+        def kind(data):
+            return self.js("return read(Uint8Array.from(atob(arguments[0]), (c) => c.charCodeAt(0))).kind", base64.b64encode(data).decode())
+        for parts in [[], [[]], [[(5, 5)]], [STRAP[1]], STRAP, [[], []], quilt(32, 16, 100)]:
+            self.assertEqual(kind(table(parts)), "table", len(parts))
+        # jobs whose left bounds could be starts; a job has no least bound above a greatest
+        for left in [[(-5, -5), (0, -5), (0, 7)], [(0, 0), (20, 0), (0, 20)], [(-3, -3), (0, -3), (0, 1)]]:
+            for parts in [[left], [left, []]]:
+                self.assertEqual(kind(difference(parts, [left], [[]])["job"]), "job")
+        for rows in [[], [(0, 0, 4, 0, 0, 4, NONE, NONE, NONE)]]:
+            self.assertEqual(kind(mesh(rows)), "mesh")
+        self.drop(dart__out=DART)
+        good = table(STRAP)
+        for data, sentence in [(good[:-4], "the file ends inside the table"), (good + bytes(4), "the table should end here"), (table([STRAP[1]])[:-4], "the file ends inside the table"),
+                               (good[:12] + struct.pack("<I", 9) + good[16:], "the table’s starts fall from 9 to 7"), (good[:16] + struct.pack("<I", 6) + good[20:], "the table’s last start is 6"),
+                               (struct.pack("<3I", 2049, 0, 0) + bytes(9000), "byte 0: the table has 2,049 parts")]:
+            self.drop(bad=data)
+            self.assertIn(sentence, self.message())
+        self.assertEqual(len(self.rows()), 2)
+
     # ---- large ones
 
     def test_2048_parts_are_drawn_quickly(self):
@@ -1000,10 +1310,53 @@ class Viewer(unittest.TestCase):
         self.assertEqual(made, self.js("return drawSvg(viewForPrint(), LIGHT)"))
         bad = subprocess.run([str(HERE / "picture"), str(ROOT / "examples/refused_3.out")], capture_output=True, text=True)
         self.assertEqual((bad.returncode, bad.stdout), (3, ""))
-        for places, sentence in [(["0", "0"], "Only the pair job of a difference has places."), (["0"], "--placed takes an X and a Y for each place"), (["0", "1.5"], "1.5 is no whole number")]:
+        for places, sentence in [(["0", "0"], "Only the contours of a difference have places"), (["0"], "--placed takes an X and a Y for each place"), (["0", "1.5"], "1.5 is no whole number")]:
             bad = subprocess.run([str(HERE / "picture"), str(ROOT / "examples/vamp.contours"), "--placed", *places], capture_output=True, text=True)
             self.assertEqual((bad.returncode, bad.stdout), (2, ""))
             self.assertIn(sentence, bad.stderr)
+
+    def picture(self, *arguments, at=HERE, **more):
+        made = subprocess.run([str(at / "picture"), *map(str, arguments)], capture_output=True, text=True, **more)
+        return made.returncode, made.stdout, made.stderr
+
+    def written(self, **files):
+        """Files in a folder of their own, as drop() takes them."""
+        folder = pathlib.Path(tempfile.mkdtemp(dir=TEMP))
+        paths = [folder / name.replace("__", ".") for name in files]
+        for path, data in zip(paths, files.values()):
+            path.write_bytes(data.encode() if isinstance(data, str) else data)
+        return paths
+
+    def test_pictures_of_contours_and_two_meshes(self):
+        files = {"c": contours_of(STRAP, BUCKLE, -1), "strap__out": listing(STRAP), "buckle__tab": table(BUCKLE)}
+        c, strap, buckle = self.written(**files)
+        self.drop(**files)
+        placed = self.js("showPlaces([[30, 2], [0, -60]]); return drawSvg(viewForPrint(), LIGHT)")
+        self.assertEqual(self.picture(c, strap, buckle, "--placed", 30, 2, 0, -60), (0, placed, ""))
+        self.assertEqual(self.picture(c, strap, buckle, 1, 2), (0, self.js("showPair(1, 2); return drawSvg(viewForPrint(), LIGHT)"), ""))
+        code, out, said = self.picture(c, buckle, strap)
+        self.assertEqual((code, out), (2, ""))
+        self.assertIn("run: The contours do not fit: there are 3 left parts (buckle.tab) and 2 right parts (strap.out)", said)
+        self.drop(strap__out=listing(STRAP), buckle__tab=table(BUCKLE))
+        self.js("putAway(sources().find(({ slot }) => slot === 'contours'))")
+        self.assertEqual(self.picture(strap, buckle), (0, self.js("showPair(0, 0); return drawSvg(viewForPrint(), LIGHT)"), ""))
+
+    def test_a_picture_asks_for_what_a_mesh_or_a_pair_job_needs(self):
+        # both are stood in for: ./run, which tells what it was asked, and Chromium, which tells how many files the page was given
+        home = pathlib.Path(tempfile.mkdtemp(dir=TEMP))
+        shutil.copytree(HERE, home / "viewer")
+        (home / "bin").mkdir()
+        for path, lines in [("run", 'echo "$1 ${2##*/}" >&2\necho "parts 0 corners 0 area2 0"'), ("bin/chromium", 'echo "<title>svg $(grep -c \'^\\["\' page.html | base64)</title>"')]:
+            (home / path).write_text(f"#!/usr/bin/env bash\n{lines}\n")
+            (home / path).chmod(0o755)
+        one = difference(STRAP[1:], BUCKLE[1:2], [minkowski(STRAP[1], BUCKLE[1], -1)])
+        paths = dict(zip("abcjkosty", self.written(a=triangles_of(STRAP), b=triangles_of(BUCKLE), c=contours_of(STRAP, BUCKLE, -1), j=one["job"], k=one["contours"], o=listing(STRAP), s=table(STRAP[1:]), t=table([]), y="limit 0 ear\n")))
+        path = f"{home}/bin:{os.environ['PATH']}"
+        for names, asked in [("a", "areas a\n"), ("ao", ""), ("ab", "areas a\nareas b\n"), ("cab", "areas a\nareas b\n"), ("j", "pairs j\n"), ("jk", ""), ("s", ""), ("t", ""), ("st", ""), ("y", "areas y\n"), ("cos", "")]:
+            with self.subTest(names=names):
+                given = len(names) + asked.count("\n")
+                self.assertEqual(self.picture(*(paths[name] for name in names), at=home / "viewer", env={**os.environ, "PATH": path}), (0, f"{given}\n", asked))
+        self.assertIn("nothing cannot be read", self.picture(paths["c"], "nothing")[2])
 
     def test_the_readmes_pictures_are_what_is_drawn_now(self):
         self.drop(bag__txt=(ROOT / "examples/bag.txt").read_bytes(), bag__out=BAG)
@@ -1038,6 +1391,12 @@ def screenshots(folder):
         ("sum-dark", pocket, "selectPair(1, 0); setTheme(true)"),
         ("places", vamp, "placeAt(150, -20)"),
         ("places-dark", vamp, "placeAt(-70, 70); setTheme(true)"),
+        ("two-meshes", {"strap__out": listing(STRAP), "buckle__tab": table(BUCKLE)}, ""),
+        ("two-meshes-triangles", {"strap__mesh": triangles_of(STRAP), "buckle__mesh": triangles_of(BUCKLE)}, ""),
+        ("two-meshes-places", {"strap__out": listing(STRAP), "buckle__tab": table(BUCKLE), "strap__mesh": triangles_of(STRAP), "buckle__mesh": triangles_of(BUCKLE), "c__txt": contours_of(STRAP, BUCKLE, -1)}, "placeAt(30, 2)"),
+        ("two-meshes-unlike", {"buckle__out": listing(BUCKLE), "strap__out": listing(STRAP), "c__txt": contours_of(STRAP, BUCKLE, -1)}, ""),
+        ("two-meshes-sum-dark", {"strap__out": listing(STRAP), "buckle__out": listing(BUCKLE), "c__txt": contours_of(STRAP, BUCKLE, 1)}, "setTheme(true); selectPair(1, 2)"),
+        ("table", {"strap__tab": table(STRAP)}, "selectPart(1, true)"),
         ("refused", {**bag, "bag__out": "refused 4\n"}, ""),
         ("bad", {"dart__out": DART}, "showText('parts 2', 'bad.out')"),
     ]
