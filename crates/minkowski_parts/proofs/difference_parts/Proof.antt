@@ -3,17 +3,11 @@ use borrow.Author.Needs.{needs}
 use Rattle.minkowski_parts.proofs.difference_parts.Statement.{statement}
 use Rattle.minkowski_parts.proofs.difference_parts.Tie as tie
 
-fits-requires : tie.Need-fits-requires
-fits-requires c κs = search needs
-
-fits-requires-2 : tie.Need-fits-requires-2
-fits-requires-2 c κs = search needs
+both-fit-requires : tie.Need-both-fit-requires
+both-fit-requires c κs = search needs
 
 tiny-pairs-requires : tie.Need-tiny-pairs-requires
-tiny-pairs-requires c κs =
-    let t = c .before .before in
-    let u = t .before .before in
-    (u .before .fits2 .ensures (u .if1 .taken), t .before .fits3 .ensures (t .if2 .taken))
+tiny-pairs-requires c κs = c .before .before .before .both-fit .ensures (c .before .before .if1 .taken)
 
 same-length : tie.Need-same-length
 same-length c = search needs
@@ -41,4 +35,15 @@ returns-2 c =
     (a .counts, (a .starts, a .corners))
 
 pub difference-parts-spec : {M : Type 1} → statement M
-difference-parts-spec = tie.close (tie.spec fits-requires fits-requires-2 tiny-pairs-requires same-length same-length-2 returns all-pairs-requires same-length-3 same-length-4 returns-2)
+difference-parts-spec =
+    tie.close
+    (tie.spec
+    both-fit-requires
+    tiny-pairs-requires
+    same-length
+    same-length-2
+    returns
+    all-pairs-requires
+    same-length-3
+    same-length-4
+    returns-2)
