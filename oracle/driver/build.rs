@@ -1,12 +1,12 @@
-//! Links the C++ that BENCH_PEERS lists (oracle/peers/archive) into the benchmark, and
-//! libforms.a, of the forms by hand that the package has not. The archive of the Rattle
+//! Links the C++ and the earlier build that BENCH_PEERS lists (oracle/peers/archive) into
+//! the benchmark, and libforms.a, of the forms by hand that the package has not. The archive of the Rattle
 //! functions that it has is linked by the crate bezinkwolu.
 
 use std::env;
 
 fn main() {
     println!("cargo:rerun-if-env-changed=BENCH_PEERS");
-    println!("cargo:rustc-check-cfg=cfg(peers, cgal)");
+    println!("cargo:rustc-check-cfg=cfg(peers, cgal, before)");
     if env::var_os("CARGO_FEATURE_LINKED").is_none() {
         return;
     }
@@ -18,7 +18,11 @@ fn main() {
     }
     let peers = env::var("BENCH_PEERS").unwrap_or_default();
     for peer in peers.split(':').filter(|peer| !peer.is_empty()) {
-        if peer == "cgal" {
+        if peer.ends_with("libbefore.a") {
+            println!("cargo:rerun-if-changed={peer}");
+            println!("cargo:rustc-cfg=before");
+            println!("cargo:rustc-link-arg-bin=bench={peer}");
+        } else if peer == "cgal" {
             println!("cargo:rustc-cfg=cgal");
             println!("cargo:rustc-link-arg-bin=bench=-lmpfr");
             println!("cargo:rustc-link-arg-bin=bench=-lgmp");

@@ -27,13 +27,13 @@ use Rattle.minkowski_pairs.proofs.Sums.{corners-are-sums}
 
 -- ---- a corner within bounds
 
-record Inside (b : IntRect) (p : Pt) : Type 0 where
-  left : b .«min_x» ≤ℤ p .x
-  right : p .x ≤ℤ b .«max_x»
-  low : b .«min_y» ≤ℤ p .y
-  high : p .y ≤ℤ b .«max_y»
+pub record InBounds (b : IntRect) (p : Pt) : Type 0 where
+  pub left : b .«min_x» ≤ℤ p .x
+  pub right : p .x ≤ℤ b .«max_x»
+  pub low : b .«min_y» ≤ℤ p .y
+  pub high : p .y ≤ℤ b .«max_y»
 
-within-inside : (b : IntRect) (p : Pt) → withinBounds b p ≡ true → Inside b p
+within-inside : (b : IntRect) (p : Pt) → withinBounds b p ≡ true → InBounds b p
 unfolding withinBounds
 within-inside b p h =
     let u = both-true (leZ (b .«min_x») (p .x)) _ h in
@@ -41,22 +41,22 @@ within-inside b p h =
     let w = both-true (leZ (b .«min_y») (p .y)) _ (v .1) in
     record { left = leZ-≤ _ _ (u .0); right = leZ-≤ _ _ (v .0); low = leZ-≤ _ _ (w .0); high = leZ-≤ _ _ (w .1) }
 
-inside-within : (b : IntRect) (p : Pt) → Inside b p → withinBounds b p ≡ true
+inside-within : (b : IntRect) (p : Pt) → InBounds b p → withinBounds b p ≡ true
 unfolding withinBounds
 inside-within b p i = rw (≤-leZ (i .left), ≤-leZ (i .right), ≤-leZ (i .low), ≤-leZ (i .high))
 
 -- what the test of an operand's bounds tells
-bounds-hold : (b : IntRect) (l : List Pt) → boundsBroken b l ≡ false → All (Inside b) l
+bounds-hold : (b : IntRect) (l : List Pt) → boundsBroken b l ≡ false → All (InBounds b) l
 unfolding boundsBroken someOutside
 bounds-hold b l h = none l (either-false (ltZ (b .«max_y») (b .«min_y»)) (someOutside b l) (either-false (ltZ (b .«max_x») (b .«min_x»)) _ h .1) .1)
   where
-    none : (l : List Pt) → someOutside b l ≡ false → All (Inside b) l
+    none : (l : List Pt) → someOutside b l ≡ false → All (InBounds b) l
     none [] h = tt
     none (p ∷ l) h = let t = was-taken (withinBounds b p) _ h in (within-inside b p (t .0), none l (t .1))
 
 -- ---- a sum of corners
 
-inside-add : (l r : IntRect) (a b : Pt) → Inside l a → Inside r b → Inside (sumBounds l r) (a +ᵖ b)
+inside-add : (l r : IntRect) (a b : Pt) → InBounds l a → InBounds r b → InBounds (sumBounds l r) (a +ᵖ b)
 inside-add l r a b i j = record {
   left = +-mono (i .left) (j .left);
   right = +-mono (i .right) (j .right);
@@ -65,21 +65,21 @@ inside-add l r a b i j = record {
 }
 
 -- the bounds of an operand turned through the origin
-abbrev turnedBounds : IntRect → IntRect
+abbrev pub turnedBounds : IntRect → IntRect
 turnedBounds r = record { «min_x» = negℤ (r .«max_x»); «max_x» = negℤ (r .«min_x»); «min_y» = negℤ (r .«max_y»); «max_y» = negℤ (r .«min_y») }
 
-inside-neg : (r : IntRect) (b : Pt) → Inside r b → Inside (turnedBounds r) (negᵖ b)
+pub inside-neg : (r : IntRect) (b : Pt) → InBounds r b → InBounds (turnedBounds r) (negᵖ b)
 inside-neg r b i = record { left = neg-mono (i .right); right = neg-mono (i .left); low = neg-mono (i .high); high = neg-mono (i .low) }
 
-sum-inside : (l r : IntRect) (c : Pt) (A B : List Pt) → All (Inside l) A → All (Inside r) B → Any (λ a. Any (λ b. c ≡ a +ᵖ b) B) A → Inside (sumBounds l r) c
-sum-inside l r c A B ha hb s = all-any A ha s (λ a i t. all-any B hb t (λ b j e. subst (Inside (sumBounds l r)) (sym e) (inside-add l r a b i j)))
+sum-inside : (l r : IntRect) (c : Pt) (A B : List Pt) → All (InBounds l) A → All (InBounds r) B → Any (λ a. Any (λ b. c ≡ a +ᵖ b) B) A → InBounds (sumBounds l r) c
+sum-inside l r c A B ha hb s = all-any A ha s (λ a i t. all-any B hb t (λ b j e. subst (InBounds (sumBounds l r)) (sym e) (inside-add l r a b i j)))
 
 -- each corner of a pair lies within the bounds of the pair
-pair-inside : (reflected : Bool) (l r : IntRect) (A B : List Pt) → All (Inside l) A → All (Inside r) B → All (Inside (resultBounds reflected l r)) (pairContour reflected A B)
+pair-inside : (reflected : Bool) (l r : IntRect) (A B : List Pt) → All (InBounds l) A → All (InBounds r) B → All (InBounds (resultBounds reflected l r)) (pairContour reflected A B)
 unfolding resultBounds second throughOrigin
 pair-inside false l r A B ha hb = all-map (pairContour false A B) (λ c s. sum-inside l r c A B ha hb s) (corners-are-sums false A B)
 pair-inside true l r A B ha hb =
-    let turned : All (Inside (turnedBounds r)) (map negᵖ B) = all-image (Inside (turnedBounds r)) negᵖ B .1 (all-map B (λ b i. inside-neg r b i) hb) in
+    let turned : All (InBounds (turnedBounds r)) (map negᵖ B) = all-image (InBounds (turnedBounds r)) negᵖ B .1 (all-map B (λ b i. inside-neg r b i) hb) in
     all-map (pairContour true A B) (λ c s. sum-inside l (turnedBounds r) c A (map negᵖ B) ha turned s) (corners-are-sums true A B)
 
 -- ---- on the grid, where the bounds are
@@ -88,7 +88,7 @@ between : (a b z : ℤ) → inRange a ≡ true → inRange b ≡ true → a ≤�
 unfolding inRange
 between a b z ha hb h k = rw (<-leZ {x = z} {y = negsuc 1073741823} (omega (zarith, abs-parts a, in-range-coordinate a ha .abs)), <-ltZ {x = z} {y = pos 1073741824} (omega (zarith, abs-parts b, in-range-coordinate b hb .abs)))
 
-inside-grid : (b : IntRect) (p : Pt) → offRange (boundsList b) ≡ false → Inside b p → onGrid p ≡ true
+inside-grid : (b : IntRect) (p : Pt) → offRange (boundsList b) ≡ false → InBounds b p → onGrid p ≡ true
 unfolding offRange onGrid
 inside-grid b p h i =
     let t = was-taken (inRange (b .«min_x»)) _ h in
@@ -122,10 +122,10 @@ unrefused reflected l r s c h =
     record { left-table = h1 .0; right-table = h2 .0; left-bounds = h5 .0; right-bounds = h6 .0; result-bounds = h9 .0 }
 
 -- the parts of an operand lie within its bounds
-parts-inside : (o : Operand) → tableBroken (o .starts) (o .corners) ≡ false → boundsBroken (o .bounds) (pointsOf (o .corners)) ≡ false → All (All (Inside (o .bounds))) (operandParts o)
+pub parts-inside : (o : Operand) → tableBroken (o .starts) (o .corners) ≡ false → boundsBroken (o .bounds) (pointsOf (o .corners)) ≡ false → All (All (InBounds (o .bounds))) (operandParts o)
 parts-inside o h k =
-    all-flatten (Inside (o .bounds)) (operandParts o) .0
-    (subst (All (Inside (o .bounds))) (sym (flatten-whole (o .starts) (o .corners) h)) (bounds-hold (o .bounds) (pointsOf (o .corners)) k))
+    all-flatten (InBounds (o .bounds)) (operandParts o) .0
+    (subst (All (InBounds (o .bounds))) (sym (flatten-whole (o .starts) (o .corners) h)) (bounds-hold (o .bounds) (pointsOf (o .corners)) k))
 
 -- what holds of each pair's contour holds of all
 pub pairs-all : (Q : List Pt → Type 0) (reflected : Bool) (ls rs : List (List Pt)) → All (λ a. All (λ b. Q (pairContour reflected a b)) rs) ls → All Q (pairsOf reflected ls rs)

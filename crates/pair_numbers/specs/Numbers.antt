@@ -24,6 +24,13 @@ pub record NumbersOf (first : Bool) (numbers : List ℕ) (points : List (List �
 pub record NumberedTo (m : ℕ) (ws : List (List Pt)) (firsts numbers : List ℕ) (left : ℕ) : Type 0 where
   pub at : (n i : ℕ) → n < m → i < length (getD ws n []) → getD numbers (getD firsts n 0 + i) 0 ≡ numberOf (ltb n left) (getD ws n []) i
 
+-- two operands' walks in one buffer, and a place a point for their numbers
+pub record Numberable (firsts : List ℕ) (points : List (List ℤ)) (left right : ℕ) (numbers : List ℕ) : Type 0 where
+  pub walks : Walks firsts points (left + right)
+  pub few : length points < 2 ^ 32
+  pub room : length points ≤ length numbers
+  pub counted : left + right < 2 ^ 32
+
 -- two operands' walks in one buffer, with a number a point, and the numbers compare as directions do
 pub record Keyed (firsts : List ℕ) (points : List (List ℤ)) (numbers : List ℕ) (left right : ℕ) : Type 0 where
   pub walks : Walks firsts points (left + right)

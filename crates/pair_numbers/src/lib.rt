@@ -1,14 +1,14 @@
 // The numbers of walks' points (direction_keys), by which pairs are merged: `number_walks` writes them for all walks of two operands, once, into a lent buffer with a place
 // a point (`Numbered` of specs/Numbers.antt). Leans on direction_keys, pair_merge (edges read), pair_walks and plane.
 ghost use mathlib.Core.Path.{_≡_};
-ghost use Prim.Native.Nat.{_+_, _<_, _≤_, _^_};
-ghost use lib.ListN.{length, getD};
+ghost use Prim.Native.Nat.{_+_, _<_, _^_};
+ghost use lib.ListN.{length};
 ghost use Rattle.convex_ring.specs.Buffers.{Grid};
 ghost use Rattle.pair_points.proofs.Turns.{edgeAt};
 ghost use Rattle.pair_merge.specs.Putting.{pointsIn, Mergeable};
-ghost use Rattle.direction_keys.specs.Marks.{mark, leftNumber, rightNumber, SmallEdge};
-ghost use Rattle.pair_walks.specs.Walks.{Walks};
-ghost use Rattle.pair_numbers.specs.Numbers.{NumbersOf, WalkIn, Numbered, NumberedTo};
+ghost use Rattle.direction_keys.specs.Marks.{mark, rightNumber, SmallEdge};
+ghost use Rattle.pair_walks.specs.Walks.{walksIn};
+ghost use Rattle.pair_numbers.specs.Numbers.{numberOf, NumbersOf, Numberable, NumberedTo};
 use plane::Ordering;
 
 // Above the number of any edge: that of the last point.
@@ -65,17 +65,7 @@ fn put_numbers(a: &[[i32; 2]], first: bool, out: &mut [u64])
     }
 }
 
-// Those of walk n, whose points stand from firsts[n] to firsts[n + 1].
-fn number_walk(firsts: &[u32], points: &[[i32; 2]], n: usize, first: bool, numbers: &mut [u64])
-    requires { ⌜ Numberable (now firsts) (now points) n (now numbers) ⌝ }
-    ensures { λ r. ⌜ WalkNumbered first (now (firsts .entry)) n (walkAt (now (firsts .entry)) (now (points .entry)) n) (now (numbers .entry)) (now (numbers .exit)) ⌝ }
-{
-    let from = firsts[n] as usize;
-    let to = firsts[n + 1] as usize;
-    put_numbers(&points[from..to], first, &mut numbers[from..to]);
-}
-
-// Those of all walks of two operands, the left one's first.
+// Those of all walks of two operands, the left one's first: walk n has the points from firsts[n] to firsts[n + 1].
 pub fn number_walks(
     firsts: &[u32],
     points: &[[i32; 2]],
@@ -83,13 +73,16 @@ pub fn number_walks(
     right: usize,
     numbers: &mut [u64],
 )
-    requires { ⌜ Walks (now firsts) (now points) (left + right) × (length (now points) < 2 ^ 32) × (length (now points) ≤ length (now numbers)) ⌝ }
-    ensures { λ r. ⌜ (length (now (numbers .exit)) ≡ length (now (numbers .entry))) × NumberedTo (left + right) (walksIn (now (firsts .entry)) (now (points .entry)) (left + right)) (now (firsts .entry)) (now (numbers .exit)) left ⌝ }
+    requires { ⌜ Numberable (now firsts) (now points) left right (now numbers) ⌝ }
+    ensures size { λ r. ⌜ length (now (numbers .exit)) ≡ length (now (numbers .entry)) ⌝ }
+    ensures numbered { λ r. ⌜ NumberedTo (left + right) (walksIn (now (firsts .entry)) (now (points .entry)) (left + right)) (now (firsts .entry)) (now (numbers .exit)) left ⌝ }
 {
     let all = left + right;
     let mut n: usize = 0;
     while n < all {
-        number_walk(firsts, points, n, n < left, numbers);
+        let from = firsts[n] as usize;
+        let to = firsts[n + 1] as usize;
+        put_numbers(&points[from..to], n < left, &mut numbers[from..to]);
         n += 1;
     }
 }

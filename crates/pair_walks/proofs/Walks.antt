@@ -5,7 +5,7 @@ use mathlib.Core.Bool.{Bool, true, false}
 use mathlib.Core.List.{List, [], _∷_, _++_, map, flatten}
 use Prim.Native.Nat.{ℕ, zero, suc, _+_, _-_, _≤_, _<_}
 use native.Mathlib.Omega.{arith}
-use lib.ListN.{length, getD, take, drop, length-map}
+use lib.ListN.{length, getD, take, drop, length-map, length-take, length-drop}
 use lib.Seq.{take-all}
 use lib.IntN.{ℤ, pos, negsuc}
 use Rattle.integers.specs.Lists.{All}
@@ -62,6 +62,24 @@ module _ (firsts : List ℕ) (points : List (List ℤ)) (n q : ℕ) (w : Walks f
           on [] i g = unfold onGrid inRange in refl
           on (p ∷ l) zero g = g .0
           on (p ∷ l) (suc i) g = on l i (g .1)
+
+  -- as long as its places
+  pub walk-length : getD firsts q 0 + length (getD (walksIn firsts points n) q []) ≡ getD firsts (q + 1) 0
+  walk-length =
+      let l = take (getD firsts (q + 1) 0 - getD firsts q 0) (drop (getD firsts q 0) points) in
+      omega (arith, walk-placed .rises, walk-placed .within, ap length (walk-placed .corners), length-map l cornerOf, length-take (getD firsts (q + 1) 0 - getD firsts q 0) (drop (getD firsts q 0) points), length-drop (getD firsts q 0) points)
+
+-- walks begin one after another
+pub firsts-rise : (firsts : List ℕ) (points : List (List ℤ)) (n : ℕ) → Walks firsts points n → (p d : ℕ) → p + d ≤ n → getD firsts p 0 ≤ getD firsts (p + d) 0
+firsts-rise firsts points n w p zero h = omega (arith, ap (λ k. getD firsts k 0) (end p))
+  where
+    end : (p : ℕ) → p + 0 ≡ p
+    end p = omega arith
+firsts-rise firsts points n w p (suc d) h =
+    omega (arith, firsts-rise firsts points n w p d (omega arith), walk-placed firsts points n (p + d) w (omega arith) .rises, ap (λ k. getD firsts k 0) (along d))
+  where
+    along : (d : ℕ) → p + suc d ≡ p + d + 1
+    along d = omega arith
 
 -- a number of that size is in range
 coordinate-in-range : (z : ℤ) → Coordinate z → inRange z ≡ true

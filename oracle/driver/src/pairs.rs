@@ -332,16 +332,21 @@ fn faults_by_name(rng: &mut Rng, operation: Operation, times: usize) -> Vec<Call
     out
 }
 
-/// An accepted pair, few of them of many parts or long ones; then, once in two times,
-/// with a fault or with two.
+/// An accepted pair, few of them of many parts or long ones, once in ten times with edges
+/// that differ in direction by next to nothing; then, once in two times, with a fault or
+/// with two.
 fn any_call(rng: &mut Rng, operation: Operation) -> Call {
     let (most, corners) = match rng.below(400) {
         0 => (3, CONTOUR),
         1 => (60, 20),
         2..=20 => (12, 40),
+        21..=120 => (8, 7),
         _ => (4, 9),
     };
-    let mut pair = operands::good(rng, most, corners);
+    let mut pair = match rng.below(10) {
+        0 => operands::neighbours(rng, operation),
+        _ => operands::good(rng, most, corners),
+    };
     pair.operation = operation;
     let lent = rooms::about(rng, size(&pair));
     if rng.once_in(2) {

@@ -75,6 +75,98 @@ pub fn good(rng: &mut Rng, most: usize, corners: usize) -> Pair {
     }
 }
 
+/// An accepted pair with left and right edges whose directions differ by the least that
+/// the range allows: their cross is 1 or -1, and their extents add up to little less than 2^31
+/// on an axis, which two operands of a pair can have together and no more.
+pub fn neighbours(rng: &mut Rng, operation: Operation) -> Pair {
+    let count = 1 + rng.below(5);
+    let mut sides = [Vec::new(), Vec::new()];
+    let wide_first = rng.once_in(2);
+    for _ in 0..count {
+        let (wide, narrow) = neighbour_edges(rng);
+        let (e, f) = if wide_first {
+            (wide, narrow)
+        } else {
+            (narrow, wide)
+        };
+        let turn = rng.below(8);
+        // the right parts of a difference are turned through the origin
+        let back = match operation {
+            Operation::Sum => 1,
+            Operation::Difference => -1,
+        };
+        sides[0].push(beneath(turned(turn, e)));
+        let (x, y) = turned(turn, f);
+        sides[1].push(beneath((back * x, back * y)));
+    }
+    let [left, right] = sides.map(|edges| within(rng, &edges));
+    Pair {
+        operation,
+        left,
+        right,
+    }
+}
+
+/// Two edges of the first quadrant with the cross 1 or -1: one with an extent about 2^30 or
+/// more, and one at most half as long.
+fn neighbour_edges(rng: &mut Rng) -> ((i64, i64), (i64, i64)) {
+    loop {
+        let reach = rng.pick(&[(1 << 30) - 1, 1_400_000_000]);
+        let a = i64::from(rng.between(reach - 1_000, reach));
+        let b = i64::from(rng.between(1, a as i32));
+        let (gcd, x, y) = bezout(a, b);
+        if gcd != 1 {
+            continue;
+        }
+        // a d - b c = 1 with 0 <= c < a
+        let (c, d) = match y {
+            y if y <= 0 => (-y, x),
+            y => (a - y, b + x),
+        };
+        if c <= a / 2 {
+            return ((a, b), (c, d));
+        }
+        return ((a, b), (a - c, b - d));
+    }
+}
+
+/// gcd, x and y with a x + b y = gcd.
+fn bezout(a: i64, b: i64) -> (i64, i64, i64) {
+    match b {
+        0 => (a, 1, 0),
+        _ => {
+            let (gcd, x, y) = bezout(b, a % b);
+            (gcd, y, x - a / b * y)
+        }
+    }
+}
+
+/// One of the eight ways to turn the plane and look at it from behind.
+fn turned(way: usize, (x, y): (i64, i64)) -> (i64, i64) {
+    let (x, y) = if way & 1 == 0 { (x, y) } else { (y, x) };
+    let sign = |bit: usize, z: i64| if way & bit == 0 { z } else { -z };
+    (sign(2, x), sign(4, y))
+}
+
+/// The corners of a triangle with this edge, about its box's middle.
+fn beneath((x, y): (i64, i64)) -> Contour {
+    let (left, low) = (-x / 2, -y / 2);
+    [(0, 0), (x, y), (0, y)]
+        .map(|(u, v)| ((left + u) as i32, (low + v) as i32))
+        .to_vec()
+}
+
+fn within(rng: &mut Rng, parts: &[Contour]) -> Operand {
+    let mut parts = parts.to_vec();
+    if rng.once_in(2) {
+        parts.push(parts[0].clone());
+    }
+    Operand {
+        bounds: contours::bounds(&parts.concat()),
+        table: Table::of(&parts),
+    }
+}
+
 /// Contours whose numbers stand at a limit: parts, corners, or corners of one
 /// contour, `past` more than it.
 pub fn at_limit(rng: &mut Rng, past: i32) -> Vec<Contour> {
@@ -165,6 +257,23 @@ mod tests {
                 "{pair:?}"
             );
         }
+    }
+
+    #[test]
+    fn neighbours_are_accepted_and_all_but_parallel() {
+        let mut rng = Rng::new(33);
+        let mut widest = 0;
+        for _ in 0..3_000 {
+            let operation = rng.pick(&[Operation::Sum, Operation::Difference]);
+            let pair = neighbours(&mut rng, operation);
+            assert_eq!(fault(operation, &pair.left, &pair.right), 0, "{pair:?}");
+            let [l, r] = [&pair.left.bounds, &pair.right.bounds];
+            let width = |b: &[i32; 4]| i64::from(b[1]) - i64::from(b[0]);
+            widest = widest.max(width(l) + width(r));
+            let (e, f) = neighbour_edges(&mut rng);
+            assert_eq!((e.0 * f.1 - e.1 * f.0).abs(), 1);
+        }
+        assert!(widest > (1 << 31) - (1 << 26), "{widest}");
     }
 
     #[test]

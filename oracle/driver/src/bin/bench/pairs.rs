@@ -1,9 +1,10 @@
-//! All pair sums, timed: our `sum_parts`, whole and with all its checks, the Rust's and
-//! a textbook merge in C++ on the same operands.
+//! All pair sums, timed: our `sum_parts`, whole and with all its checks, the Rust's,
+//! a textbook merge in C++ and an earlier build of ours, where one is named, on the same
+//! operands.
 
 use crate::peers;
 use crate::timing::{median, timed};
-use driver::boundary::sum_parts;
+use driver::boundary::{has_before, sum_parts, sum_parts_before, AllPairs};
 use driver::pairs::{Bounds, HandedOperand};
 use i_triangle::int::expose::PreparedPairs;
 use inputs::contours;
@@ -27,13 +28,20 @@ const SIZES: [Size; 5] = [
 /// The same contours, four times as many pairs from line to line.
 const GROWING: [Size; 3] = [(16, 16, 8), (32, 32, 8), (64, 64, 8)];
 
-/// How many pairs of triangles take turns, so many that the processor cannot learn
+/// How many operands of a small job take turns, so many that the processor cannot learn
 /// their branches.
-const TRIANGLES: usize = 256;
+const TURNS: usize = 256;
+
+/// Small jobs: one pair of triangles, and 4 by 4 contours.
+const SMALL: [(Size, &str); 2] = [
+    ((1, 1, 3), "one pair of triangles"),
+    ((4, 4, 8), "4 by 4 of 8 corners"),
+];
 
 pub fn pairs(rounds: usize) {
     println!("our whole sum_parts: its time over that of the C++, of the Rust's walks alone,");
-    println!("of the Rust's sum_parts; CGAL's time over ours where it is installed");
+    println!("of the Rust's sum_parts, of the earlier build where one is named; CGAL's time over");
+    println!("ours where it is installed");
     println!("ample room            exact room");
     for size in SIZES {
         let mut subject = Subject::of(&mut Rng::new(1), size);
@@ -42,7 +50,12 @@ pub fn pairs(rounds: usize) {
         let times = subject.times(rounds, 1);
         println!("{}    {}", times.told(), name(size));
     }
-    triangles(rounds);
+    let mut subject = Subject::between(&octagons(64), &octagons(64));
+    let times = subject.times((rounds / 3).max(101), 1);
+    println!("{}    64 by 64 octagons, all edges tie", times.told());
+    for (size, name) in SMALL {
+        small(rounds, size, name);
+    }
     growth(rounds);
 }
 
@@ -50,19 +63,25 @@ fn name((left, right, corners): Size) -> String {
     format!("{left} by {right} of {corners} corners")
 }
 
-/// One pair of triangles, the same one or another each time.
-fn triangles(rounds: usize) {
+/// A small job, the same one or another each time.
+fn small(rounds: usize, size: Size, name: &str) {
     let mut rng = Rng::new(1);
-    let mut all: Vec<Subject> = (0..TRIANGLES)
-        .map(|_| Subject::of(&mut rng, (1, 1, 3)))
-        .collect();
-    for (count, name) in [(1, "the same"), (TRIANGLES, "another each time")] {
+    let mut all: Vec<Subject> = (0..TURNS).map(|_| Subject::of(&mut rng, size)).collect();
+    for (count, which) in [(1, "the same"), (TURNS, "another each time")] {
         let mut times = Times::default();
-        for _ in 0..rounds {
-            times.add_turns(&mut all[..count], TRIANGLES);
+        for _ in 0..(rounds / size.0).max(101) {
+            times.add_turns(&mut all[..count], TURNS);
         }
-        println!("{}    one pair of triangles, {name}", times.told());
+        println!("{}    {name}, {which}", times.told());
     }
+}
+
+/// Octagons of several sizes whose edges lie on the axes and the diagonals.
+fn octagons(count: i32) -> Vec<Contour> {
+    let corners = [(1, 0), (2, 0), (3, 1), (3, 2), (2, 3), (1, 3), (0, 2), (0, 1)];
+    (1..=count)
+        .map(|k| corners.map(|(x, y)| (k * x, k * y)).to_vec())
+        .collect()
 }
 
 /// The time for each result corner at three sizes over that at the first.
@@ -135,11 +154,16 @@ impl Subject {
         if right.len() > 1 {
             right[0].clone_from(&left[0]);
         }
-        let (l, r) = (Side::of(&left), Side::of(&right));
-        let mut rust = PreparedPairs::of(&left, l.bounds, &right, r.bounds);
+        let subject = Self::between(&left, &right);
+        assert_eq!(2 * subject.corners < subject.numbers.len(), right.len() > 1);
+        subject
+    }
+
+    fn between(left: &[Contour], right: &[Contour]) -> Self {
+        let (l, r) = (Side::of(left), Side::of(right));
+        let mut rust = PreparedPairs::of(left, l.bounds, right, r.bounds);
         let most = right.len() * l.table.corner_count() + left.len() * r.table.corner_count();
         let corners = rust.draw();
-        assert_eq!(corners < most, right.len() > 1);
         let mut subject = Self {
             starts: vec![0; left.len() * right.len() + 1],
             numbers: vec![0; 2 * most],
@@ -162,8 +186,11 @@ impl Subject {
             .flat_map(|p| [p.x, p.y])
             .collect();
         for room in [self.numbers.len(), 2 * self.corners] {
-            assert_eq!(self.ours(room), self.corners);
-            assert!(self.numbers.starts_with(&rust));
+            for call in [sum_parts, sum_parts_before] {
+                self.numbers.fill(0);
+                assert_eq!(self.told(call, room), self.corners);
+                assert!(self.numbers.starts_with(&rust));
+            }
         }
         self.numbers.fill(0);
         if let Some(count) = self.textbook() {
@@ -173,10 +200,19 @@ impl Subject {
     }
 
     fn ours(&mut self, room: usize) -> usize {
+        self.told(sum_parts, room)
+    }
+
+    /// The earlier build, where one is named; else this one again.
+    fn before(&mut self, room: usize) -> usize {
+        self.told(sum_parts_before, room)
+    }
+
+    fn told(&mut self, call: AllPairs, room: usize) -> usize {
         let operands = [self.left.handed(), self.right.handed()];
         let starts = black_box(&mut self.starts[..]);
         let numbers = black_box(&mut self.numbers[..room]);
-        let told = sum_parts(operands, starts.into(), numbers.into());
+        let told = call(operands, starts.into(), numbers.into());
         assert_eq!(told.fault, 0);
         told.corners as usize
     }
@@ -217,6 +253,7 @@ struct Times {
     textbook: Vec<Duration>,
     walks: Vec<Duration>,
     rust: Vec<Duration>,
+    before: [Vec<Duration>; 2],
     cgal: Vec<Duration>,
 }
 
@@ -240,6 +277,18 @@ impl Times {
         self.exact.push(exact);
         self.rust
             .push(timed(calls, |k| all[k % n].rust.sum_parts()));
+        if has_before() {
+            let ample = timed(calls, |k| {
+                let room = all[k % n].numbers.len();
+                all[k % n].before(room)
+            });
+            let exact = timed(calls, |k| {
+                let room = 2 * all[k % n].corners;
+                all[k % n].before(room)
+            });
+            self.before[0].push(ample);
+            self.before[1].push(exact);
+        }
         // CGAL takes so long that three rounds are enough.
         if self.cgal.len() < 3 && all[0].cgal().is_some() {
             self.cgal.push(timed(calls, |k| all[k % n].cgal()));
@@ -263,8 +312,14 @@ impl Times {
             Some(theirs) => format!("{:4.2}", ours / theirs),
             None => "none".into(),
         };
-        let told = ours.map(|ours| theirs.map(|theirs| over(ours, theirs)).join(" "));
+        let before = self.before.map(of);
+        let told = [0, 1].map(|k| {
+            let [cpp, walks, rust] = theirs;
+            [cpp, walks, rust, before[k]]
+                .map(|theirs| over(ours[k], theirs))
+                .join(" ")
+        });
         let cgal = cgal.map_or("none".into(), |cgal| format!("{:.0}", cgal / ours[0]));
-        format!("{}        {}        {cgal}", told[0], told[1])
+        format!("{}   {}   {cgal}", told[0], told[1])
     }
 }
