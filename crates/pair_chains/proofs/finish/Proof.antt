@@ -21,7 +21,7 @@ loop-holds c =
     stands-start (s .args .points .now) (s .args .numbers .now) (s .args .end) (s .args .s) (s .args .out .now) (s .pre .1)
 
 going-requires : tie.Need-going-requires Inv-loop μ-loop
-going-requires c κs = let b = c .before .before .pre .0 .few in let r = c .loop .inv .runs in (omega (arith, b, r .left), omega (arith, b, r .right))
+going-requires c κs = let b = c .before .before .pre .0 .few in let r = c .loop .inv .runs in record { left = omega (arith, b, r .left); right = omega (arith, b, r .right) }
 
 step-requires : tie.Need-step-requires Inv-loop μ-loop
 step-requires c κs =
