@@ -101,3 +101,4 @@ merged-pairs reflected (A ∷ As) Bs = ap₂ _++_ (row Bs) (merged-pairs reflect
     row : (Bs : List (List Pt)) → mergedRow (unrolled false A) (map (unrolled reflected) Bs) ≡ map (pairContour reflected A) Bs
     row [] = refl
     row (B ∷ Bs) = ap₂ _∷_ (sym (pair-merged reflected A B)) (row Bs)
+
