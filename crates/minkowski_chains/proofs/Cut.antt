@@ -23,6 +23,7 @@ use Rattle.pair_merge.proofs.Merging.{point-in}
 use Rattle.pair_walks.specs.Walks.{walksIn, walkIn, Walks, contoursIn, mergedAll, pairIn}
 use Rattle.pair_walks.proofs.Walks.{walk-placed}
 use Rattle.direction_keys.specs.Marks.{Close}
+use Rattle.minkowski_rows.specs.Rows.{AllPut}
 use Rattle.pair_numbers.specs.Numbers.{numberOf, NumberedTo, Keyed}
 use Rattle.pair_chains.specs.Chains.{Buffers}
 use Rattle.minkowski_chains.specs.Contours.{Used}
@@ -53,6 +54,9 @@ module _ (firsts : List ℕ) (points : List (List ℤ)) (numbers : List ℕ) (le
 
   pub put-same : (p q : ℕ) {n : ℕ} {out out′ : List ℤ} {at k′ : ℕ} → n ≡ getD firsts (left + right) 0 → Put (pairIn firsts (take n points) left right p q) out at out′ k′ → Put (pairIn firsts points left right p q) out at out′ k′
   put-same p q {out = out} {out′} {at} {k′} e r = subst (λ l. Put l out at out′ k′) (ap (λ n. pairIn firsts (take n points) left right p q) e ∙ pair-same p q) r
+
+  pub all-same : {n : ℕ} {s s′ : List ℕ} {c c′ : List ℤ} {m : ℕ} → n ≡ getD firsts (left + right) 0 → AllPut (contoursIn firsts (take n points) left right) s c s′ c′ m → AllPut (contoursIn firsts points left right) s c s′ c′ m
+  all-same {s = s} {s′} {c} {c′} {m} e r = subst (λ l. AllPut l s c s′ c′ m) (ap (λ n. contoursIn firsts (take n points) left right) e ∙ contours-same) r
 
   -- there are as many points as that
   pub points-size : getD firsts (left + right) 0 ≤ length points

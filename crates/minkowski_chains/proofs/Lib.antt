@@ -1,4 +1,6 @@
--- What the code leans on: pairs in order, pairs as chains, and the buffers cut to the points in use.
+-- What the code leans on: pairs in order, pairs as chains, their contours one after another, and the buffers cut to the points in use.
 pub mod Order
 pub mod Held
+pub mod Contours
+pub mod Copying
 pub mod Cut

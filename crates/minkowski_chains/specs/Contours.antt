@@ -1,5 +1,5 @@
 -- All pairs of two operands' walks in order (`InOrder`), each as pair_chains takes it (`pairOf`), its contour (`contourAt`), four contours on end (`fourFrom`); the buffers cut to the
--- points in use (`Used`); how many edges each pair has (`edgeCounts`), and the bound on corners as ties are counted (`Lowered`). Assumes nothing.
+-- points in use (`Used`); how many edges each pair has (`edgeCounts`); contours put so far (`PutOn`, `PutTo`). Assumes nothing.
 use mathlib.Core.Path.{_≡_}
 use mathlib.Core.Bool.{cond}
 use mathlib.Core.List.{List, [], _∷_, map, flatten}
@@ -12,10 +12,11 @@ use Rattle.plane.specs.Plane.{Pt}
 use Rattle.table.specs.Table.{pointsOf, maxContour}
 use Rattle.pair_walks.specs.Walks.{leftsIn, rightsIn, contoursIn}
 use Rattle.pair_numbers.specs.Numbers.{Keyed}
+use Rattle.minkowski_rows.specs.Rows.{PairsPut}
 use Rattle.pair_chains.specs.declared.Pair.{Pair}
-use Rattle.pair_chains.specs.declared.Pairs.{Pairs}
-use Rattle.pair_chains.specs.Chains.{Buffers}
+use Rattle.pair_chains.specs.Chains.{contourOf, RunsOf, Buffers}
 use Rattle.minkowski_chains.specs.declared.Place.{Place}
+use Rattle.minkowski_chains.specs.declared.Next.{Next}
 
 -- ---- pairs
 
@@ -53,6 +54,33 @@ pub record Onward (left right m k : ℕ) (s r : Place) : Type 0 where
 abbrev pub contourAt : List ℕ → List (List ℤ) → ℕ → ℕ → ℕ → List Pt
 contourAt firsts points left right n = getD (contoursIn firsts points left right) n []
 
+-- the numbers of edges of all pairs in order
+abbrev pub edgeCounts : List ℕ → List (List ℤ) → ℕ → ℕ → List ℕ
+edgeCounts firsts points left right = flatten (map (λ a. map (edgesOf a) (rightsIn firsts points left right)) (leftsIn firsts points left right))
+
+abbrev pub edgesAt : List ℕ → List (List ℤ) → ℕ → ℕ → ℕ → ℕ
+edgesAt firsts points left right n = getD (edgeCounts firsts points left right) n 0
+
+-- a pair with the contour c and e edges, as pair_chains takes it
+pub record PairAs (points : List (List ℤ)) (numbers : List ℕ) (c : List Pt) (e : ℕ) (x : Pair) : Type 0 where
+  pub runs : RunsOf points numbers x
+  pub contour : contourOf points numbers x ≡ c
+  pub ordered : x .i + x .j ≤ x .end
+  pub edges : x .end - (x .i + x .j) ≡ e
+  pub short : e ≤ 2 * maxContour
+
+-- pair n
+abbrev pub IsPair : List ℕ → List (List ℤ) → List ℕ → ℕ → ℕ → ℕ → Pair → Type 0
+IsPair firsts points numbers left right n x = PairAs points numbers (contourAt firsts points left right n) (edgesAt firsts points left right n) x
+
+-- the four pairs from s on, and the place after them
+pub record FourNext (firsts : List ℕ) (points : List (List ℤ)) (numbers : List ℕ) (left right : ℕ) (s : Place) (r : Next) : Type 0 where
+  pub first : IsPair firsts points numbers left right (s .n) (r .x .a)
+  pub second : IsPair firsts points numbers left right (s .n + 1) (r .x .b)
+  pub third : IsPair firsts points numbers left right (s .n + 2) (r .x .c)
+  pub fourth : IsPair firsts points numbers left right (s .n + 3) (r .x .d)
+  pub place : Onward left right 4 (s .k) s (r .s)
+
 -- four of some contours
 abbrev pub fourFrom : List (List Pt) → ℕ → List (List Pt)
 fourFrom ps n = getD ps n [] ∷ getD ps (n + 1) [] ∷ getD ps (n + 2) [] ∷ getD ps (n + 3) [] ∷ []
@@ -72,3 +100,28 @@ pub record Used (firsts : List ℕ) (points : List (List ℤ)) (numbers : List �
 -- a work buffer has room for any pair's corners
 abbrev pub WorkRoom : List ℤ → Type 0
 WorkRoom work = 4 * maxContour ≤ length work
+
+-- three of them have
+pub record WorkRooms (wb wc wd : List ℤ) : Type 0 where
+  pub second : WorkRoom wb
+  pub third : WorkRoom wc
+  pub fourth : WorkRoom wd
+
+-- ---- what is put
+
+-- a place among pairs that are left
+pub record More (left right m : ℕ) (s : Place) : Type 0 where
+  pub order : InOrder left right s
+  pub some : s .n + m ≤ left * right
+  pub few : left * right < 2 ^ 64
+
+-- the next contours `new` were put, and those are m
+pub record PutOn (left right m : ℕ) (new : List (List Pt)) (s : Place) (starts : List ℕ) (out : List ℤ) (r : Place) (starts′ : List ℕ) (out′ : List ℤ) : Type 0 where
+  pub place : Onward left right m (r .k) s r
+  pub put : PairsPut new starts (s .n) out (s .k) starts′ (r .n) out′ (r .k)
+
+-- the contours `all` were put as far as r, from the first on
+pub record PutTo (left right : ℕ) (all : List (List Pt)) (starts : List ℕ) (out : List ℤ) (r : Place) (starts′ : List ℕ) (out′ : List ℤ) : Type 0 where
+  pub order : InOrder left right r
+  pub some : r .n ≤ left * right
+  pub put : PairsPut (take (r .n) all) starts 0 out 0 starts′ (r .n) out′ (r .k)

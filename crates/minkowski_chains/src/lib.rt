@@ -8,9 +8,8 @@ ghost use lib.ListN.{length, getD};
 ghost use Rattle.pair_merge.specs.Putting.{RoomAfter, Put};
 ghost use Rattle.pair_walks.specs.Walks.{pairIn, contoursIn};
 ghost use Rattle.pair_numbers.specs.Numbers.{Keyed};
-ghost use Rattle.pair_chains.specs.declared.Pairs.{Pairs};
 ghost use Rattle.minkowski_rows.specs.Rows.{PairsRoom, PairsPut, AllPut};
-ghost use Rattle.minkowski_chains.specs.Contours.{pairFrom, pairOf, Between, InOrder, Onward, contourAt, fourFrom, cornersIn, Used, WorkRoom};
+ghost use Rattle.minkowski_chains.specs.Contours.{pairFrom, pairOf, Between, Onward, IsPair, FourNext, contourAt, fourFrom, cornersIn, Used, WorkRoom, WorkRooms, More, PutOn, PutTo};
 use pair_chains::Pair;
 use pair_chains::Pairs;
 
@@ -22,9 +21,15 @@ pub struct Place {
     pub k: usize,
 }
 
+// Four pairs, and the place after them.
+pub struct Next {
+    pub x: Pairs,
+    pub s: Place,
+}
+
 // The place of the pair after that, after k corners.
 fn after(s: Place, left: usize, right: usize, k: usize) -> Place
-    requires { ⌜ InOrder left right s × (s .n < left * right) × (left * right < 2 ^ 64) ⌝ }
+    requires { ⌜ More left right 1 s ⌝ }
     ensures { λ r. ⌜ Onward left right 1 k s r ⌝ }
 {
     let q = s.q + 1;
@@ -128,5 +133,243 @@ pub fn merge_one(
         q,
         work,
         0,
+    )
+}
+
+// The pair at a place.
+fn pair_next(
+    firsts: &[u32],
+    points: &[[i32; 2]],
+    numbers: &[u64],
+    left: usize,
+    right: usize,
+    s: Place,
+) -> Pair
+    requires { ⌜ Used (now firsts) (now points) (now numbers) left right × More left right 1 s ⌝ }
+    ensures { λ r. ⌜ IsPair (now (firsts .entry)) (now (points .entry)) (now (numbers .entry)) left right (s .n) r ⌝ }
+{
+    pair_at(firsts, left, s.p, s.q)
+}
+
+// The four pairs from a place on.
+fn four_next(
+    firsts: &[u32],
+    points: &[[i32; 2]],
+    numbers: &[u64],
+    left: usize,
+    right: usize,
+    s: Place,
+) -> Next
+    requires { ⌜ Used (now firsts) (now points) (now numbers) left right × More left right 4 s ⌝ }
+    ensures { λ r. ⌜ FourNext (now (firsts .entry)) (now (points .entry)) (now (numbers .entry)) left right s r ⌝ }
+{
+    let k = s.k;
+    let t = after(s, left, right, k);
+    let u = after(t, left, right, k);
+    let v = after(u, left, right, k);
+    let x = Pairs {
+        a: pair_next(firsts, points, numbers, left, right, s),
+        b: pair_next(firsts, points, numbers, left, right, t),
+        c: pair_next(firsts, points, numbers, left, right, u),
+        d: pair_next(firsts, points, numbers, left, right, v),
+    };
+    Next {
+        x: x,
+        s: after(v, left, right, k),
+    }
+}
+
+// The first corners of a work buffer are put after the first `at`.
+fn copy_in(work: &[i32], count: usize, out: &mut [i32], at: usize)
+    requires { ⌜ (2 * count ≤ length (now work)) × (2 * (at + count) ≤ length (now out)) ⌝ }
+    ensures { λ r. ⌜ Put (cornersIn count (now (work .entry))) (now (out .entry)) at (now (out .exit)) (at + count) ⌝ }
+{
+    let n = 2 * count;
+    let from = 2 * at;
+    let mut i: usize = 0;
+    while i < n {
+        let x = work[i];
+        out[from + i] = x;
+        i += 1;
+    }
+}
+
+// They are put as the contour after the first n; answers how many corners stand there then.
+fn append_copied(
+    work: &[i32],
+    count: usize,
+    starts: &mut [u32],
+    n: usize,
+    out: &mut [i32],
+    at: usize,
+) -> usize
+    requires { ⌜ (2 * count ≤ length (now work)) × PairsRoom (cornersIn count (now work) ∷ []) (now starts) n (now out) at ⌝ }
+    ensures { λ r. ⌜ PairsPut (cornersIn count (now (work .entry)) ∷ []) (now (starts .entry)) n (now (out .entry)) at (now (starts .exit)) (n + 1) (now (out .exit)) r ⌝ }
+{
+    copy_in(work, count, out, at);
+    let k = at + count;
+    convex_gather::put_start(starts, n + 1, k);
+    k
+}
+
+// The contour of the pair at a place is put.
+fn append_one(
+    firsts: &[u32],
+    points: &[[i32; 2]],
+    numbers: &[u64],
+    left: usize,
+    right: usize,
+    s: Place,
+    starts: &mut [u32],
+    out: &mut [i32],
+) -> Place
+    requires { ⌜ Used (now firsts) (now points) (now numbers) left right × More left right 1 s × PairsRoom (contourAt (now firsts) (now points) left right (s .n) ∷ []) (now starts) (s .n) (now out) (s .k) ⌝ }
+    ensures { λ r. ⌜ PutOn left right 1 (contourAt (now (firsts .entry)) (now (points .entry)) left right (s .n) ∷ []) s (now (starts .entry)) (now (out .entry)) r (now (starts .exit)) (now (out .exit)) ⌝ }
+{
+    let x = pair_next(firsts, points, numbers, left, right, s);
+    let k = pair_chains::merge_one(points, numbers, x, out, s.k);
+    convex_gather::put_start(starts, s.n + 1, k);
+    after(s, left, right, k)
+}
+
+// The contours of the four pairs from a place on are put: merged side by side, the first in its place and the others by way of work buffers.
+fn append_four(
+    firsts: &[u32],
+    points: &[[i32; 2]],
+    numbers: &[u64],
+    left: usize,
+    right: usize,
+    s: Place,
+    wb: &mut [i32],
+    wc: &mut [i32],
+    wd: &mut [i32],
+    starts: &mut [u32],
+    out: &mut [i32],
+) -> Place
+    requires { ⌜ Used (now firsts) (now points) (now numbers) left right × More left right 4 s × WorkRooms (now wb) (now wc) (now wd) × PairsRoom (fourFrom (contoursIn (now firsts) (now points) left right) (s .n)) (now starts) (s .n) (now out) (s .k) ⌝ }
+    ensures { λ r. ⌜ PutOn left right 4 (fourFrom (contoursIn (now (firsts .entry)) (now (points .entry)) left right) (s .n)) s (now (starts .entry)) (now (out .entry)) r (now (starts .exit)) (now (out .exit)) ⌝ }
+{
+    let f = four_next(firsts, points, numbers, left, right, s);
+    let x = f.x;
+    let t = f.s;
+    let n = s.n;
+    let r = pair_chains::merge_four(points, numbers, x, out, s.k, wb, wc, wd);
+    convex_gather::put_start(starts, n + 1, r.a);
+    let b = append_copied(wb, r.b, starts, n + 1, out, r.a);
+    let c = append_copied(wc, r.c, starts, n + 2, out, b);
+    let d = append_copied(wd, r.d, starts, n + 3, out, c);
+    Place {
+        p: t.p,
+        q: t.q,
+        n: t.n,
+        k: d,
+    }
+}
+
+// The contours of all pairs but the last few are put, four at a time.
+fn append_fours(
+    firsts: &[u32],
+    points: &[[i32; 2]],
+    numbers: &[u64],
+    left: usize,
+    right: usize,
+    wb: &mut [i32],
+    wc: &mut [i32],
+    wd: &mut [i32],
+    starts: &mut [u32],
+    out: &mut [i32],
+) -> Place
+    requires { ⌜ Used (now firsts) (now points) (now numbers) left right × WorkRooms (now wb) (now wc) (now wd) × PairsRoom (contoursIn (now firsts) (now points) left right) (now starts) 0 (now out) 0 × (left * right < 2 ^ 32) ⌝ }
+    ensures { λ r. ⌜ PutTo left right (contoursIn (now (firsts .entry)) (now (points .entry)) left right) (now (starts .entry)) (now (out .entry)) r (now (starts .exit)) (now (out .exit)) ⌝ }
+{
+    let all = left * right;
+    let mut s = Place {
+        p: 0,
+        q: 0,
+        n: 0,
+        k: 0,
+    };
+    while s.n + 3 < all {
+        s = append_four(
+            firsts,
+            points,
+            numbers,
+            left,
+            right,
+            s,
+            wb,
+            wc,
+            wd,
+            starts,
+            out,
+        );
+    }
+    s
+}
+
+// The contours of all pairs are put on the front; of buffers cut to the points in use.
+fn append_used(
+    firsts: &[u32],
+    points: &[[i32; 2]],
+    numbers: &[u64],
+    left: usize,
+    right: usize,
+    wb: &mut [i32],
+    wc: &mut [i32],
+    wd: &mut [i32],
+    starts: &mut [u32],
+    out: &mut [i32],
+) -> usize
+    requires { ⌜ Used (now firsts) (now points) (now numbers) left right × WorkRooms (now wb) (now wc) (now wd) × PairsRoom (contoursIn (now firsts) (now points) left right) (now starts) 0 (now out) 0 × (left * right < 2 ^ 32) ⌝ }
+    ensures { λ r. ⌜ AllPut (contoursIn (now (firsts .entry)) (now (points .entry)) left right) (now (starts .entry)) (now (out .entry)) (now (starts .exit)) (now (out .exit)) r ⌝ }
+{
+    convex_gather::put_start(starts, 0, 0);
+    let all = left * right;
+    let mut s = append_fours(
+        firsts,
+        points,
+        numbers,
+        left,
+        right,
+        wb,
+        wc,
+        wd,
+        starts,
+        out,
+    );
+    while s.n < all {
+        s = append_one(firsts, points, numbers, left, right, s, starts, out);
+    }
+    s.k
+}
+
+// The contours of all pairs, each left walk with each right one in order, on the front of the lent starts and corners; answers how many corners they have.
+pub fn append_all(
+    firsts: &[u32],
+    points: &[[i32; 2]],
+    numbers: &[u64],
+    left: usize,
+    right: usize,
+    wb: &mut [i32],
+    wc: &mut [i32],
+    wd: &mut [i32],
+    starts: &mut [u32],
+    out: &mut [i32],
+) -> usize
+    requires { ⌜ Keyed (now firsts) (now points) (now numbers) left right × WorkRooms (now wb) (now wc) (now wd) × PairsRoom (contoursIn (now firsts) (now points) left right) (now starts) 0 (now out) 0 × (left * right < 2 ^ 32) ⌝ }
+    ensures { λ r. ⌜ AllPut (contoursIn (now (firsts .entry)) (now (points .entry)) left right) (now (starts .entry)) (now (out .entry)) (now (starts .exit)) (now (out .exit)) r ⌝ }
+{
+    let n = first(firsts, left + right);
+    append_used(
+        firsts,
+        &points[..n],
+        &numbers[..n],
+        left,
+        right,
+        wb,
+        wc,
+        wd,
+        starts,
+        out,
     )
 }
