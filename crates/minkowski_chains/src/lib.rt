@@ -279,7 +279,7 @@ fn append_fours(
     starts: &mut [u32],
     out: &mut [i32],
 ) -> Place
-    requires { ⌜ Used (now firsts) (now points) (now numbers) left right × WorkRooms (now wb) (now wc) (now wd) × PairsRoom (contoursIn (now firsts) (now points) left right) (now starts) 0 (now out) 0 × (left * right < 2 ^ 32) ⌝ }
+    requires { ⌜ Used (now firsts) (now points) (now numbers) left right × WorkRooms (now wb) (now wc) (now wd) × PairsRoom (contoursIn (now firsts) (now points) left right) (now starts) 0 (now out) 0 ⌝ }
     ensures { λ r. ⌜ PutTo left right (contoursIn (now (firsts .entry)) (now (points .entry)) left right) (now (starts .entry)) (now (out .entry)) r (now (starts .exit)) (now (out .exit)) ⌝ }
 {
     let all = left * right;
@@ -320,7 +320,7 @@ fn append_used(
     starts: &mut [u32],
     out: &mut [i32],
 ) -> usize
-    requires { ⌜ Used (now firsts) (now points) (now numbers) left right × WorkRooms (now wb) (now wc) (now wd) × PairsRoom (contoursIn (now firsts) (now points) left right) (now starts) 0 (now out) 0 × (left * right < 2 ^ 32) ⌝ }
+    requires { ⌜ Used (now firsts) (now points) (now numbers) left right × WorkRooms (now wb) (now wc) (now wd) × PairsRoom (contoursIn (now firsts) (now points) left right) (now starts) 0 (now out) 0 ⌝ }
     ensures { λ r. ⌜ AllPut (contoursIn (now (firsts .entry)) (now (points .entry)) left right) (now (starts .entry)) (now (out .entry)) (now (starts .exit)) (now (out .exit)) r ⌝ }
 {
     convex_gather::put_start(starts, 0, 0);
@@ -356,7 +356,7 @@ pub fn append_all(
     starts: &mut [u32],
     out: &mut [i32],
 ) -> usize
-    requires { ⌜ Keyed (now firsts) (now points) (now numbers) left right × WorkRooms (now wb) (now wc) (now wd) × PairsRoom (contoursIn (now firsts) (now points) left right) (now starts) 0 (now out) 0 × (left * right < 2 ^ 32) ⌝ }
+    requires { ⌜ Keyed (now firsts) (now points) (now numbers) left right × WorkRooms (now wb) (now wc) (now wd) × PairsRoom (contoursIn (now firsts) (now points) left right) (now starts) 0 (now out) 0 ⌝ }
     ensures { λ r. ⌜ AllPut (contoursIn (now (firsts .entry)) (now (points .entry)) left right) (now (starts .entry)) (now (out .entry)) (now (starts .exit)) (now (out .exit)) r ⌝ }
 {
     let n = first(firsts, left + right);

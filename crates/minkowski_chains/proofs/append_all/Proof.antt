@@ -39,7 +39,7 @@ append-used-requires c κs =
     let s = c .before .before .before .before .before .before .before .before .before .before .before in
     let g = s .args in
     let e = sym (c .before .before .before .before .before .before .before .first .ensures .0) in
-    (subst (λ n. Used (g .firsts .now) (take n (g .points .now)) (take n (g .numbers .now)) (g .left) (g .right)) e (cut-used (g .firsts .now) (g .points .now) (g .numbers .now) (g .left) (g .right) (s .pre .0)), s .pre .1, subst (λ n. PairsRoom (contoursIn (g .firsts .now) (take n (g .points .now)) (g .left) (g .right)) (g .starts .now) 0 (g .out .now) 0) e (subst (λ l. PairsRoom l (g .starts .now) 0 (g .out .now) 0) (sym (contours-same (g .firsts .now) (g .points .now) (g .numbers .now) (g .left) (g .right) (s .pre .0))) (s .pre .2)), s .pre .3)
+    (subst (λ n. Used (g .firsts .now) (take n (g .points .now)) (take n (g .numbers .now)) (g .left) (g .right)) e (cut-used (g .firsts .now) (g .points .now) (g .numbers .now) (g .left) (g .right) (s .pre .0)), s .pre .1, subst (λ n. PairsRoom (contoursIn (g .firsts .now) (take n (g .points .now)) (g .left) (g .right)) (g .starts .now) 0 (g .out .now) 0) e (subst (λ l. PairsRoom l (g .starts .now) 0 (g .out .now) 0) (sym (contours-same (g .firsts .now) (g .points .now) (g .numbers .now) (g .left) (g .right) (s .pre .0))) (s .pre .2)))
 
 same-length : tie.Need-same-length
 same-length c = search needs

@@ -16,7 +16,10 @@ abbrev μ-loop : tie.MeasureT-loop
 μ-loop firsts points numbers left right wb₀ wc₀ wd₀ starts₀ out₀ all s₀ wb wc wd starts out s = left * right - s .n
 
 mul-all : tie.Need-mul-all Inv-loop μ-loop
-mul-all c = omega (arith, c .before .before .before .pre .3)
+mul-all c =
+    let s = c .before .before .before in
+    let g = s .args in
+    omega (arith, contours-length (g .firsts .now) (g .points .now) (g .numbers .now) (g .left) (g .right) (s .pre .0 .keyed), s .pre .2 .for-starts)
 
 loop-holds : tie.Need-loop-holds Inv-loop μ-loop
 loop-holds c =
@@ -28,7 +31,7 @@ add-if1 : tie.Need-add-if1 Inv-loop μ-loop
 add-if1 c =
     let s = c .before .before .before .before .before in
     let l = c .before .loop in
-    omega (arith, s .pre .3, l .inv .0 .some)
+    omega (arith, contours-length (s .args .firsts .now) (s .args .points .now) (s .args .numbers .now) (s .args .left) (s .args .right) (s .pre .0 .keyed), s .pre .2 .for-starts, l .inv .0 .some)
 
 append-four-requires : tie.Need-append-four-requires Inv-loop μ-loop
 append-four-requires c κs =
@@ -37,7 +40,7 @@ append-four-requires c κs =
     let all = contoursIn (g .firsts .now) (g .points .now) (g .left) (g .right) in
     let e = contours-length (g .firsts .now) (g .points .now) (g .numbers .now) (g .left) (g .right) (s .pre .0 .keyed) in
     let l = c .before .before .before .before .before .before .before .loop in
-    let w : g .left * g .right < 2 ^ 64 = omega (arith, s .pre .3) in
+    let w : g .left * g .right < 2 ^ 64 = omega (arith, e, s .pre .2 .for-starts) in
     let h : l .s .n + 4 ≤ g .left * g .right = omega (arith, c .before .before .before .before .before .if1 .taken) in
     let p = four-piece all (l .s .n) (omega (arith, e, h)) in
     (s .pre .0, to-more (g .left) (g .right) e w (l .s) (l .inv .0) 4 h, rooms-same (s .pre .1) (l .inv .1) (l .inv .2) (l .inv .3), to-room (g .left) (g .right) e w (l .s) (l .inv .0) p (s .pre .2))
@@ -49,7 +52,7 @@ loop-less c =
     let all = contoursIn (g .firsts .now) (g .points .now) (g .left) (g .right) in
     let e = contours-length (g .firsts .now) (g .points .now) (g .numbers .now) (g .left) (g .right) (s .pre .0 .keyed) in
     let l = c .before .before .before .before .before .before .before .before .before .before .before .before .before .before .loop in
-    let w : g .left * g .right < 2 ^ 64 = omega (arith, s .pre .3) in
+    let w : g .left * g .right < 2 ^ 64 = omega (arith, e, s .pre .2 .for-starts) in
     let h : l .s .n + 4 ≤ g .left * g .right = omega (arith, c .before .before .before .before .before .before .before .before .before .before .before .before .if1 .taken) in
     let p = four-piece all (l .s .n) (omega (arith, e, h)) in
     omega (arith, c .before .before .before .before .before .before .append-four .ensures .place .number, h)
@@ -61,7 +64,7 @@ loop-again c =
     let all = contoursIn (g .firsts .now) (g .points .now) (g .left) (g .right) in
     let e = contours-length (g .firsts .now) (g .points .now) (g .numbers .now) (g .left) (g .right) (s .pre .0 .keyed) in
     let l = c .before .before .before .before .before .before .before .before .before .before .before .before .before .before .loop in
-    let w : g .left * g .right < 2 ^ 64 = omega (arith, s .pre .3) in
+    let w : g .left * g .right < 2 ^ 64 = omega (arith, e, s .pre .2 .for-starts) in
     let h : l .s .n + 4 ≤ g .left * g .right = omega (arith, c .before .before .before .before .before .before .before .before .before .before .before .before .if1 .taken) in
     let p = four-piece all (l .s .n) (omega (arith, e, h)) in
     (to-next (g .left) (g .right) e w (l .s) (l .inv .0) p h (c .before .before .before .before .before .before .append-four .ensures), c .before .before .before .before .before .wb .given ∙ l .inv .1, c .before .before .before .before .wc .given ∙ l .inv .2, c .before .before .before .wd .given ∙ l .inv .3)
