@@ -26,7 +26,7 @@ use Rattle.direction_keys.specs.Marks.{Close}
 use Rattle.minkowski_rows.specs.Rows.{AllPut}
 use Rattle.pair_numbers.specs.Numbers.{numberOf, NumberedTo, Keyed}
 use Rattle.pair_chains.specs.Chains.{Buffers}
-use Rattle.minkowski_chains.specs.Contours.{Used}
+use Rattle.minkowski_chains.specs.Contours.{Used, total, Above}
 use Rattle.minkowski_chains.proofs.Held.{walk-ends}
 
 module _ (firsts : List ℕ) (points : List (List ℤ)) (numbers : List ℕ) (left right : ℕ) (k : Keyed firsts points numbers left right) where
@@ -57,6 +57,9 @@ module _ (firsts : List ℕ) (points : List (List ℤ)) (numbers : List ℕ) (le
 
   pub all-same : {n : ℕ} {s s′ : List ℕ} {c c′ : List ℤ} {m : ℕ} → n ≡ getD firsts (left + right) 0 → AllPut (contoursIn firsts (take n points) left right) s c s′ c′ m → AllPut (contoursIn firsts points left right) s c s′ c′ m
   all-same {s = s} {s′} {c} {c′} {m} e r = subst (λ l. AllPut l s c s′ c′ m) (ap (λ n. contoursIn firsts (take n points) left right) e ∙ contours-same) r
+
+  pub above-same : {n room m : ℕ} → n ≡ getD firsts (left + right) 0 → Above room (total firsts (take n points) left right) m → Above room (total firsts points left right) m
+  above-same {room = room} {m} e r = subst (λ l. Above room (length (flatten l)) m) (ap (λ n. contoursIn firsts (take n points) left right) e ∙ contours-same) r
 
   -- there are as many points as that
   pub points-size : getD firsts (left + right) 0 ≤ length points

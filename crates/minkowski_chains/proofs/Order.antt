@@ -8,7 +8,7 @@ use lib.IntN.{ℤ}
 use Rattle.plane.specs.Plane.{Pt}
 use Rattle.minkowski_rows.specs.Rows.{PairsPut}
 use Rattle.minkowski_chains.specs.declared.Place.{Place}
-use Rattle.minkowski_chains.specs.Contours.{InOrder, Onward, More, PutOn}
+use Rattle.minkowski_chains.specs.Contours.{InOrder, Onward, More, PutOn, Lowered}
 
 -- a pair is left
 pub next-of : (left right : ℕ) (s : Place) → More left right 1 s → (s .p < left) × (s .q < right) × (s .n ≡ s .p * right + s .q)
@@ -62,3 +62,7 @@ put-on left right {m} {k} {new} {s} {r} {starts} {starts′} {out} {out′} a p 
   place = record { order = a .order; number = a .number; corners = refl };
   put = subst₂ (λ n j. PairsPut new starts (s .n) out (s .k) starts′ n out′ j) (sym (a .number)) (sym (a .corners)) p;
 }
+
+-- pairs counted, and the place after them
+pub lowered : (left right : ℕ) {m k c e : ℕ} {s r : Place} → Onward left right m k s r → k + e ≡ s .k + c → Lowered left right m c e s r
+lowered left right a h = record { place = record { order = a .order; number = a .number; corners = refl }; corners = omega (arith, a .corners, h) }

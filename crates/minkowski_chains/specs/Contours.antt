@@ -125,3 +125,32 @@ pub record PutTo (left right : ℕ) (all : List (List Pt)) (starts : List ℕ) (
   pub order : InOrder left right r
   pub some : r .n ≤ left * right
   pub put : PairsPut (take (r .n) all) starts 0 out 0 starts′ (r .n) out′ (r .k)
+
+-- ---- corners counted
+
+-- how many corners all contours have
+abbrev pub total : List ℕ → List (List ℤ) → ℕ → ℕ → ℕ
+total firsts points left right = length (flatten (contoursIn firsts points left right))
+
+-- the edges of four pairs on end, and their corners
+abbrev pub fourEdges : List ℕ → ℕ → ℕ
+fourEdges es n = getD es n 0 + getD es (n + 1) 0 + getD es (n + 2) 0 + getD es (n + 3) 0
+
+abbrev pub fourCorners : List (List Pt) → ℕ → ℕ
+fourCorners ps n = length (getD ps n []) + length (getD ps (n + 1) []) + length (getD ps (n + 2) []) + length (getD ps (n + 3) [])
+
+-- k is what the contours before the place have, and what the pairs from it on have edges
+pub record Bounds (firsts : List ℕ) (points : List (List ℤ)) (left right : ℕ) (s : Place) : Type 0 where
+  pub order : InOrder left right s
+  pub some : s .n ≤ left * right
+  pub bound : s .k + sumℕ (take (s .n) (edgeCounts firsts points left right)) ≡ length (flatten (take (s .n) (contoursIn firsts points left right))) + sumℕ (edgeCounts firsts points left right)
+
+-- pairs counted, c in place of e edges
+pub record Lowered (left right m c e : ℕ) (s r : Place) : Type 0 where
+  pub place : Onward left right m (r .k) s r
+  pub corners : r .k + e ≡ s .k + c
+
+-- r is at least the number of corners, and is that number where it is above `room`
+pub record Above (room t r : ℕ) : Type 0 where
+  pub most : t ≤ r
+  pub exact : room < r → r ≡ t

@@ -1,15 +1,17 @@
 // All pairs of two operands' walks merged by numbers (pair_chains; int/minkowski.rs, `sum_parts`): `append_all` puts their contours, four pairs side by side, on the front of lent starts
-// and corners, and `merge_one` one pair's into a work buffer. Walks lie in one buffer, the left operand's first (pair_walks), with a number a point (pair_numbers). What is put is
+// and corners, and `merge_one` one pair's into a work buffer; `no_room` and `count_all` count corners by numbers alone. Walks lie in one buffer, the left operand's first (pair_walks), with a number a point (pair_numbers). What is put is
 // what minkowski_rows puts. Leans on pair_chains, pair_walks, pair_numbers, minkowski_rows (definitions and laws of contours put) and convex_gather.
 ghost use mathlib.Core.Path.{_≡_};
 ghost use mathlib.Core.List.{_∷_, []};
-ghost use Prim.Native.Nat.{_+_, _*_, _<_, _≤_, _^_};
+ghost use Prim.Native.Nat.{_+_, _*_, _-_, _<_, _≤_, _^_};
+ghost use lib.Dec.{ltb};
 ghost use lib.ListN.{length, getD};
+ghost use Rattle.integers.specs.Lists.{sumℕ};
 ghost use Rattle.pair_merge.specs.Putting.{RoomAfter, Put};
 ghost use Rattle.pair_walks.specs.Walks.{pairIn, contoursIn};
 ghost use Rattle.pair_numbers.specs.Numbers.{Keyed};
 ghost use Rattle.minkowski_rows.specs.Rows.{PairsRoom, PairsPut, AllPut};
-ghost use Rattle.minkowski_chains.specs.Contours.{pairFrom, pairOf, Between, Onward, IsPair, FourNext, contourAt, fourFrom, cornersIn, Used, WorkRoom, WorkRooms, More, PutOn, PutTo};
+ghost use Rattle.minkowski_chains.specs.Contours.{pairFrom, pairOf, Between, Onward, IsPair, FourNext, contourAt, fourFrom, cornersIn, Used, WorkRoom, WorkRooms, More, PutOn, PutTo, edgesAt, edgeCounts, fourEdges, fourCorners, total, Bounds, Lowered, Above};
 use pair_chains::Pair;
 use pair_chains::Pairs;
 
@@ -372,4 +374,187 @@ pub fn append_all(
         starts,
         out,
     )
+}
+
+// How many edges a pair has.
+fn edges(x: Pair) -> usize
+    requires { ⌜ x .i + x .j ≤ x .end ⌝ }
+    ensures { λ r. ⌜ r ≡ x .end - (x .i + x .j) ⌝ }
+{
+    x.end - x.i - x.j
+}
+
+// How many fewer corners than edges it has.
+fn ties(x: Pair, corners: usize) -> usize
+    requires { ⌜ (x .i + x .j ≤ x .end) × (corners ≤ x .end - (x .i + x .j)) ⌝ }
+    ensures { λ r. ⌜ r + corners ≡ x .end - (x .i + x .j) ⌝ }
+{
+    edges(x) - corners
+}
+
+// How many edges all pairs have.
+fn most_of(firsts: &[u32], points: &[[i32; 2]], numbers: &[u64], left: usize, right: usize) -> usize
+    requires { ⌜ Used (now firsts) (now points) (now numbers) left right × (left * right < 2 ^ 32) ⌝ }
+    ensures { λ r. ⌜ r ≡ sumℕ (edgeCounts (now (firsts .entry)) (now (points .entry)) left right) ⌝ }
+{
+    let all = left * right;
+    let mut s = Place {
+        p: 0,
+        q: 0,
+        n: 0,
+        k: 0,
+    };
+    while s.n < all {
+        let x = pair_next(firsts, points, numbers, left, right, s);
+        let e = edges(x);
+        s = after(s, left, right, s.k + e);
+    }
+    s.k
+}
+
+// The bound on corners once the pair at a place is counted.
+fn lower_one(
+    firsts: &[u32],
+    points: &[[i32; 2]],
+    numbers: &[u64],
+    left: usize,
+    right: usize,
+    s: Place,
+) -> Place
+    requires { ⌜ Used (now firsts) (now points) (now numbers) left right × More left right 1 s × (edgesAt (now firsts) (now points) left right (s .n) ≤ s .k) ⌝ }
+    ensures { λ r. ⌜ Lowered left right 1 (length (contourAt (now (firsts .entry)) (now (points .entry)) left right (s .n))) (edgesAt (now (firsts .entry)) (now (points .entry)) left right (s .n)) s r ⌝ }
+{
+    let x = pair_next(firsts, points, numbers, left, right, s);
+    let c = pair_chains::count_one(numbers, x);
+    let t = ties(x, c);
+    after(s, left, right, s.k - t)
+}
+
+// The same of the four pairs from a place on.
+fn lower_four(
+    firsts: &[u32],
+    points: &[[i32; 2]],
+    numbers: &[u64],
+    left: usize,
+    right: usize,
+    s: Place,
+) -> Place
+    requires { ⌜ Used (now firsts) (now points) (now numbers) left right × More left right 4 s × (fourEdges (edgeCounts (now firsts) (now points) left right) (s .n) ≤ s .k) ⌝ }
+    ensures { λ r. ⌜ Lowered left right 4 (fourCorners (contoursIn (now (firsts .entry)) (now (points .entry)) left right) (s .n)) (fourEdges (edgeCounts (now (firsts .entry)) (now (points .entry)) left right) (s .n)) s r ⌝ }
+{
+    let f = four_next(firsts, points, numbers, left, right, s);
+    let x = f.x;
+    let t = f.s;
+    let c = pair_chains::count_four(numbers, x);
+    let a = ties(x.a, c.a);
+    let b = ties(x.b, c.b);
+    let d = ties(x.c, c.c);
+    let e = ties(x.d, c.d);
+    let k = s.k - a - b - d - e;
+    Place {
+        p: t.p,
+        q: t.q,
+        n: t.n,
+        k: k,
+    }
+}
+
+// The bound once pairs are counted, four at a time, but the last few; no more are counted once it is within `room`.
+fn lower_fours(
+    firsts: &[u32],
+    points: &[[i32; 2]],
+    numbers: &[u64],
+    left: usize,
+    right: usize,
+    room: usize,
+) -> Place
+    requires { ⌜ Used (now firsts) (now points) (now numbers) left right × (left * right < 2 ^ 32) ⌝ }
+    ensures { λ r. ⌜ Bounds (now (firsts .entry)) (now (points .entry)) left right r ⌝ }
+{
+    let all = left * right;
+    let mut s = Place {
+        p: 0,
+        q: 0,
+        n: 0,
+        k: most_of(firsts, points, numbers, left, right),
+    };
+    while s.n + 3 < all {
+        if s.k <= room {
+            return s;
+        }
+        s = lower_four(firsts, points, numbers, left, right, s);
+    }
+    s
+}
+
+// A number at least that of all corners, and that number where it is above `room`; of buffers cut to the points in use.
+fn bound_used(
+    firsts: &[u32],
+    points: &[[i32; 2]],
+    numbers: &[u64],
+    left: usize,
+    right: usize,
+    room: usize,
+) -> usize
+    requires { ⌜ Used (now firsts) (now points) (now numbers) left right × (left * right < 2 ^ 32) ⌝ }
+    ensures { λ r. ⌜ Above room (total (now (firsts .entry)) (now (points .entry)) left right) r ⌝ }
+{
+    let all = left * right;
+    let mut s = lower_fours(firsts, points, numbers, left, right, room);
+    while s.n < all {
+        if s.k <= room {
+            return s.k;
+        }
+        s = lower_one(firsts, points, numbers, left, right, s);
+    }
+    s.k
+}
+
+// A number at least that of all corners, and that number where it is above `room`.
+fn bound_all(
+    firsts: &[u32],
+    points: &[[i32; 2]],
+    numbers: &[u64],
+    left: usize,
+    right: usize,
+    room: usize,
+) -> usize
+    requires { ⌜ Keyed (now firsts) (now points) (now numbers) left right × (left * right < 2 ^ 32) ⌝ }
+    ensures { λ r. ⌜ Above room (total (now (firsts .entry)) (now (points .entry)) left right) r ⌝ }
+{
+    let n = first(firsts, left + right);
+    bound_used(firsts, &points[..n], &numbers[..n], left, right, room)
+}
+
+// Whether all contours have more corners than `room`; `most` is at least their number, and where that is within `room` nothing is counted.
+pub fn no_room(
+    firsts: &[u32],
+    points: &[[i32; 2]],
+    numbers: &[u64],
+    left: usize,
+    right: usize,
+    most: usize,
+    room: usize,
+) -> bool
+    requires { ⌜ Keyed (now firsts) (now points) (now numbers) left right × (left * right < 2 ^ 32) × (total (now firsts) (now points) left right ≤ most) ⌝ }
+    ensures { λ r. ⌜ r ≡ ltb room (total (now (firsts .entry)) (now (points .entry)) left right) ⌝ }
+{
+    if most <= room {
+        return false;
+    }
+    room < bound_all(firsts, points, numbers, left, right, room)
+}
+
+// How many corners all contours have.
+pub fn count_all(
+    firsts: &[u32],
+    points: &[[i32; 2]],
+    numbers: &[u64],
+    left: usize,
+    right: usize,
+) -> usize
+    requires { ⌜ Keyed (now firsts) (now points) (now numbers) left right × (left * right < 2 ^ 32) ⌝ }
+    ensures { λ r. ⌜ r ≡ total (now (firsts .entry)) (now (points .entry)) left right ⌝ }
+{
+    bound_all(firsts, points, numbers, left, right, 0)
 }
