@@ -11,7 +11,7 @@ use minkowski::Operation;
 use minkowski::PairCounts;
 
 // How many corners all pairs have at most: R for each left one and L for each right one.
-fn most_corners(
+pub fn most_corners(
     left_starts: &[u32],
     left_corners: &[i32],
     right_starts: &[u32],
