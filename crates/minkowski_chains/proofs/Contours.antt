@@ -24,7 +24,7 @@ use Rattle.pair_chains.specs.Chains.{chainOf, contourOf, Fits}
 use Rattle.pair_chains.proofs.Chains.{chain-short}
 use Rattle.minkowski_rows.specs.Rows.{PairsRoom, PairsPut, AllPut}
 use Rattle.minkowski_rows.proofs.Pairs.{pairs-none, pairs-then, room-next, all-put}
-use Rattle.minkowski_chains.specs.Contours.{pairOf, edgesOf, contourAt, edgeCounts, fourFrom, cornersIn, PairAs, IsPair, WorkRoom, WorkRooms, More, PutOn, PutTo}
+use Rattle.minkowski_chains.specs.Contours.{pairOf, edgesOf, contourAt, edgeCounts, fourFrom, cornersIn, PairAs, IsPair, mostEdges, WorkRoom, WorkRooms, More, PutOn, PutTo}
 use Rattle.minkowski_chains.specs.declared.Place.{Place}
 use Rattle.minkowski_chains.proofs.Order.{order-start}
 use Rattle.minkowski_chains.proofs.Held.{pair-held, pair-short}
@@ -185,7 +185,7 @@ module _ {points : List (List ℤ)} {numbers : List ℕ} {c : List Pt} {e : ℕ}
   pub as-few : length c ≤ e
   as-few = omega (arith, as-count, a .edges, chain-short numbers (x .end) (x .end - (x .i + x .j)) (x .i) (x .j))
 
-  pub as-work : (w : List ℤ) → WorkRoom w → RoomAfter c w 0
+  pub as-work : (w : List ℤ) → WorkRoom points w → RoomAfter c w 0
   as-work w h = omega (arith, h, as-few, a .short)
 
 -- ---- contours put so far
@@ -217,6 +217,10 @@ pub record Since (left right : ℕ) (ps : List (List Pt)) (t : Place) (s : List 
 pub room-started : {ps : List (List Pt)} (s : List ℕ) {s₀ : List ℕ} {o : List ℤ} → s₀ ≡ set s 0 0 → PairsRoom ps s 0 o 0 → PairsRoom ps s₀ 0 o 0
 room-started s e r = record { for-starts = omega (arith, r .for-starts, ap length e, length-set s 0 0); for-corners = r .for-corners; small = r .small }
 
+-- work buffers that are so long
+pub rooms-long : (points : List (List ℤ)) (n : ℕ) → 2 * mostEdges points ≤ n → {wb wc wd : List ℤ} → length wb ≡ n → length wc ≡ n → length wd ≡ n → WorkRooms points wb wc wd
+rooms-long points n h e f g = record { second = omega (arith, h, e); third = omega (arith, h, f); fourth = omega (arith, h, g) }
+
 -- work buffers of the same lengths have the same room
-pub rooms-same : {wb wc wd wb′ wc′ wd′ : List ℤ} → WorkRooms wb wc wd → length wb′ ≡ length wb → length wc′ ≡ length wc → length wd′ ≡ length wd → WorkRooms wb′ wc′ wd′
-rooms-same r e f g = record { second = omega (arith, r .second, e); third = omega (arith, r .third, f); fourth = omega (arith, r .fourth, g) }
+pub rooms-same : (points : List (List ℤ)) {wb wc wd wb′ wc′ wd′ : List ℤ} → WorkRooms points wb wc wd → length wb′ ≡ length wb → length wc′ ≡ length wc → length wd′ ≡ length wd → WorkRooms points wb′ wc′ wd′
+rooms-same points r e f g = record { second = omega (arith, r .second, e); third = omega (arith, r .third, f); fourth = omega (arith, r .fourth, g) }

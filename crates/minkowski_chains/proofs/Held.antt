@@ -3,7 +3,7 @@
 use mathlib.Core.Path.{_≡_, refl, sym, _∙_, ap, subst, subst₂}
 use mathlib.Core.Bool.{Bool, true, false, cond}
 use mathlib.Core.List.{List, [], _∷_, map}
-use Prim.Native.Nat.{ℕ, _+_, _*_, _-_, _≤_, _<_}
+use Prim.Native.Nat.{ℕ, _+_, _*_, _-_, _≤_, _<_, min}
 use native.Mathlib.Omega.{arith}
 use borrow.Author.Tests.{lt-ltb, le-ltb, eqb-true, eqb-false, eq-eqb, ne-eqb}
 use lib.Dec.{ltb, eqb}
@@ -23,13 +23,13 @@ use Rattle.pair_merge.specs.Putting.{RoomAfter, Put}
 use Rattle.pair_merge.proofs.Merging.{point-in}
 use Rattle.direction_keys.specs.Marks.{leftNumber, rightNumber, Close}
 use Rattle.pair_walks.specs.Walks.{walksIn, walkIn, pairIn, Walks}
-use Rattle.pair_walks.proofs.Walks.{walk-inside, firsts-enough, walk-placed, walk-short}
+use Rattle.pair_walks.proofs.Walks.{walk-inside, firsts-enough, walk-placed, walk-short, firsts-rise}
 use Rattle.pair_numbers.specs.Numbers.{numberOf, Keyed}
 use Rattle.pair_chains.specs.declared.Pair.{Pair}
 use Rattle.pair_chains.specs.Chains.{chain, along, chainOf, contourOf, contourFrom, RunsOf, Fits}
 use Rattle.pair_chains.proofs.Chains.{chain-end, chain-short}
 use Rattle.pair_chains.proofs.Merged.{Lies, MergedFrom, chain-merged}
-use Rattle.minkowski_chains.specs.Contours.{pairFrom, pairOf, edgesOf, Between, WorkRoom}
+use Rattle.minkowski_chains.specs.Contours.{pairFrom, pairOf, edgesOf, mostEdges, Between, WorkRoom}
 
 -- ---- walks that lie in the buffers
 
@@ -101,14 +101,14 @@ module _ (points : List (List ℤ)) (numbers : List ℕ) where
 -- ---- those of two operands
 
 -- no more edges than a work buffer has corners
-pub edges-short : (a b : List Pt) → length a ≤ (maxContour + 1) → length b ≤ (maxContour + 1) → edgesOf a b ≤ 2 * maxContour
+pub edges-short : (n : ℕ) (a b : List Pt) → length a ≤ (maxContour + 1) → length b ≤ (maxContour + 1) → length a + length b ≤ n → edgesOf a b ≤ min (2 * maxContour) n
 unfolding edgesOf
-edges-short a b h k = at (eqb (length a) 0) (eqb (length b) 0)
+edges-short n a b h k l = at (eqb (length a) 0) (eqb (length b) 0)
   where
-    at : (s t : Bool) → cond s 0 (cond t 0 (length a + length b - 2)) ≤ 2 * maxContour
+    at : (s t : Bool) → cond s 0 (cond t 0 (length a + length b - 2)) ≤ min (2 * maxContour) n
     at true t = omega arith
     at false true = omega arith
-    at false false = omega (arith, h, k)
+    at false false = omega (arith, h, k, l)
 
 -- a walk ends where the next begins
 pub walk-ends : (firsts : List ℕ) (points : List (List ℤ)) (all n : ℕ) → Walks firsts points all → n < all → getD firsts n 0 + length (walkIn firsts points all n) ≡ getD firsts (n + 1) 0
@@ -166,8 +166,13 @@ module _ (firsts : List ℕ) (points : List (List ℤ)) (numbers : List ℕ) (le
     pub pair-between : Between firsts p × Between firsts (left + q)
     pair-between = (walk-between p in-left, walk-between (left + q) in-right)
 
-    pub pair-short : edgesOf (walkIn firsts points (left + right) p) (walkIn firsts points (left + right) (left + q)) ≤ 2 * maxContour
-    pair-short = edges-short _ _ (walk-short firsts points (left + right) p (k .walks) in-left) (walk-short firsts points (left + right) (left + q) (k .walks) in-right)
+    pub pair-short : edgesOf (walkIn firsts points (left + right) p) (walkIn firsts points (left + right) (left + q)) ≤ mostEdges points
+    pair-short =
+        edges-short (length points) _ _ (walk-short firsts points (left + right) p (k .walks) in-left) (walk-short firsts points (left + right) (left + q) (k .walks) in-right)
+        (omega (arith, ends p in-left, ends (left + q) in-right, placed (left + q) in-right .within, firsts-rise firsts points (left + right) (k .walks) (p + 1) (left + q - (p + 1)) (omega arith), ap (λ j. getD firsts j 0) on))
+      where
+        on : p + 1 + (left + q - (p + 1)) ≡ left + q
+        on = omega arith
 
     -- they fit where its corners have room, and are put
     pub pair-fits : {x : Pair} {out : List ℤ} {at : ℕ} → x ≡ pairOf firsts left p q → RoomAfter (pairIn firsts points left right p q) out at → Fits points numbers x out at
@@ -183,5 +188,5 @@ module _ (firsts : List ℕ) (points : List (List ℤ)) (numbers : List ℕ) (le
         let x = pairOf firsts left p q in
         omega (arith, pair-held .edges, ap length (pair-held .contour), length-map (chainOf numbers x) (λ c. cornerAt points (c .0) +ᵖ cornerAt points (c .1)), chain-short numbers (x .end) (x .end - (x .i + x .j)) (x .i) (x .j))
 
-    pub pair-room : (work : List ℤ) → WorkRoom work → RoomAfter (pairIn firsts points left right p q) work 0
+    pub pair-room : (work : List ℤ) → WorkRoom points work → RoomAfter (pairIn firsts points left right p q) work 0
     pair-room work w = omega (arith, w, pair-few, pair-short)

@@ -3,7 +3,7 @@
 use mathlib.Core.Path.{_≡_}
 use mathlib.Core.Bool.{cond}
 use mathlib.Core.List.{List, [], _∷_, map, flatten}
-use Prim.Native.Nat.{ℕ, _+_, _*_, _-_, _≤_, _<_, _^_}
+use Prim.Native.Nat.{ℕ, _+_, _*_, _-_, _≤_, _<_, _^_, min}
 use lib.Dec.{eqb}
 use lib.ListN.{length, getD, take}
 use lib.IntN.{ℤ}
@@ -61,13 +61,17 @@ edgeCounts firsts points left right = flatten (map (λ a. map (edgesOf a) (right
 abbrev pub edgesAt : List ℕ → List (List ℤ) → ℕ → ℕ → ℕ → ℕ
 edgesAt firsts points left right n = getD (edgeCounts firsts points left right) n 0
 
+-- a pair has at most 2,052 edges, and no more than there are points
+abbrev pub mostEdges : List (List ℤ) → ℕ
+mostEdges points = min (2 * maxContour) (length points)
+
 -- a pair with the contour c and e edges, as pair_chains takes it
 pub record PairAs (points : List (List ℤ)) (numbers : List ℕ) (c : List Pt) (e : ℕ) (x : Pair) : Type 0 where
   pub runs : RunsOf points numbers x
   pub contour : contourOf points numbers x ≡ c
   pub ordered : x .i + x .j ≤ x .end
   pub edges : x .end - (x .i + x .j) ≡ e
-  pub short : e ≤ 2 * maxContour
+  pub short : e ≤ mostEdges points
 
 -- pair n
 abbrev pub IsPair : List ℕ → List (List ℤ) → List ℕ → ℕ → ℕ → ℕ → Pair → Type 0
@@ -98,14 +102,14 @@ pub record Used (firsts : List ℕ) (points : List (List ℤ)) (numbers : List �
   pub same : length numbers ≡ length points
 
 -- a work buffer has room for any pair's corners
-abbrev pub WorkRoom : List ℤ → Type 0
-WorkRoom work = 4 * maxContour ≤ length work
+abbrev pub WorkRoom : List (List ℤ) → List ℤ → Type 0
+WorkRoom points work = 2 * mostEdges points ≤ length work
 
 -- three of them have
-pub record WorkRooms (wb wc wd : List ℤ) : Type 0 where
-  pub second : WorkRoom wb
-  pub third : WorkRoom wc
-  pub fourth : WorkRoom wd
+pub record WorkRooms (points : List (List ℤ)) (wb wc wd : List ℤ) : Type 0 where
+  pub second : WorkRoom points wb
+  pub third : WorkRoom points wc
+  pub fourth : WorkRoom points wd
 
 -- ---- what is put
 

@@ -15,6 +15,11 @@ ghost use Rattle.minkowski_chains.specs.Contours.{pairFrom, pairOf, Betw
 use pair_chains::Pair;
 use pair_chains::Pairs;
 
+// The most points of two operands whose pairs have short work buffers, and the numbers of a buffer that holds the corners of any pair.
+const SMALL: usize = 512;
+
+const WORK: usize = 4 * table::MAX_CONTOUR;
+
 // Where all pairs have come to: left walk p and right walk q are next, pair n in order, after k corners.
 pub struct Place {
     pub p: usize,
@@ -121,7 +126,7 @@ pub fn merge_one(
     q: usize,
     work: &mut [i32],
 ) -> usize
-    requires { ⌜ Keyed (now firsts) (now points) (now numbers) left right × (p < left) × (q < right) × WorkRoom (now work) ⌝ }
+    requires { ⌜ Keyed (now firsts) (now points) (now numbers) left right × (p < left) × (q < right) × WorkRoom (now points) (now work) ⌝ }
     ensures { λ r. ⌜ Put (pairIn (now (firsts .entry)) (now (points .entry)) left right p q) (now (work .entry)) 0 (now (work .exit)) r ⌝ }
 {
     let n = first(firsts, left + right);
@@ -248,7 +253,7 @@ fn append_four(
     starts: &mut [u32],
     out: &mut [i32],
 ) -> Place
-    requires { ⌜ Used (now firsts) (now points) (now numbers) left right × More left right 4 s × WorkRooms (now wb) (now wc) (now wd) × PairsRoom (fourFrom (contoursIn (now firsts) (now points) left right) (s .n)) (now starts) (s .n) (now out) (s .k) ⌝ }
+    requires { ⌜ Used (now firsts) (now points) (now numbers) left right × More left right 4 s × WorkRooms (now points) (now wb) (now wc) (now wd) × PairsRoom (fourFrom (contoursIn (now firsts) (now points) left right) (s .n)) (now starts) (s .n) (now out) (s .k) ⌝ }
     ensures { λ r. ⌜ PutOn left right 4 (fourFrom (contoursIn (now (firsts .entry)) (now (points .entry)) left right) (s .n)) s (now (starts .entry)) (now (out .entry)) r (now (starts .exit)) (now (out .exit)) ⌝ }
 {
     let f = four_next(firsts, points, numbers, left, right, s);
@@ -281,7 +286,7 @@ fn append_fours(
     starts: &mut [u32],
     out: &mut [i32],
 ) -> Place
-    requires { ⌜ Used (now firsts) (now points) (now numbers) left right × WorkRooms (now wb) (now wc) (now wd) × PairsRoom (contoursIn (now firsts) (now points) left right) (now starts) 0 (now out) 0 ⌝ }
+    requires { ⌜ Used (now firsts) (now points) (now numbers) left right × WorkRooms (now points) (now wb) (now wc) (now wd) × PairsRoom (contoursIn (now firsts) (now points) left right) (now starts) 0 (now out) 0 ⌝ }
     ensures { λ r. ⌜ PutTo left right (contoursIn (now (firsts .entry)) (now (points .entry)) left right) (now (starts .entry)) (now (out .entry)) r (now (starts .exit)) (now (out .exit)) ⌝ }
 {
     let all = left * right;
@@ -322,7 +327,7 @@ fn append_used(
     starts: &mut [u32],
     out: &mut [i32],
 ) -> usize
-    requires { ⌜ Used (now firsts) (now points) (now numbers) left right × WorkRooms (now wb) (now wc) (now wd) × PairsRoom (contoursIn (now firsts) (now points) left right) (now starts) 0 (now out) 0 ⌝ }
+    requires { ⌜ Used (now firsts) (now points) (now numbers) left right × WorkRooms (now points) (now wb) (now wc) (now wd) × PairsRoom (contoursIn (now firsts) (now points) left right) (now starts) 0 (now out) 0 ⌝ }
     ensures { λ r. ⌜ AllPut (contoursIn (now (firsts .entry)) (now (points .entry)) left right) (now (starts .entry)) (now (out .entry)) (now (starts .exit)) (now (out .exit)) r ⌝ }
 {
     convex_gather::put_start(starts, 0, 0);
@@ -345,32 +350,101 @@ fn append_used(
     s.k
 }
 
-// The contours of all pairs, each left walk with each right one in order, on the front of the lent starts and corners; answers how many corners they have.
+// In work buffers that hold the corners of a pair of any 512 points.
+fn append_small(
+    firsts: &[u32],
+    points: &[[i32; 2]],
+    numbers: &[u64],
+    left: usize,
+    right: usize,
+    starts: &mut [u32],
+    out: &mut [i32],
+) -> usize
+    requires used { ⌜ Used (now firsts) (now points) (now numbers) left right × (length (now points) ≤ 512) ⌝ }
+    requires room { ⌜ PairsRoom (contoursIn (now firsts) (now points) left right) (now starts) 0 (now out) 0 ⌝ }
+    ensures { λ r. ⌜ AllPut (contoursIn (now (firsts .entry)) (now (points .entry)) left right) (now (starts .entry)) (now (out .entry)) (now (starts .exit)) (now (out .exit)) r ⌝ }
+{
+    let mut wb = [0i32; 2 * SMALL];
+    let mut wc = [0i32; 2 * SMALL];
+    let mut wd = [0i32; 2 * SMALL];
+    append_used(
+        firsts,
+        points,
+        numbers,
+        left,
+        right,
+        &mut wb,
+        &mut wc,
+        &mut wd,
+        starts,
+        out,
+    )
+}
+
+// In work buffers that hold the corners of any pair.
+fn append_large(
+    firsts: &[u32],
+    points: &[[i32; 2]],
+    numbers: &[u64],
+    left: usize,
+    right: usize,
+    starts: &mut [u32],
+    out: &mut [i32],
+) -> usize
+    requires used { ⌜ Used (now firsts) (now points) (now numbers) left right ⌝ }
+    requires room { ⌜ PairsRoom (contoursIn (now firsts) (now points) left right) (now starts) 0 (now out) 0 ⌝ }
+    ensures { λ r. ⌜ AllPut (contoursIn (now (firsts .entry)) (now (points .entry)) left right) (now (starts .entry)) (now (out .entry)) (now (starts .exit)) (now (out .exit)) r ⌝ }
+{
+    let mut wb = [0i32; WORK];
+    let mut wc = [0i32; WORK];
+    let mut wd = [0i32; WORK];
+    append_used(
+        firsts,
+        points,
+        numbers,
+        left,
+        right,
+        &mut wb,
+        &mut wc,
+        &mut wd,
+        starts,
+        out,
+    )
+}
+
+// The contours of all pairs, each left walk with each right one in order, on the front of the lent starts and corners; answers how many corners they have. Few points
+// have short work buffers, which are faster to set up.
 pub fn append_all(
     firsts: &[u32],
     points: &[[i32; 2]],
     numbers: &[u64],
     left: usize,
     right: usize,
-    wb: &mut [i32],
-    wc: &mut [i32],
-    wd: &mut [i32],
     starts: &mut [u32],
     out: &mut [i32],
 ) -> usize
-    requires { ⌜ Keyed (now firsts) (now points) (now numbers) left right × WorkRooms (now wb) (now wc) (now wd) × PairsRoom (contoursIn (now firsts) (now points) left right) (now starts) 0 (now out) 0 ⌝ }
+    requires keyed { ⌜ Keyed (now firsts) (now points) (now numbers) left right ⌝ }
+    requires room { ⌜ PairsRoom (contoursIn (now firsts) (now points) left right) (now starts) 0 (now out) 0 ⌝ }
     ensures { λ r. ⌜ AllPut (contoursIn (now (firsts .entry)) (now (points .entry)) left right) (now (starts .entry)) (now (out .entry)) (now (starts .exit)) (now (out .exit)) r ⌝ }
 {
     let n = first(firsts, left + right);
-    append_used(
+    if n <= SMALL {
+        return append_small(
+            firsts,
+            &points[..n],
+            &numbers[..n],
+            left,
+            right,
+            starts,
+            out,
+        );
+    }
+    append_large(
         firsts,
         &points[..n],
         &numbers[..n],
         left,
         right,
-        wb,
-        wc,
-        wd,
         starts,
         out,
     )
