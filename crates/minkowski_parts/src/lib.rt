@@ -1,17 +1,19 @@
 // All pair sums and differences (int/minkowski.rs): `sum_parts` and `difference_parts`, with no `requires`. Their answer and both lent buffers equal
 // `pairsCounts`, `pairsStarts` and `pairsCorners` of minkowski/specs/Pairs.antt. The pairs are made in local buffers that hold the points of any two operands, or of
-// two small or two tiny ones, which are faster to set up. Leans on minkowski_faults and minkowski_work.
+// two medium, small or tiny ones, which are faster to set up; by numbers, but for tiny operands and few pairs. Leans on minkowski_faults, minkowski_work and minkowski_keyed.
 ghost use mathlib.Core.Path.{_≡_};
 ghost use mathlib.Core.Bool.{false, true};
 ghost use Rattle.minkowski.specs.Pairs.{pairsCounts, pairsStarts, pairsCorners};
 ghost use Rattle.minkowski_faults.specs.Kinds.{operand};
 ghost use Rattle.minkowski_work.specs.Scratch.{callOf, Accepted, Answers};
-ghost use Rattle.minkowski_parts.specs.Sizes.{tinyPlaces, smallPlaces, FitsIn};
+ghost use Rattle.minkowski_parts.specs.Sizes.{tinyPlaces, smallPlaces, mediumPlaces, FitsIn, fewPairs, FewAsked};
 use minkowski::Operation;
 use minkowski::PairCounts;
 use table::IntRect;
 
-// An operand has at most this many starts and corners together to be a small one, and this many to be a tiny one, as of one triangle.
+// An operand has at most this many starts and corners together to be a medium one, a small one, or a tiny one, as of one triangle.
+pub const MEDIUM: usize = 2048;
+
 pub const SMALL: usize = 256;
 
 pub const TINY: usize = 16;
@@ -104,7 +106,100 @@ fn pairs_small(
     )
 }
 
-// All pairs of two tiny operands. Apart from `all_pairs`, whose frame has the large buffers and takes longer to set up than a pair of triangles to merge.
+// By numbers, in local buffers for two small operands.
+fn keyed_small(
+    operation: Operation,
+    left_starts: &[u32],
+    left_corners: &[i32],
+    right_starts: &[u32],
+    right_corners: &[i32],
+    starts: &mut [u32],
+    corners: &mut [i32],
+) -> PairCounts
+    requires accepted { ⌜ Accepted (callOf operation (now «left_starts») (now «left_corners») (now «right_starts») (now «right_corners»)) ⌝ }
+    requires places { ⌜ FitsIn smallPlaces (now «left_starts») (now «left_corners») × FitsIn smallPlaces (now «right_starts») (now «right_corners») ⌝ }
+    ensures { λ r. ⌜ Answers (callOf operation (now («left_starts» .entry)) (now («left_corners» .entry)) (now («right_starts» .entry)) (now («right_corners» .entry))) (now (starts .entry)) (now (corners .entry)) r (now (starts .exit)) (now (corners .exit)) ⌝ }
+{
+    let mut points = [[0i32; 2]; 2 * SMALL];
+    let mut firsts = [0u32; 2 * SMALL];
+    let mut numbers = [0u64; 2 * SMALL];
+    minkowski_keyed::pairs_keyed(
+        operation,
+        left_starts,
+        left_corners,
+        right_starts,
+        right_corners,
+        &mut points,
+        &mut firsts,
+        &mut numbers,
+        starts,
+        corners,
+    )
+}
+
+// By numbers, in local buffers for two medium operands.
+fn keyed_medium(
+    operation: Operation,
+    left_starts: &[u32],
+    left_corners: &[i32],
+    right_starts: &[u32],
+    right_corners: &[i32],
+    starts: &mut [u32],
+    corners: &mut [i32],
+) -> PairCounts
+    requires accepted { ⌜ Accepted (callOf operation (now «left_starts») (now «left_corners») (now «right_starts») (now «right_corners»)) ⌝ }
+    requires places { ⌜ FitsIn mediumPlaces (now «left_starts») (now «left_corners») × FitsIn mediumPlaces (now «right_starts») (now «right_corners») ⌝ }
+    ensures { λ r. ⌜ Answers (callOf operation (now («left_starts» .entry)) (now («left_corners» .entry)) (now («right_starts» .entry)) (now («right_corners» .entry))) (now (starts .entry)) (now (corners .entry)) r (now (starts .exit)) (now (corners .exit)) ⌝ }
+{
+    let mut points = [[0i32; 2]; 2 * MEDIUM];
+    let mut firsts = [0u32; 2 * MEDIUM];
+    let mut numbers = [0u64; 2 * MEDIUM];
+    minkowski_keyed::pairs_keyed(
+        operation,
+        left_starts,
+        left_corners,
+        right_starts,
+        right_corners,
+        &mut points,
+        &mut firsts,
+        &mut numbers,
+        starts,
+        corners,
+    )
+}
+
+// By numbers, in local buffers that hold the points of any two operands.
+fn keyed_large(
+    operation: Operation,
+    left_starts: &[u32],
+    left_corners: &[i32],
+    right_starts: &[u32],
+    right_corners: &[i32],
+    starts: &mut [u32],
+    corners: &mut [i32],
+) -> PairCounts
+    requires accepted { ⌜ Accepted (callOf operation (now «left_starts») (now «left_corners») (now «right_starts») (now «right_corners»)) ⌝ }
+    ensures { λ r. ⌜ Answers (callOf operation (now («left_starts» .entry)) (now («left_corners» .entry)) (now («right_starts» .entry)) (now («right_corners» .entry))) (now (starts .entry)) (now (corners .entry)) r (now (starts .exit)) (now (corners .exit)) ⌝ }
+{
+    let mut points = [[0i32; 2]; 2 * POINTS];
+    let mut firsts = [0u32; 2 * FIRSTS];
+    let mut numbers = [0u64; 2 * POINTS];
+    minkowski_keyed::pairs_keyed(
+        operation,
+        left_starts,
+        left_corners,
+        right_starts,
+        right_corners,
+        &mut points,
+        &mut firsts,
+        &mut numbers,
+        starts,
+        corners,
+    )
+}
+
+// All pairs of two tiny operands. Each size has a function of its own that both calls ask, so that no frame has larger buffers than its size: a large one takes longer to
+// set up than a pair of triangles to merge.
 fn tiny_pairs(
     operation: Operation,
     left_starts: &[u32],
@@ -143,8 +238,69 @@ fn tiny_pairs(
     )
 }
 
-// All pairs of two operands, the right one turned through the origin where `operation` is a difference.
-fn all_pairs(
+// Whether so few pairs are asked for that numbers, two divisions an edge, would not pay: together they have less than four times the operands' corners.
+fn few_pairs(
+    left_starts: &[u32],
+    left_corners: &[i32],
+    right_starts: &[u32],
+    right_corners: &[i32],
+) -> bool
+    requires { ⌜ FewAsked (now «left_starts») (now «left_corners») (now «right_starts») (now «right_corners») ⌝ }
+    ensures { λ r. ⌜ r ≡ fewPairs (now («left_starts» .entry)) (now («left_corners» .entry)) (now («right_starts» .entry)) (now («right_corners» .entry)) ⌝ }
+{
+    let a = left_corners.len() / 2;
+    let b = right_corners.len() / 2;
+    right_starts.len() * a + left_starts.len() * b < 4 * (a + b)
+}
+
+// All pairs of two small operands.
+fn small_pairs(
+    operation: Operation,
+    left_starts: &[u32],
+    left_corners: &[i32],
+    right_starts: &[u32],
+    right_corners: &[i32],
+    starts: &mut [u32],
+    corners: &mut [i32],
+) -> PairCounts
+    requires { ⌜ FitsIn smallPlaces (now «left_starts») (now «left_corners») × FitsIn smallPlaces (now «right_starts») (now «right_corners») ⌝ }
+    ensures { λ r. ⌜ Answers (callOf operation (now («left_starts» .entry)) (now («left_corners» .entry)) (now («right_starts» .entry)) (now («right_corners» .entry))) (now (starts .entry)) (now (corners .entry)) r (now (starts .exit)) (now (corners .exit)) ⌝ }
+{
+    let fault = minkowski_faults::operands_fault(
+        left_starts,
+        left_corners,
+        operation.left,
+        right_starts,
+        right_corners,
+        operation.right,
+    );
+    if fault != 0 {
+        return minkowski_answer::refusal(fault);
+    }
+    if few_pairs(left_starts, left_corners, right_starts, right_corners) {
+        return pairs_small(
+            operation,
+            left_starts,
+            left_corners,
+            right_starts,
+            right_corners,
+            starts,
+            corners,
+        );
+    }
+    keyed_small(
+        operation,
+        left_starts,
+        left_corners,
+        right_starts,
+        right_corners,
+        starts,
+        corners,
+    )
+}
+
+// All pairs of any two operands.
+fn large_pairs(
     operation: Operation,
     left_starts: &[u32],
     left_corners: &[i32],
@@ -166,14 +322,8 @@ fn all_pairs(
     if fault != 0 {
         return minkowski_answer::refusal(fault);
     }
-    if both_fit(
-        left_starts,
-        left_corners,
-        right_starts,
-        right_corners,
-        SMALL,
-    ) {
-        return pairs_small(
+    if few_pairs(left_starts, left_corners, right_starts, right_corners) {
+        return pairs_large(
             operation,
             left_starts,
             left_corners,
@@ -183,7 +333,24 @@ fn all_pairs(
             corners,
         );
     }
-    pairs_large(
+    if both_fit(
+        left_starts,
+        left_corners,
+        right_starts,
+        right_corners,
+        MEDIUM,
+    ) {
+        return keyed_medium(
+            operation,
+            left_starts,
+            left_corners,
+            right_starts,
+            right_corners,
+            starts,
+            corners,
+        );
+    }
+    keyed_large(
         operation,
         left_starts,
         left_corners,
@@ -226,7 +393,24 @@ pub fn sum_parts(
             corners,
         );
     }
-    all_pairs(
+    if both_fit(
+        left_starts,
+        left_corners,
+        right_starts,
+        right_corners,
+        SMALL,
+    ) {
+        return small_pairs(
+            operation,
+            left_starts,
+            left_corners,
+            right_starts,
+            right_corners,
+            starts,
+            corners,
+        );
+    }
+    large_pairs(
         operation,
         left_starts,
         left_corners,
@@ -268,7 +452,24 @@ pub fn difference_parts(
             corners,
         );
     }
-    all_pairs(
+    if both_fit(
+        left_starts,
+        left_corners,
+        right_starts,
+        right_corners,
+        SMALL,
+    ) {
+        return small_pairs(
+            operation,
+            left_starts,
+            left_corners,
+            right_starts,
+            right_corners,
+            starts,
+            corners,
+        );
+    }
+    large_pairs(
         operation,
         left_starts,
         left_corners,
