@@ -9,3 +9,10 @@ pub struct PairCounts {
     pub corners: u32,
     pub bounds: IntRect,
 }
+
+// What two tables are combined by: a sum, or a difference where `reflected`, and the bounds of both operands.
+pub struct Operation {
+    pub reflected: bool,
+    pub left: IntRect,
+    pub right: IntRect,
+}

@@ -4,9 +4,8 @@ ghost use mathlib.Core.Path.{_≡_};
 ghost use mathlib.Core.List.{flatten};
 ghost use lib.Dec.{ltb};
 ghost use lib.ListN.{length};
-ghost use Rattle.integers.specs.Faults.{firstFault};
-ghost use Rattle.table.specs.Table.{roomKinds};
-ghost use Rattle.minkowski_answer.specs.Answer.{refusalOf, contoursIn, Unrolleds, PairsAnswered};
+ghost use Rattle.pair_walks.specs.Walks.{contoursIn};
+ghost use Rattle.minkowski_answer.specs.Answer.{refusalOf, Unrolleds, WalksAnswered};
 use minkowski::PairCounts;
 use table::IntRect;
 
@@ -29,49 +28,45 @@ pub fn refusal(fault: u32) -> PairCounts
 
 // Whether the pairs have more corners than `room`: no where the most that there can be have room, and else as counting tells.
 fn no_room(
-    lf: &[u32],
-    lp: &[[i32; 2]],
+    firsts: &[u32],
+    points: &[[i32; 2]],
     left: usize,
-    rf: &[u32],
-    rp: &[[i32; 2]],
     right: usize,
     most: usize,
     room: usize,
 ) -> bool
-    requires { ⌜ Unrolleds (now lf) (now lp) left (now rf) (now rp) right most ⌝ }
-    ensures { λ r. ⌜ r ≡ ltb room (length (flatten (contoursIn (now (lf .entry)) (now (lp .entry)) left (now (rf .entry)) (now (rp .entry)) right))) ⌝ }
+    requires { ⌜ Unrolleds (now firsts) (now points) left right most ⌝ }
+    ensures { λ r. ⌜ r ≡ ltb room (length (flatten (contoursIn (now (firsts .entry)) (now (points .entry)) left right))) ⌝ }
 {
     if most <= room {
         return false;
     }
-    minkowski_count::count_all(lf, lp, left, rf, rp, right) > room
+    minkowski_count::count_all(firsts, points, left, right) > room
 }
 
 // All pairs of two operands' walks, within `bounds`, on the front of the lent starts and corners. Refused with 22 or 21, and nothing changed, where there are
 // too few places.
 pub fn hand_out(
-    lf: &[u32],
-    lp: &[[i32; 2]],
+    firsts: &[u32],
+    points: &[[i32; 2]],
     left: usize,
-    rf: &[u32],
-    rp: &[[i32; 2]],
     right: usize,
     most: usize,
     bounds: IntRect,
     starts: &mut [u32],
     corners: &mut [i32],
 ) -> PairCounts
-    requires { ⌜ Unrolleds (now lf) (now lp) left (now rf) (now rp) right most ⌝ }
-    ensures { λ r. ⌜ PairsAnswered (firstFault (roomKinds (contoursIn (now (lf .entry)) (now (lp .entry)) left (now (rf .entry)) (now (rp .entry)) right) (length (now (starts .entry))) (length (now (corners .entry))))) (contoursIn (now (lf .entry)) (now (lp .entry)) left (now (rf .entry)) (now (rp .entry)) right) bounds (now (starts .entry)) (now (corners .entry)) r (now (starts .exit)) (now (corners .exit)) ⌝ }
+    requires { ⌜ Unrolleds (now firsts) (now points) left right most ⌝ }
+    ensures { λ r. ⌜ WalksAnswered (now (firsts .entry)) (now (points .entry)) left right bounds (now (starts .entry)) (now (corners .entry)) r (now (starts .exit)) (now (corners .exit)) ⌝ }
 {
     let contours = left * right;
     if starts.len() < contours + 1 {
         return refusal(integers::fault::START_ROOM);
     }
-    if no_room(lf, lp, left, rf, rp, right, most, corners.len() / 2) {
+    if no_room(firsts, points, left, right, most, corners.len() / 2) {
         return refusal(integers::fault::CORNER_ROOM);
     }
-    let count = minkowski_rows::append_all(lf, lp, left, rf, rp, right, starts, corners);
+    let count = minkowski_rows::append_all(firsts, points, left, right, starts, corners);
     PairCounts {
         fault: 0,
         contours: contours as u32,

@@ -1,62 +1,31 @@
 // All pair sums and differences (int/minkowski.rs): `sum_parts` and `difference_parts`, with no `requires`. Their answer and both lent buffers equal
-// `pairsCounts`, `pairsStarts` and `pairsCorners` of minkowski/specs/Pairs.antt. The pairs are made in local buffers that hold the points of any operand, or of
-// a small or a tiny one, which are faster to set up. Leans on minkowski_faults and minkowski_work.
+// `pairsCounts`, `pairsStarts` and `pairsCorners` of minkowski/specs/Pairs.antt. The pairs are made in local buffers that hold the points of any two operands, or of
+// two medium, small or tiny ones, which are faster to set up; by numbers, but for tiny operands and few pairs. Leans on minkowski_faults, minkowski_work and minkowski_keyed.
 ghost use mathlib.Core.Path.{_≡_};
 ghost use mathlib.Core.Bool.{false, true};
-ghost use Prim.Native.Nat.{_+_, _/_, _≤_};
-ghost use lib.ListN.{length};
-ghost use Rattle.integers.specs.Faults.{firstFault};
 ghost use Rattle.minkowski.specs.Pairs.{pairsCounts, pairsStarts, pairsCorners};
-ghost use Rattle.minkowski_faults.specs.Kinds.{operand, operandKinds};
-ghost use Rattle.minkowski_work.specs.Scratch.{Answers};
-ghost use Rattle.minkowski_parts.specs.Sizes.{tinyPlaces, smallPlaces};
+ghost use Rattle.minkowski_faults.specs.Kinds.{operand};
+ghost use Rattle.minkowski_work.specs.Scratch.{callOf, Accepted, Answers};
+ghost use Rattle.minkowski_parts.specs.Sizes.{tinyPlaces, smallPlaces, mediumPlaces, FitsIn, fewPairs, FewAsked};
+use minkowski::Operation;
 use minkowski::PairCounts;
 use table::IntRect;
 
-// An operand has at most this many starts and corners together to be a small one, and this many to be a tiny one, as of one triangle.
+// An operand has at most this many starts and corners together to be a medium one, a small one, or a tiny one, as of one triangle.
+pub const MEDIUM: usize = 2048;
+
 pub const SMALL: usize = 256;
 
 pub const TINY: usize = 16;
 
-// In local buffers that hold the points of any operand: 8,192 corners, and one more point for each of 2,048 parts.
-fn pairs_large(
-    reflected: bool,
-    left_starts: &[u32],
-    left_corners: &[i32],
-    left_bounds: IntRect,
-    right_starts: &[u32],
-    right_corners: &[i32],
-    right_bounds: IntRect,
-    starts: &mut [u32],
-    corners: &mut [i32],
-) -> PairCounts
-    requires { ⌜ firstFault (operandKinds (operand (now «left_starts») (now «left_corners») «left_bounds») (operand (now «right_starts») (now «right_corners») «right_bounds»)) ≡ 0 ⌝ }
-    ensures { λ r. ⌜ Answers reflected (operand (now («left_starts» .entry)) (now («left_corners» .entry)) «left_bounds») (operand (now («right_starts» .entry)) (now («right_corners» .entry)) «right_bounds») (now (starts .entry)) (now (corners .entry)) r (now (starts .exit)) (now (corners .exit)) ⌝ }
-{
-    let mut left_points = [[0i32; 2]; table::MAX_CORNERS + table::MAX_PARTS];
-    let mut left_firsts = [0u32; table::MAX_PARTS + 1];
-    let mut right_points = [[0i32; 2]; table::MAX_CORNERS + table::MAX_PARTS];
-    let mut right_firsts = [0u32; table::MAX_PARTS + 1];
-    minkowski_work::pairs_over(
-        reflected,
-        left_starts,
-        left_corners,
-        left_bounds,
-        right_starts,
-        right_corners,
-        right_bounds,
-        &mut left_points,
-        &mut left_firsts,
-        &mut right_points,
-        &mut right_firsts,
-        starts,
-        corners,
-    )
-}
+// The most points of any operand: 8,192 corners, and one more point for each of 2,048 parts.
+const POINTS: usize = table::MAX_CORNERS + table::MAX_PARTS;
+
+const FIRSTS: usize = table::MAX_PARTS + 1;
 
 // Whether an operand has at most so many starts and corners together.
 fn fits(starts: &[u32], corners: &[i32], places: usize) -> bool
-    ensures { λ r. ⌜ (r ≡ true → length (now (starts .entry)) + length (now (corners .entry)) / 2 ≤ places) ⌝ }
+    ensures { λ r. ⌜ (r ≡ true → FitsIn places (now (starts .entry)) (now (corners .entry))) ⌝ }
 {
     if starts.len() > places {
         return false;
@@ -64,137 +33,329 @@ fn fits(starts: &[u32], corners: &[i32], places: usize) -> bool
     corners.len() / 2 <= places - starts.len()
 }
 
+// Whether both have.
+fn both_fit(
+    left_starts: &[u32],
+    left_corners: &[i32],
+    right_starts: &[u32],
+    right_corners: &[i32],
+    places: usize,
+) -> bool
+    ensures { λ r. ⌜ (r ≡ true → FitsIn places (now («left_starts» .entry)) (now («left_corners» .entry)) × FitsIn places (now («right_starts» .entry)) (now («right_corners» .entry))) ⌝ }
+{
+    if fits(left_starts, left_corners, places) {
+        return fits(right_starts, right_corners, places);
+    }
+    false
+}
+
+// In local buffers that hold the points of any two operands.
+fn pairs_large(
+    operation: Operation,
+    left_starts: &[u32],
+    left_corners: &[i32],
+    right_starts: &[u32],
+    right_corners: &[i32],
+    starts: &mut [u32],
+    corners: &mut [i32],
+) -> PairCounts
+    requires accepted { ⌜ Accepted (callOf operation (now «left_starts») (now «left_corners») (now «right_starts») (now «right_corners»)) ⌝ }
+    ensures { λ r. ⌜ Answers (callOf operation (now («left_starts» .entry)) (now («left_corners» .entry)) (now («right_starts» .entry)) (now («right_corners» .entry))) (now (starts .entry)) (now (corners .entry)) r (now (starts .exit)) (now (corners .exit)) ⌝ }
+{
+    let mut points = [[0i32; 2]; 2 * POINTS];
+    let mut firsts = [0u32; 2 * FIRSTS];
+    minkowski_work::pairs_over(
+        operation,
+        left_starts,
+        left_corners,
+        right_starts,
+        right_corners,
+        &mut points,
+        &mut firsts,
+        starts,
+        corners,
+    )
+}
+
 // In local buffers for two small operands.
 fn pairs_small(
-    reflected: bool,
+    operation: Operation,
     left_starts: &[u32],
     left_corners: &[i32],
-    left_bounds: IntRect,
     right_starts: &[u32],
     right_corners: &[i32],
-    right_bounds: IntRect,
     starts: &mut [u32],
     corners: &mut [i32],
 ) -> PairCounts
-    requires { ⌜ (firstFault (operandKinds (operand (now «left_starts») (now «left_corners») «left_bounds») (operand (now «right_starts») (now «right_corners») «right_bounds»)) ≡ 0) × (length (now «left_starts») + length (now «left_corners») / 2 ≤ smallPlaces) × (length (now «right_starts») + length (now «right_corners») / 2 ≤ smallPlaces) ⌝ }
-    ensures { λ r. ⌜ Answers reflected (operand (now («left_starts» .entry)) (now («left_corners» .entry)) «left_bounds») (operand (now («right_starts» .entry)) (now («right_corners» .entry)) «right_bounds») (now (starts .entry)) (now (corners .entry)) r (now (starts .exit)) (now (corners .exit)) ⌝ }
+    requires accepted { ⌜ Accepted (callOf operation (now «left_starts») (now «left_corners») (now «right_starts») (now «right_corners»)) ⌝ }
+    requires places { ⌜ FitsIn smallPlaces (now «left_starts») (now «left_corners») × FitsIn smallPlaces (now «right_starts») (now «right_corners») ⌝ }
+    ensures { λ r. ⌜ Answers (callOf operation (now («left_starts» .entry)) (now («left_corners» .entry)) (now («right_starts» .entry)) (now («right_corners» .entry))) (now (starts .entry)) (now (corners .entry)) r (now (starts .exit)) (now (corners .exit)) ⌝ }
 {
-    let mut left_points = [[0i32; 2]; SMALL];
-    let mut left_firsts = [0u32; SMALL];
-    let mut right_points = [[0i32; 2]; SMALL];
-    let mut right_firsts = [0u32; SMALL];
+    let mut points = [[0i32; 2]; 2 * SMALL];
+    let mut firsts = [0u32; 2 * SMALL];
     minkowski_work::pairs_over(
-        reflected,
+        operation,
         left_starts,
         left_corners,
-        left_bounds,
         right_starts,
         right_corners,
-        right_bounds,
-        &mut left_points,
-        &mut left_firsts,
-        &mut right_points,
-        &mut right_firsts,
+        &mut points,
+        &mut firsts,
         starts,
         corners,
     )
 }
 
-// All pairs of two tiny operands. Apart from `all_pairs`, whose frame has the large buffers and takes longer to set up than a pair of triangles to merge.
+// By numbers, in local buffers for two small operands.
+fn keyed_small(
+    operation: Operation,
+    left_starts: &[u32],
+    left_corners: &[i32],
+    right_starts: &[u32],
+    right_corners: &[i32],
+    starts: &mut [u32],
+    corners: &mut [i32],
+) -> PairCounts
+    requires accepted { ⌜ Accepted (callOf operation (now «left_starts») (now «left_corners») (now «right_starts») (now «right_corners»)) ⌝ }
+    requires places { ⌜ FitsIn smallPlaces (now «left_starts») (now «left_corners») × FitsIn smallPlaces (now «right_starts») (now «right_corners») ⌝ }
+    ensures { λ r. ⌜ Answers (callOf operation (now («left_starts» .entry)) (now («left_corners» .entry)) (now («right_starts» .entry)) (now («right_corners» .entry))) (now (starts .entry)) (now (corners .entry)) r (now (starts .exit)) (now (corners .exit)) ⌝ }
+{
+    let mut points = [[0i32; 2]; 2 * SMALL];
+    let mut firsts = [0u32; 2 * SMALL];
+    let mut numbers = [0u64; 2 * SMALL];
+    minkowski_keyed::pairs_keyed(
+        operation,
+        left_starts,
+        left_corners,
+        right_starts,
+        right_corners,
+        &mut points,
+        &mut firsts,
+        &mut numbers,
+        starts,
+        corners,
+    )
+}
+
+// By numbers, in local buffers for two medium operands.
+fn keyed_medium(
+    operation: Operation,
+    left_starts: &[u32],
+    left_corners: &[i32],
+    right_starts: &[u32],
+    right_corners: &[i32],
+    starts: &mut [u32],
+    corners: &mut [i32],
+) -> PairCounts
+    requires accepted { ⌜ Accepted (callOf operation (now «left_starts») (now «left_corners») (now «right_starts») (now «right_corners»)) ⌝ }
+    requires places { ⌜ FitsIn mediumPlaces (now «left_starts») (now «left_corners») × FitsIn mediumPlaces (now «right_starts») (now «right_corners») ⌝ }
+    ensures { λ r. ⌜ Answers (callOf operation (now («left_starts» .entry)) (now («left_corners» .entry)) (now («right_starts» .entry)) (now («right_corners» .entry))) (now (starts .entry)) (now (corners .entry)) r (now (starts .exit)) (now (corners .exit)) ⌝ }
+{
+    let mut points = [[0i32; 2]; 2 * MEDIUM];
+    let mut firsts = [0u32; 2 * MEDIUM];
+    let mut numbers = [0u64; 2 * MEDIUM];
+    minkowski_keyed::pairs_keyed(
+        operation,
+        left_starts,
+        left_corners,
+        right_starts,
+        right_corners,
+        &mut points,
+        &mut firsts,
+        &mut numbers,
+        starts,
+        corners,
+    )
+}
+
+// By numbers, in local buffers that hold the points of any two operands.
+fn keyed_large(
+    operation: Operation,
+    left_starts: &[u32],
+    left_corners: &[i32],
+    right_starts: &[u32],
+    right_corners: &[i32],
+    starts: &mut [u32],
+    corners: &mut [i32],
+) -> PairCounts
+    requires accepted { ⌜ Accepted (callOf operation (now «left_starts») (now «left_corners») (now «right_starts») (now «right_corners»)) ⌝ }
+    ensures { λ r. ⌜ Answers (callOf operation (now («left_starts» .entry)) (now («left_corners» .entry)) (now («right_starts» .entry)) (now («right_corners» .entry))) (now (starts .entry)) (now (corners .entry)) r (now (starts .exit)) (now (corners .exit)) ⌝ }
+{
+    let mut points = [[0i32; 2]; 2 * POINTS];
+    let mut firsts = [0u32; 2 * FIRSTS];
+    let mut numbers = [0u64; 2 * POINTS];
+    minkowski_keyed::pairs_keyed(
+        operation,
+        left_starts,
+        left_corners,
+        right_starts,
+        right_corners,
+        &mut points,
+        &mut firsts,
+        &mut numbers,
+        starts,
+        corners,
+    )
+}
+
+// All pairs of two tiny operands. Each size has a function of its own that both calls ask, so that no frame has larger buffers than its size: a large one takes longer to
+// set up than a pair of triangles to merge.
 fn tiny_pairs(
-    reflected: bool,
+    operation: Operation,
     left_starts: &[u32],
     left_corners: &[i32],
-    left_bounds: IntRect,
     right_starts: &[u32],
     right_corners: &[i32],
-    right_bounds: IntRect,
     starts: &mut [u32],
     corners: &mut [i32],
 ) -> PairCounts
-    requires { ⌜ (length (now «left_starts») + length (now «left_corners») / 2 ≤ tinyPlaces) × (length (now «right_starts») + length (now «right_corners») / 2 ≤ tinyPlaces) ⌝ }
-    ensures { λ r. ⌜ Answers reflected (operand (now («left_starts» .entry)) (now («left_corners» .entry)) «left_bounds») (operand (now («right_starts» .entry)) (now («right_corners» .entry)) «right_bounds») (now (starts .entry)) (now (corners .entry)) r (now (starts .exit)) (now (corners .exit)) ⌝ }
+    requires { ⌜ FitsIn tinyPlaces (now «left_starts») (now «left_corners») × FitsIn tinyPlaces (now «right_starts») (now «right_corners») ⌝ }
+    ensures { λ r. ⌜ Answers (callOf operation (now («left_starts» .entry)) (now («left_corners» .entry)) (now («right_starts» .entry)) (now («right_corners» .entry))) (now (starts .entry)) (now (corners .entry)) r (now (starts .exit)) (now (corners .exit)) ⌝ }
 {
     let fault = minkowski_faults::operands_fault(
         left_starts,
         left_corners,
-        left_bounds,
+        operation.left,
         right_starts,
         right_corners,
-        right_bounds,
+        operation.right,
     );
     if fault != 0 {
         return minkowski_answer::refusal(fault);
     }
-    let mut left_points = [[0i32; 2]; TINY];
-    let mut left_firsts = [0u32; TINY];
-    let mut right_points = [[0i32; 2]; TINY];
-    let mut right_firsts = [0u32; TINY];
+    let mut points = [[0i32; 2]; 2 * TINY];
+    let mut firsts = [0u32; 2 * TINY];
     minkowski_work::pairs_over(
-        reflected,
+        operation,
         left_starts,
         left_corners,
-        left_bounds,
         right_starts,
         right_corners,
-        right_bounds,
-        &mut left_points,
-        &mut left_firsts,
-        &mut right_points,
-        &mut right_firsts,
+        &mut points,
+        &mut firsts,
         starts,
         corners,
     )
 }
 
-// All pairs of two operands, the right one turned through the origin where `reflected`.
-fn all_pairs(
-    reflected: bool,
+// Whether so few pairs are asked for that numbers, two divisions an edge, would not pay: together they have less than four times the operands' corners.
+fn few_pairs(
     left_starts: &[u32],
     left_corners: &[i32],
-    left_bounds: IntRect,
     right_starts: &[u32],
     right_corners: &[i32],
-    right_bounds: IntRect,
+) -> bool
+    requires { ⌜ FewAsked (now «left_starts») (now «left_corners») (now «right_starts») (now «right_corners») ⌝ }
+    ensures { λ r. ⌜ r ≡ fewPairs (now («left_starts» .entry)) (now («left_corners» .entry)) (now («right_starts» .entry)) (now («right_corners» .entry)) ⌝ }
+{
+    let a = left_corners.len() / 2;
+    let b = right_corners.len() / 2;
+    right_starts.len() * a + left_starts.len() * b < 4 * (a + b)
+}
+
+// All pairs of two small operands.
+fn small_pairs(
+    operation: Operation,
+    left_starts: &[u32],
+    left_corners: &[i32],
+    right_starts: &[u32],
+    right_corners: &[i32],
     starts: &mut [u32],
     corners: &mut [i32],
 ) -> PairCounts
-    ensures { λ r. ⌜ Answers reflected (operand (now («left_starts» .entry)) (now («left_corners» .entry)) «left_bounds») (operand (now («right_starts» .entry)) (now («right_corners» .entry)) «right_bounds») (now (starts .entry)) (now (corners .entry)) r (now (starts .exit)) (now (corners .exit)) ⌝ }
+    requires { ⌜ FitsIn smallPlaces (now «left_starts») (now «left_corners») × FitsIn smallPlaces (now «right_starts») (now «right_corners») ⌝ }
+    ensures { λ r. ⌜ Answers (callOf operation (now («left_starts» .entry)) (now («left_corners» .entry)) (now («right_starts» .entry)) (now («right_corners» .entry))) (now (starts .entry)) (now (corners .entry)) r (now (starts .exit)) (now (corners .exit)) ⌝ }
 {
     let fault = minkowski_faults::operands_fault(
         left_starts,
         left_corners,
-        left_bounds,
+        operation.left,
         right_starts,
         right_corners,
-        right_bounds,
+        operation.right,
     );
     if fault != 0 {
         return minkowski_answer::refusal(fault);
     }
-    if fits(left_starts, left_corners, SMALL) {
-        if fits(right_starts, right_corners, SMALL) {
-            return pairs_small(
-                reflected,
-                left_starts,
-                left_corners,
-                left_bounds,
-                right_starts,
-                right_corners,
-                right_bounds,
-                starts,
-                corners,
-            );
-        }
+    if few_pairs(left_starts, left_corners, right_starts, right_corners) {
+        return pairs_small(
+            operation,
+            left_starts,
+            left_corners,
+            right_starts,
+            right_corners,
+            starts,
+            corners,
+        );
     }
-    pairs_large(
-        reflected,
+    keyed_small(
+        operation,
         left_starts,
         left_corners,
-        left_bounds,
         right_starts,
         right_corners,
-        right_bounds,
+        starts,
+        corners,
+    )
+}
+
+// All pairs of any two operands.
+fn large_pairs(
+    operation: Operation,
+    left_starts: &[u32],
+    left_corners: &[i32],
+    right_starts: &[u32],
+    right_corners: &[i32],
+    starts: &mut [u32],
+    corners: &mut [i32],
+) -> PairCounts
+    ensures { λ r. ⌜ Answers (callOf operation (now («left_starts» .entry)) (now («left_corners» .entry)) (now («right_starts» .entry)) (now («right_corners» .entry))) (now (starts .entry)) (now (corners .entry)) r (now (starts .exit)) (now (corners .exit)) ⌝ }
+{
+    let fault = minkowski_faults::operands_fault(
+        left_starts,
+        left_corners,
+        operation.left,
+        right_starts,
+        right_corners,
+        operation.right,
+    );
+    if fault != 0 {
+        return minkowski_answer::refusal(fault);
+    }
+    if few_pairs(left_starts, left_corners, right_starts, right_corners) {
+        return pairs_large(
+            operation,
+            left_starts,
+            left_corners,
+            right_starts,
+            right_corners,
+            starts,
+            corners,
+        );
+    }
+    if both_fit(
+        left_starts,
+        left_corners,
+        right_starts,
+        right_corners,
+        MEDIUM,
+    ) {
+        return keyed_medium(
+            operation,
+            left_starts,
+            left_corners,
+            right_starts,
+            right_corners,
+            starts,
+            corners,
+        );
+    }
+    keyed_large(
+        operation,
+        left_starts,
+        left_corners,
+        right_starts,
+        right_corners,
         starts,
         corners,
     )
@@ -216,29 +377,45 @@ pub fn sum_parts(
     ensures starts { λ r. ⌜ now (starts .exit) ≡ pairsStarts false (operand (now («left_starts» .entry)) (now («left_corners» .entry)) «left_bounds») (operand (now («right_starts» .entry)) (now («right_corners» .entry)) «right_bounds») (now (starts .entry)) (now (corners .entry)) ⌝ }
     ensures corners { λ r. ⌜ now (corners .exit) ≡ pairsCorners false (operand (now («left_starts» .entry)) (now («left_corners» .entry)) «left_bounds») (operand (now («right_starts» .entry)) (now («right_corners» .entry)) «right_bounds») (now (starts .entry)) (now (corners .entry)) ⌝ }
 {
-    if fits(left_starts, left_corners, TINY) {
-        if fits(right_starts, right_corners, TINY) {
-            return tiny_pairs(
-                false,
-                left_starts,
-                left_corners,
-                left_bounds,
-                right_starts,
-                right_corners,
-                right_bounds,
-                starts,
-                corners,
-            );
-        }
+    let operation = Operation {
+        reflected: false,
+        left: left_bounds,
+        right: right_bounds,
+    };
+    if both_fit(left_starts, left_corners, right_starts, right_corners, TINY) {
+        return tiny_pairs(
+            operation,
+            left_starts,
+            left_corners,
+            right_starts,
+            right_corners,
+            starts,
+            corners,
+        );
     }
-    all_pairs(
-        false,
+    if both_fit(
         left_starts,
         left_corners,
-        left_bounds,
         right_starts,
         right_corners,
-        right_bounds,
+        SMALL,
+    ) {
+        return small_pairs(
+            operation,
+            left_starts,
+            left_corners,
+            right_starts,
+            right_corners,
+            starts,
+            corners,
+        );
+    }
+    large_pairs(
+        operation,
+        left_starts,
+        left_corners,
+        right_starts,
+        right_corners,
         starts,
         corners,
     )
@@ -259,29 +436,45 @@ pub fn difference_parts(
     ensures starts { λ r. ⌜ now (starts .exit) ≡ pairsStarts true (operand (now («left_starts» .entry)) (now («left_corners» .entry)) «left_bounds») (operand (now («right_starts» .entry)) (now («right_corners» .entry)) «right_bounds») (now (starts .entry)) (now (corners .entry)) ⌝ }
     ensures corners { λ r. ⌜ now (corners .exit) ≡ pairsCorners true (operand (now («left_starts» .entry)) (now («left_corners» .entry)) «left_bounds») (operand (now («right_starts» .entry)) (now («right_corners» .entry)) «right_bounds») (now (starts .entry)) (now (corners .entry)) ⌝ }
 {
-    if fits(left_starts, left_corners, TINY) {
-        if fits(right_starts, right_corners, TINY) {
-            return tiny_pairs(
-                true,
-                left_starts,
-                left_corners,
-                left_bounds,
-                right_starts,
-                right_corners,
-                right_bounds,
-                starts,
-                corners,
-            );
-        }
+    let operation = Operation {
+        reflected: true,
+        left: left_bounds,
+        right: right_bounds,
+    };
+    if both_fit(left_starts, left_corners, right_starts, right_corners, TINY) {
+        return tiny_pairs(
+            operation,
+            left_starts,
+            left_corners,
+            right_starts,
+            right_corners,
+            starts,
+            corners,
+        );
     }
-    all_pairs(
-        true,
+    if both_fit(
         left_starts,
         left_corners,
-        left_bounds,
         right_starts,
         right_corners,
-        right_bounds,
+        SMALL,
+    ) {
+        return small_pairs(
+            operation,
+            left_starts,
+            left_corners,
+            right_starts,
+            right_corners,
+            starts,
+            corners,
+        );
+    }
+    large_pairs(
+        operation,
+        left_starts,
+        left_corners,
+        right_starts,
+        right_corners,
         starts,
         corners,
     )

@@ -1,3 +1,2 @@
--- What putting all pairs leans on, and what it gives of unrolled parts.
+-- What putting all pairs leans on.
 pub mod Pairs
-pub mod Unrolled

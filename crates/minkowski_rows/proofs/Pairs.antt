@@ -1,34 +1,25 @@
 -- Contours put one after another: one (`pairs-one`), none, some and then more (`pairs-none`, `pairs-then`), room for the next (`room-next`), all from the first on
--- (`all-put`); walks read from their buffers (`walk-placed`, `walk-ready`); rows and all pairs in pieces; that they are the pairs' contours (`merged-pairs`).
--- Assumes nothing.
-use mathlib.Core.Path.{_≡_, refl, sym, _∙_, ap, ap₂, subst}
-use mathlib.Core.Bool.{Bool, true, false}
-use mathlib.Core.List.{List, [], _∷_, _++_, map, map-append, flatten, append-assoc, append-nil}
-use Prim.Native.Nat.{ℕ, zero, suc, _+_, _-_, _≤_, _<_, _^_}
+-- (`all-put`); a turn of a row and of all rows (`row-room`, `row-more`, `all-room`, `all-more`), and their ends (`row-done`, `all-done`). Assumes nothing.
+use mathlib.Core.Path.{_≡_, refl, sym, _∙_, ap, subst}
+use mathlib.Core.List.{List, [], _∷_, _++_, flatten, append-assoc, append-nil}
+use Prim.Native.Nat.{ℕ, suc, _+_, _≤_, _<_, _^_}
 use native.Mathlib.Numerals.{add-one}
 use native.Mathlib.Omega.{arith}
-use lib.ListN.{length, getD, set, take, drop, length-append, length-drop, length-set, take-append-drop}
-use lib.Seq.{take-suc, take-all, drop-cons}
+use lib.ListN.{length, getD, set, take, drop, length-append, length-drop, length-set}
+use lib.Seq.{take-all}
 use lib.IntN.{ℤ}
-use Rattle.integers.specs.Lists.{All, overlay}
-use Rattle.integers.proofs.Elements.{all-getD}
+use Rattle.integers.specs.Lists.{overlay}
 use Rattle.integers.proofs.Overlay.{overlay-eq, overlay-nil, overlay-turn}
-use Rattle.integers.proofs.Sums.{flatten-append, length-flatten-append}
-use Rattle.plane.specs.Plane.{Pt, O, inRange, onGrid}
-use Rattle.table.specs.Table.{startsFrom, startsOf, numbersOf, cornersOf, partsOf}
-use Rattle.table.proofs.Parts.{length-starts, parts-starts}
-use Rattle.pair.specs.Pair.{pairContour}
-use Rattle.convex_ring.specs.Buffers.{cornerOf}
-use Rattle.convex_contour.specs.Contour.{firstPoints}
-use Rattle.convex_gather.specs.Gather.{Gathered}
+use Rattle.integers.proofs.Sums.{length-flatten-append}
+use Rattle.plane.specs.Plane.{Pt}
+use Rattle.table.specs.Table.{startsFrom, startsOf, numbersOf, cornersOf}
+use Rattle.table.proofs.Parts.{length-starts}
 use Rattle.convex_gather.proofs.Gathering.{flatten-more, starts-more}
-use Rattle.convex_gather.proofs.Reading.{PartPlaced, enough-starts, part-placed}
-use Rattle.pair_points.specs.Points.{unrolled, mergedOf, Turning}
-use Rattle.pair_points.proofs.Merged.{pair-merged}
-use Rattle.pair_merge.specs.Putting.{pointsIn, Mergeable, RoomAfter, Put}
-use Rattle.pair_merge.proofs.Merging.{point-in}
-use Rattle.minkowski.specs.Pairs.{pairsOf}
-use Rattle.minkowski_rows.specs.Rows.{walksIn, Walks, mergedRow, mergedAll, PairsRoom, PairsPut, AllPut}
+use Rattle.pair_points.specs.Points.{mergedOf}
+use Rattle.pair_merge.specs.Putting.{RoomAfter, Put}
+use Rattle.pair_walks.specs.Walks.{mergedRow, mergedAll}
+use Rattle.pair_walks.proofs.Operands.{row-suc, row-whole, all-suc, all-whole}
+use Rattle.minkowski_rows.specs.Rows.{PairsRoom, PairsPut, AllPut}
 
 -- ---- one contour
 
@@ -108,71 +99,6 @@ all-put ps s c h e a =
     let w = a .written [] s c refl refl (e ∙ overlay-turn [] s 0 0 (sym (overlay-nil s)) refl h) (sym (overlay-nil c)) in
     record { starts = w .0; corners = w .1; count = a .corners ∙ omega arith }
 
--- ---- walks in buffers
-
--- those gathered are those read
-pub walks-in : (firsts : List ℕ) (points : List (List ℤ)) (ps : List (List Pt)) → Gathered firsts points (record { parts = length ps; corners = length (flatten ps) }) ps → getD firsts (length ps) 0 ≡ length (flatten ps) → walksIn firsts points (length ps) ≡ ps
-walks-in firsts points ps g e = ap₂ partsOf (g .begins) (ap (λ n. firstPoints n points) e ∙ g .gathered) ∙ parts-starts ps
-
-module _ (firsts : List ℕ) (points : List (List ℤ)) (n q : ℕ) (w : Walks firsts points n) (h : q < n) where
-  abbrev ws : List (List Pt)
-  ws = walksIn firsts points n
-
-  pub walk-inside : q < length (walksIn firsts points n)
-  walk-inside = omega (arith, h, w .gathered .parts)
-
-  pub firsts-enough : q + 1 < length firsts
-  firsts-enough = omega (arith, h, enough-starts firsts points (record { parts = n; corners = getD firsts n 0 }) ws (w .gathered))
-
-  pub walk-placed : PartPlaced firsts points q (getD (walksIn firsts points n) q [])
-  walk-placed = part-placed firsts points (record { parts = n; corners = getD firsts n 0 }) ws (w .gathered) q walk-inside
-
-  -- its points can be merged
-  pub walk-ready : Mergeable (take (getD firsts (q + 1) 0 - getD firsts q 0) (drop (getD firsts q 0) points))
-  walk-ready = ready _ (walk-placed .corners) (all-getD (All (λ p. onGrid p ≡ true)) ws [] (w .grid) q walk-inside) (all-getD Turning ws [] (w .turning) q walk-inside)
-    where
-      ready : (l : List (List ℤ)) {p : List Pt} → map cornerOf l ≡ p → All (λ c. onGrid c ≡ true) p → Turning p → Mergeable l
-      ready l e g t = record { grid = record { at = λ i. subst (λ c. onGrid c ≡ true) (point-in l i) (on (map cornerOf l) i (subst (All (λ c. onGrid c ≡ true)) (sym e) g)) }; turning = subst Turning (sym e) t }
-        where
-          on : (l : List Pt) (i : ℕ) → All (λ c. onGrid c ≡ true) l → onGrid (getD l i O) ≡ true
-          on [] i g = unfold onGrid inRange in refl
-          on (p ∷ l) zero g = g .0
-          on (p ∷ l) (suc i) g = on l i (g .1)
-
--- ---- rows and all pairs in pieces
-
-module _ (a : List Pt) (rs : List (List Pt)) (q : ℕ) (h : q < length rs) where
-  pub row-suc : mergedRow a (take (q + 1) rs) ≡ mergedRow a (take q rs) ++ (mergedOf a (getD rs q []) ∷ [])
-  row-suc = ap (λ n. mergedRow a (take n rs)) (add-one q) ∙ ap (mergedRow a) (take-suc rs q [] h) ∙ map-append (mergedOf a) (take q rs) (getD rs q [] ∷ [])
-
-  pub row-whole : mergedRow a rs ≡ mergedRow a (take q rs) ++ ((mergedOf a (getD rs q []) ∷ []) ++ mergedRow a (drop (suc q) rs))
-  row-whole = ap (mergedRow a) (sym (take-append-drop q rs)) ∙ map-append (mergedOf a) (take q rs) (drop q rs) ∙ ap (λ l. mergedRow a (take q rs) ++ mergedRow a l) (drop-cons rs q [] h)
-
-module _ (ls rs : List (List Pt)) (p : ℕ) (h : p < length ls) where
-  all-append : (x y : List (List Pt)) → mergedAll (x ++ y) rs ≡ mergedAll x rs ++ mergedAll y rs
-  all-append x y = ap flatten (map-append (λ a. mergedRow a rs) x y) ∙ flatten-append (map (λ a. mergedRow a rs) x) (map (λ a. mergedRow a rs) y)
-
-  pub all-suc : mergedAll (take (p + 1) ls) rs ≡ mergedAll (take p ls) rs ++ mergedRow (getD ls p []) rs
-  unfolding flatten
-  all-suc =
-      ap (λ n. mergedAll (take n ls) rs) (add-one p) ∙ ap (λ l. mergedAll l rs) (take-suc ls p [] h) ∙ all-append (take p ls) (getD ls p [] ∷ [])
-      ∙ ap (λ l. mergedAll (take p ls) rs ++ l) (append-nil (mergedRow (getD ls p []) rs))
-
-  pub all-whole : mergedAll ls rs ≡ mergedAll (take p ls) rs ++ (mergedRow (getD ls p []) rs ++ mergedAll (drop (suc p) ls) rs)
-  unfolding flatten
-  all-whole = ap (λ l. mergedAll l rs) (sym (take-append-drop p ls)) ∙ all-append (take p ls) (drop p ls) ∙ ap (λ l. mergedAll (take p ls) rs ++ mergedAll l rs) (drop-cons ls p [] h)
-
--- ---- of unrolled parts they are the pairs' contours
-
-pub merged-pairs : (reflected : Bool) (As Bs : List (List Pt)) → mergedAll (map (unrolled false) As) (map (unrolled reflected) Bs) ≡ pairsOf reflected As Bs
-unfolding pairsOf flatten
-merged-pairs reflected [] Bs = refl
-merged-pairs reflected (A ∷ As) Bs = ap₂ _++_ (row Bs) (merged-pairs reflected As Bs)
-  where
-    row : (Bs : List (List Pt)) → mergedRow (unrolled false A) (map (unrolled reflected) Bs) ≡ map (pairContour reflected A) Bs
-    row [] = refl
-    row (B ∷ Bs) = ap₂ _∷_ (sym (pair-merged reflected A B)) (row Bs)
-
 -- ---- a turn of a row, and of all rows
 
 -- room for one contour is room for its corners, and its end has a number of 32 bits
@@ -186,21 +112,26 @@ module _ {p : List Pt} {s : List ℕ} {n : ℕ} {o : List ℤ} {k : ℕ} (r : Pa
   pub one-small : {o′ : List ℤ} {k′ : ℕ} → Put p o k o′ k′ → k′ < 2 ^ 32
   one-small a = omega (arith, r .small, a .count, length-one)
 
+-- b is right walk q, and a left walk p
 module _ {s s′ : List ℕ} {n n′ : ℕ} {o o′ : List ℤ} {k k′ : ℕ} where
-  pub row-room : (a : List Pt) (rs : List (List Pt)) (q : ℕ) → q < length rs → PairsRoom (mergedRow a rs) s n o k → PairsPut (mergedRow a (take q rs)) s n o k s′ n′ o′ k′ → PairsRoom (mergedOf a (getD rs q []) ∷ []) s′ n′ o′ k′
-  row-room a rs q h r p = room-next (mergedRow a (take q rs)) (mergedOf a (getD rs q []) ∷ []) (mergedRow a (drop (suc q) rs)) (subst (λ l. PairsRoom l s n o k) (row-whole a rs q h) r) p
+  pub row-room : (a : List Pt) (rs : List (List Pt)) (q : ℕ) {b : List Pt} → q < length rs → getD rs q [] ≡ b → PairsRoom (mergedRow a rs) s n o k → PairsPut (mergedRow a (take q rs)) s n o k s′ n′ o′ k′ → PairsRoom (mergedOf a b ∷ []) s′ n′ o′ k′
+  row-room a rs q h e r p =
+      subst (λ l. PairsRoom (mergedOf a l ∷ []) s′ n′ o′ k′) e
+      (room-next (mergedRow a (take q rs)) (mergedOf a (getD rs q []) ∷ []) (mergedRow a (drop (suc q) rs)) (subst (λ l. PairsRoom l s n o k) (row-whole a rs q h) r) p)
 
-  pub row-more : (a : List Pt) (rs : List (List Pt)) (q : ℕ) {s″ : List ℕ} {m m′ : ℕ} {o″ : List ℤ} {k″ : ℕ} → q < length rs → PairsPut (mergedRow a (take q rs)) s n o k s′ n′ o′ k′ → PairsPut (mergedOf a (getD rs q []) ∷ []) s′ n′ o′ k′ s″ m o″ k″ → m ≡ m′ → PairsPut (mergedRow a (take (q + 1) rs)) s n o k s″ m′ o″ k″
-  row-more a rs q {s″} {m} {m′} {o″} {k″} h p one e =
+  pub row-more : (a : List Pt) (rs : List (List Pt)) (q : ℕ) {b : List Pt} {s″ : List ℕ} {m m′ : ℕ} {o″ : List ℤ} {k″ : ℕ} → q < length rs → getD rs q [] ≡ b → PairsPut (mergedRow a (take q rs)) s n o k s′ n′ o′ k′ → PairsPut (mergedOf a b ∷ []) s′ n′ o′ k′ s″ m o″ k″ → m ≡ m′ → PairsPut (mergedRow a (take (q + 1) rs)) s n o k s″ m′ o″ k″
+  row-more a rs q {b} {s″} {m} {m′} {o″} {k″} h d p one e =
       subst (λ j. PairsPut (mergedRow a (take (q + 1) rs)) s n o k s″ j o″ k″) e
-      (subst (λ l. PairsPut l s n o k s″ m o″ k″) (sym (row-suc a rs q h)) (pairs-then (mergedRow a (take q rs)) (mergedOf a (getD rs q []) ∷ []) p one))
+      (subst (λ l. PairsPut l s n o k s″ m o″ k″) (sym (row-suc a rs q h ∙ ap (λ l. mergedRow a (take q rs) ++ (mergedOf a l ∷ [])) d)) (pairs-then (mergedRow a (take q rs)) (mergedOf a b ∷ []) p one))
 
-  pub all-room : (ls rs : List (List Pt)) (q : ℕ) → q < length ls → PairsRoom (mergedAll ls rs) s n o k → PairsPut (mergedAll (take q ls) rs) s n o k s′ n′ o′ k′ → PairsRoom (mergedRow (getD ls q []) rs) s′ n′ o′ k′
-  all-room ls rs q h r p = room-next (mergedAll (take q ls) rs) (mergedRow (getD ls q []) rs) (mergedAll (drop (suc q) ls) rs) (subst (λ l. PairsRoom l s n o k) (all-whole ls rs q h) r) p
+  pub all-room : (ls rs : List (List Pt)) (p : ℕ) {a : List Pt} → p < length ls → getD ls p [] ≡ a → PairsRoom (mergedAll ls rs) s n o k → PairsPut (mergedAll (take p ls) rs) s n o k s′ n′ o′ k′ → PairsRoom (mergedRow a rs) s′ n′ o′ k′
+  all-room ls rs p h e r u =
+      subst (λ l. PairsRoom (mergedRow l rs) s′ n′ o′ k′) e
+      (room-next (mergedAll (take p ls) rs) (mergedRow (getD ls p []) rs) (mergedAll (drop (suc p) ls) rs) (subst (λ l. PairsRoom l s n o k) (all-whole ls rs p h) r) u)
 
-  pub all-more : (ls rs : List (List Pt)) (q : ℕ) {s″ : List ℕ} {m : ℕ} {o″ : List ℤ} {k″ : ℕ} → q < length ls → PairsPut (mergedAll (take q ls) rs) s n o k s′ n′ o′ k′ → PairsPut (mergedRow (getD ls q []) rs) s′ n′ o′ k′ s″ m o″ k″ → PairsPut (mergedAll (take (q + 1) ls) rs) s n o k s″ m o″ k″
-  all-more ls rs q {s″} {m} {o″} {k″} h p row =
-      subst (λ l. PairsPut l s n o k s″ m o″ k″) (sym (all-suc ls rs q h)) (pairs-then (mergedAll (take q ls) rs) (mergedRow (getD ls q []) rs) p row)
+  pub all-more : (ls rs : List (List Pt)) (p : ℕ) {a : List Pt} {s″ : List ℕ} {m : ℕ} {o″ : List ℤ} {k″ : ℕ} → p < length ls → getD ls p [] ≡ a → PairsPut (mergedAll (take p ls) rs) s n o k s′ n′ o′ k′ → PairsPut (mergedRow a rs) s′ n′ o′ k′ s″ m o″ k″ → PairsPut (mergedAll (take (p + 1) ls) rs) s n o k s″ m o″ k″
+  all-more ls rs p {a} {s″} {m} {o″} {k″} h e u row =
+      subst (λ l. PairsPut l s n o k s″ m o″ k″) (sym (all-suc ls rs p h ∙ ap (λ l. mergedAll (take p ls) rs ++ mergedRow l rs) e)) (pairs-then (mergedAll (take p ls) rs) (mergedRow a rs) u row)
 
 -- a row with all its walks
 pub row-done : (a : List Pt) (rs : List (List Pt)) (q : ℕ) {s s′ : List ℕ} {n m : ℕ} {o o′ : List ℤ} {k k′ : ℕ} → q ≡ m → m ≡ length rs → PairsPut (mergedRow a (take q rs)) s n o k s′ (n + q) o′ k′ → PairsPut (mergedRow a rs) s n o k s′ (n + m) o′ k′
@@ -208,12 +139,9 @@ row-done a rs q {s} {s′} {n} {m} {o} {o′} {k} {k′} e f p =
     subst (λ j. PairsPut (mergedRow a rs) s n o k s′ (n + j) o′ k′) e
     (subst (λ l. PairsPut (mergedRow a l) s n o k s′ (n + q) o′ k′) (take-all q rs (omega (arith, e, f))) p)
 
--- of equal walks
-pub at-walk : (a : List (List ℤ)) {w w′ : List Pt} {o o′ : List ℤ} {k k′ : ℕ} → w ≡ w′ → Put (mergedOf (pointsIn a) w) o k o′ k′ → Put (mergedOf (pointsIn a) w′) o k o′ k′
-at-walk a {o = o} {o′} {k} {k′} e p = subst (λ l. Put (mergedOf (pointsIn a) l) o k o′ k′) e p
-
-pub at-row : (rs : List (List Pt)) {a a′ : List Pt} {s s′ : List ℕ} {n n′ : ℕ} {o o′ : List ℤ} {k k′ : ℕ} → a ≡ a′ → PairsPut (mergedRow a rs) s n o k s′ n′ o′ k′ → PairsPut (mergedRow a′ rs) s n o k s′ n′ o′ k′
-at-row rs {s = s} {s′} {n} {n′} {o} {o′} {k} {k′} e p = subst (λ l. PairsPut (mergedRow l rs) s n o k s′ n′ o′ k′) e p
+-- of equal contours
+pub put-equal : {x y : List Pt} {o o′ : List ℤ} {k k′ : ℕ} → x ≡ y → Put x o k o′ k′ → Put y o k o′ k′
+put-equal {o = o} {o′} {k} {k′} e p = subst (λ l. Put l o k o′ k′) e p
 
 -- the room is the same once the first start is put
 pub room-resized : {ps : List (List Pt)} (s : List ℕ) {s₀ : List ℕ} {n : ℕ} {o : List ℤ} {k : ℕ} → s₀ ≡ set s 0 0 → PairsRoom ps s n o k → PairsRoom ps s₀ n o k

@@ -1,40 +1,26 @@
--- Walks gathered in buffers (`Walks`), their merges in order (`mergedRow`, `mergedAll`), and contours put one after another into lent starts and corners
--- (`PairsRoom`, `PairsPut`). Assumes nothing.
+-- Merges of two walks of a buffer, and of one with each right one (`mergedIn`, `rowIn`), and contours put one after another into lent starts and corners
+-- (`PairsRoom`, `PairsPut`, `AllPut`). Assumes nothing.
 use mathlib.Core.Path.{_≡_}
-use mathlib.Core.Bool.{true}
-use mathlib.Core.List.{List, _++_, map, flatten}
+use mathlib.Core.List.{List, _++_, flatten}
 use Prim.Native.Nat.{ℕ, _+_, _<_, _^_}
-use lib.ListN.{length, getD, take}
+use lib.ListN.{length}
 use lib.IntN.{ℤ}
-use Rattle.integers.specs.Lists.{All, overlay}
-use Rattle.plane.specs.Plane.{Pt, onGrid}
-use Rattle.table.specs.Table.{startsOf, cornersOf, partsOf}
-use Rattle.convex_contour.specs.Contour.{firstPoints}
-use Rattle.convex_gather.specs.Gather.{Gathered}
-use Rattle.pair_points.specs.Points.{mergedOf, Turning}
+use Rattle.integers.specs.Lists.{overlay}
+use Rattle.plane.specs.Plane.{Pt}
+use Rattle.table.specs.Table.{startsOf, cornersOf}
+use Rattle.pair_points.specs.Points.{mergedOf}
 use Rattle.pair_merge.specs.Putting.{RoomAfter}
+use Rattle.pair_walks.specs.Walks.{rightsIn, mergedRow, walkIn}
 
--- ---- walks in buffers
+-- ---- merges
 
--- the first n walks: the points from each first place to the next
-abbrev pub walksIn : List ℕ → List (List ℤ) → ℕ → List (List Pt)
-walksIn firsts points n = partsOf (take (n + 1) firsts) (firstPoints (getD firsts n 0) points)
+-- of walks m and n of `count`
+abbrev pub mergedIn : List ℕ → List (List ℤ) → ℕ → ℕ → ℕ → List Pt
+mergedIn firsts points count m n = mergedOf (walkIn firsts points count m) (walkIn firsts points count n)
 
--- they are gathered there, their points are on the grid, and each turns at every point
-pub record Walks (firsts : List ℕ) (points : List (List ℤ)) (n : ℕ) : Type 0 where
-  pub gathered : Gathered firsts points (record { parts = n; corners = getD firsts n 0 }) (walksIn firsts points n)
-  pub grid : All (All (λ p. onGrid p ≡ true)) (walksIn firsts points n)
-  pub turning : All Turning (walksIn firsts points n)
-
--- ---- merges in order
-
--- of one walk with each of some
-abbrev pub mergedRow : List Pt → List (List Pt) → List (List Pt)
-mergedRow a rs = map (mergedOf a) rs
-
--- "one contour for each left part and, within it, each right part in order"
-abbrev pub mergedAll : List (List Pt) → List (List Pt) → List (List Pt)
-mergedAll ls rs = flatten (map (λ a. mergedRow a rs) ls)
+-- of left walk p and each right one
+abbrev pub rowIn : List ℕ → List (List ℤ) → ℕ → ℕ → ℕ → List (List Pt)
+rowIn firsts points left right p = mergedRow (walkIn firsts points (left + right) p) (rightsIn firsts points left right)
 
 -- ---- contours put into lent starts and corners
 

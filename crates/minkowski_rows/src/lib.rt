@@ -1,101 +1,96 @@
-// All pairs of unrolled walks (int/minkowski.rs, `sum_parts`): `append_all` merges each left walk with each right one in order and puts the contours on the front
-// of lent starts and corners. Walks are gathered in buffers: walk p is the points from firsts[p] to firsts[p + 1]. By the law `merged-pairs` these are the
-// pairs' contours. Leans on pair_merge and convex_gather.
+// All pairs of two operands' walks in one buffer (int/minkowski.rs, `sum_parts`; pair_walks has where walks lie): `append_all` merges each left walk with each right
+// one in order and puts the contours on the front of lent starts and corners; `merge_walks` merges any two of them. By the law `merged-pairs` of pair_walks these are
+// the pairs' contours. Leans on pair_merge, convex_gather and pair_walks' definitions.
 ghost use mathlib.Core.Path.{_≡_};
 ghost use mathlib.Core.List.{_∷_, []};
 ghost use Prim.Native.Nat.{_+_, _<_};
-ghost use lib.ListN.{getD};
-ghost use Rattle.pair_points.specs.Points.{mergedOf};
-ghost use Rattle.pair_merge.specs.Putting.{pointsIn, Mergeable};
-ghost use Rattle.minkowski_rows.specs.Rows.{walksIn, Walks, mergedRow, mergedAll, PairsRoom, PairsPut, AllPut};
+ghost use Rattle.pair_merge.specs.Putting.{RoomAfter, Put};
+ghost use Rattle.pair_walks.specs.Walks.{Walks, contoursIn};
+ghost use Rattle.minkowski_rows.specs.Rows.{mergedIn, rowIn, PairsRoom, PairsPut, AllPut};
 
-// The contour of the walk a and right walk q is put as contour n.
-fn append_one(
-    a: &[[i32; 2]],
+// The contour of walks m and n of `count` is put after the first `at` corners; answers how many stand there then.
+pub fn merge_walks(
     firsts: &[u32],
     points: &[[i32; 2]],
     count: usize,
+    m: usize,
+    n: usize,
+    out: &mut [i32],
+    at: usize,
+) -> usize
+    requires { ⌜ Walks (now firsts) (now points) count × (m < count) × (n < count) × RoomAfter (mergedIn (now firsts) (now points) count m n) (now out) at ⌝ }
+    ensures { λ r. ⌜ Put (mergedIn (now (firsts .entry)) (now (points .entry)) count m n) (now (out .entry)) at (now (out .exit)) r ⌝ }
+{
+    let from = firsts[m] as usize;
+    let to = firsts[m + 1] as usize;
+    let begin = firsts[n] as usize;
+    let end = firsts[n + 1] as usize;
+    pair_merge::append_pair(&points[from..to], &points[begin..end], out, at)
+}
+
+// The contour of walks p and q of `count` is put as contour n.
+fn append_one(
+    firsts: &[u32],
+    points: &[[i32; 2]],
+    count: usize,
+    p: usize,
     q: usize,
     starts: &mut [u32],
     n: usize,
     out: &mut [i32],
     at: usize,
 ) -> usize
-    requires { ⌜ Mergeable (now a) × Walks (now firsts) (now points) count × (q < count) × PairsRoom (mergedOf (pointsIn (now a)) (getD (walksIn (now firsts) (now points) count) q []) ∷ []) (now starts) n (now out) at ⌝ }
-    ensures { λ r. ⌜ PairsPut (mergedOf (pointsIn (now (a .entry))) (getD (walksIn (now (firsts .entry)) (now (points .entry)) count) q []) ∷ []) (now (starts .entry)) n (now (out .entry)) at (now (starts .exit)) (n + 1) (now (out .exit)) r ⌝ }
+    requires { ⌜ Walks (now firsts) (now points) count × (p < count) × (q < count) × PairsRoom (mergedIn (now firsts) (now points) count p q ∷ []) (now starts) n (now out) at ⌝ }
+    ensures { λ r. ⌜ PairsPut (mergedIn (now (firsts .entry)) (now (points .entry)) count p q ∷ []) (now (starts .entry)) n (now (out .entry)) at (now (starts .exit)) (n + 1) (now (out .exit)) r ⌝ }
 {
-    let from = firsts[q] as usize;
-    let to = firsts[q + 1] as usize;
-    let k = pair_merge::append_pair(a, &points[from..to], out, at);
+    let k = merge_walks(firsts, points, count, p, q, out, at);
     convex_gather::put_start(starts, n + 1, k);
     k
 }
 
-// The contours of the walk a and each right walk are put from contour n on.
+// The contours of left walk p and each right walk are put from contour n on.
 fn append_row(
-    a: &[[i32; 2]],
     firsts: &[u32],
     points: &[[i32; 2]],
-    count: usize,
+    left: usize,
+    right: usize,
+    p: usize,
     starts: &mut [u32],
     n: usize,
     out: &mut [i32],
     at: usize,
 ) -> usize
-    requires { ⌜ Mergeable (now a) × Walks (now firsts) (now points) count × PairsRoom (mergedRow (pointsIn (now a)) (walksIn (now firsts) (now points) count)) (now starts) n (now out) at ⌝ }
-    ensures { λ r. ⌜ PairsPut (mergedRow (pointsIn (now (a .entry))) (walksIn (now (firsts .entry)) (now (points .entry)) count)) (now (starts .entry)) n (now (out .entry)) at (now (starts .exit)) (n + count) (now (out .exit)) r ⌝ }
+    requires { ⌜ Walks (now firsts) (now points) (left + right) × (p < left) × PairsRoom (rowIn (now firsts) (now points) left right p) (now starts) n (now out) at ⌝ }
+    ensures { λ r. ⌜ PairsPut (rowIn (now (firsts .entry)) (now (points .entry)) left right p) (now (starts .entry)) n (now (out .entry)) at (now (starts .exit)) (n + right) (now (out .exit)) r ⌝ }
 {
+    let count = left + right;
     let mut k = at;
     let mut q: usize = 0;
-    while q < count {
-        k = append_one(a, firsts, points, count, q, starts, n + q, out, k);
+    while q < right {
+        k = append_one(firsts, points, count, p, left + q, starts, n + q, out, k);
         q += 1;
     }
     k
 }
 
-// The contours of left walk p and each right walk are put from contour n on.
-fn append_row_of(
-    lf: &[u32],
-    lp: &[[i32; 2]],
-    left: usize,
-    p: usize,
-    rf: &[u32],
-    rp: &[[i32; 2]],
-    right: usize,
-    starts: &mut [u32],
-    n: usize,
-    out: &mut [i32],
-    at: usize,
-) -> usize
-    requires { ⌜ Walks (now lf) (now lp) left × (p < left) × Walks (now rf) (now rp) right × PairsRoom (mergedRow (getD (walksIn (now lf) (now lp) left) p []) (walksIn (now rf) (now rp) right)) (now starts) n (now out) at ⌝ }
-    ensures { λ r. ⌜ PairsPut (mergedRow (getD (walksIn (now (lf .entry)) (now (lp .entry)) left) p []) (walksIn (now (rf .entry)) (now (rp .entry)) right)) (now (starts .entry)) n (now (out .entry)) at (now (starts .exit)) (n + right) (now (out .exit)) r ⌝ }
-{
-    let from = lf[p] as usize;
-    let to = lf[p + 1] as usize;
-    append_row(&lp[from..to], rf, rp, right, starts, n, out, at)
-}
-
 // The contours of all pairs, each left walk with each right one in order, on the front of the lent starts and corners; answers how many corners they have.
 pub fn append_all(
-    lf: &[u32],
-    lp: &[[i32; 2]],
+    firsts: &[u32],
+    points: &[[i32; 2]],
     left: usize,
-    rf: &[u32],
-    rp: &[[i32; 2]],
     right: usize,
     starts: &mut [u32],
     out: &mut [i32],
 ) -> usize
-    requires { ⌜ Walks (now lf) (now lp) left × Walks (now rf) (now rp) right × PairsRoom (mergedAll (walksIn (now lf) (now lp) left) (walksIn (now rf) (now rp) right)) (now starts) 0 (now out) 0 ⌝ }
-    ensures { λ r. ⌜ AllPut (mergedAll (walksIn (now (lf .entry)) (now (lp .entry)) left) (walksIn (now (rf .entry)) (now (rp .entry)) right)) (now (starts .entry)) (now (out .entry)) (now (starts .exit)) (now (out .exit)) r ⌝ }
+    requires { ⌜ Walks (now firsts) (now points) (left + right) × PairsRoom (contoursIn (now firsts) (now points) left right) (now starts) 0 (now out) 0 ⌝ }
+    ensures { λ r. ⌜ AllPut (contoursIn (now (firsts .entry)) (now (points .entry)) left right) (now (starts .entry)) (now (out .entry)) (now (starts .exit)) (now (out .exit)) r ⌝ }
 {
     convex_gather::put_start(starts, 0, 0);
     let mut k: usize = 0;
     let mut n: usize = 0;
     let mut p: usize = 0;
     while p < left {
-        k = append_row_of(lf, lp, left, p, rf, rp, right, starts, n, out, k);
+        k = append_row(firsts, points, left, right, p, starts, n, out, k);
         n += right;
         p += 1;
     }

@@ -1,5 +1,6 @@
--- The pair of two walks in buffers: its corners stand on the front of the work buffer (`merged-front`), their numbers have 32 bits (`pair-words`), they are few
--- (`pair-few`), so that a line has room (`pair-room`); as code has them (`pair-count`, `pair-inside`, `pair-front`); and it is the contour of the parts that were unrolled (`line-of-pair`). Assumes nothing.
+-- The pair of two walks in a buffer: its corners stand on the front of the work buffer (`merged-front`), their numbers have 32 bits (`pair-words`), they are few
+-- (`pair-few`), so that a line has room (`pair-room`); as code has them (`pair-count`, `pair-inside`); and it is the contour of the parts that were unrolled
+-- (`line-of-pair`). Assumes nothing.
 use mathlib.Core.Path.{_≡_, refl, sym, _∙_, ap, ap₂}
 use mathlib.Core.Bool.{Bool, true, false}
 use mathlib.Core.List.{List, [], _∷_, map}
@@ -22,12 +23,11 @@ use Rattle.pair_points.proofs.Merged.{pair-merged, length-merged}
 use Rattle.pair_points.proofs.Sums.{merged-sums}
 use Rattle.pair_merge.specs.Putting.{Put}
 use Rattle.minkowski_faults.proofs.Range.{coordinate-add-fits}
-use Rattle.minkowski_rows.specs.Rows.{walksIn}
-use Rattle.minkowski_rows.proofs.Pairs.{walk-inside}
-use Rattle.minkowski_count.specs.Counting.{Countable}
-use Rattle.minkowski_count.proofs.Counts.{walk-short}
+use Rattle.pair_walks.specs.Walks.{walksIn, walkIn, leftsIn, rightsIn, pairIn}
+use Rattle.pair_walks.proofs.Walks.{walk-inside, walk-short}
+use Rattle.pair_walks.proofs.Operands.{left-walk, right-walk}
 use Rattle.pair_lines.specs.Lines.{pairLine}
-use Rattle.pair_lines.specs.Putting.{pairOf, Puttable}
+use Rattle.pair_lines.specs.Putting.{Puttable}
 use Rattle.pair_lines.proofs.Sizes.{line-size}
 
 -- corners put on the front of a buffer are its first numbers
@@ -42,40 +42,46 @@ merged-front {ps} {o} {o′} {k} p =
 sum-words : (x y : Pt) → Coordinate (x .x) × Coordinate (x .y) → Coordinate (y .x) × Coordinate (y .y) → Word32s (x +ᵖ y)
 sum-words x y a b = record { x-fits = coordinate-add-fits (a .0) (b .0); y-fits = coordinate-add-fits (a .1) (b .1) }
 
-module _ (lf : List ℕ) (lp : List (List ℤ)) (left p : ℕ) (rf : List ℕ) (rp : List (List ℤ)) (right q : ℕ) (work : List ℤ) (out : List ℕ) (h : Puttable lf lp left p rf rp right q work out) where
-  on-left : All (λ x. onGrid x ≡ true) (getD (walksIn lf lp left) p [])
-  on-left = all-getD (All (λ x. onGrid x ≡ true)) (walksIn lf lp left) [] (h .lefts .walks .grid) p (walk-inside lf lp left p (h .lefts .walks) (h .p-inside))
+module _ (firsts : List ℕ) (points : List (List ℤ)) (left right p q : ℕ) (work : List ℤ) (out : List ℕ) (h : Puttable firsts points left right p q work out) where
+  abbrev a : List Pt
+  a = walkIn firsts points (left + right) p
 
-  on-right : All (λ x. onGrid x ≡ true) (getD (walksIn rf rp right) q [])
-  on-right = all-getD (All (λ x. onGrid x ≡ true)) (walksIn rf rp right) [] (h .rights .walks .grid) q (walk-inside rf rp right q (h .rights .walks) (h .q-inside))
+  abbrev b : List Pt
+  b = walkIn firsts points (left + right) (left + q)
 
-  pub pair-words : All Word32s (pairOf lf lp left p rf rp right q)
+  left-inside : p < left + right
+  left-inside = omega (arith, h .p-inside)
+
+  right-inside : left + q < left + right
+  right-inside = omega (arith, h .q-inside)
+
+  on-grid-walk : (n : ℕ) → n < left + right → All (λ x. onGrid x ≡ true) (walkIn firsts points (left + right) n)
+  on-grid-walk n k = all-getD (All (λ x. onGrid x ≡ true)) (walksIn firsts points (left + right)) [] (h .walks .grid) n (walk-inside firsts points (left + right) n (h .walks) k)
+
+  pub pair-words : All Word32s (pairIn firsts points left right p q)
   pair-words =
-      merged-sums Word32s (getD (walksIn lf lp left) p []) (getD (walksIn rf rp right) q [])
-      (all-map (getD (walksIn lf lp left) p []) (λ x g. all-map (getD (walksIn rf rp right) q []) (λ y k. sum-words x y (on-grid-both x g) (on-grid-both y k)) on-right) on-left)
+      merged-sums Word32s a b
+      (all-map a (λ x g. all-map b (λ y k. sum-words x y (on-grid-both x g) (on-grid-both y k)) (on-grid-walk (left + q) right-inside)) (on-grid-walk p left-inside))
 
-  pub pair-few : length (pairOf lf lp left p rf rp right q) ≤ 2 * maxContour
+  pub pair-few : length (pairIn firsts points left right p q) ≤ 2 * maxContour
   pair-few =
       omega (
         arith,
-        length-merged (getD (walksIn lf lp left) p []) (getD (walksIn rf rp right) q []),
-        walk-short lf lp left p (h .lefts) (h .p-inside),
-        walk-short rf rp right q (h .rights) (h .q-inside),
+        length-merged a b,
+        walk-short firsts points (left + right) p (h .walks) left-inside,
+        walk-short firsts points (left + right) (left + q) (h .walks) right-inside,
       )
 
-  pub pair-room : length (pairLine p q (pairOf lf lp left p rf rp right q)) ≤ length out
-  pair-room = omega (arith, line-size p q (pairOf lf lp left p rf rp right q) pair-words pair-few, h .for-line)
+  pub pair-room : length (pairLine p q (pairIn firsts points left right p q)) ≤ length out
+  pair-room = omega (arith, line-size p q (pairIn firsts points left right p q) pair-words pair-few, h .for-line)
 
-  -- merged into a buffer as long as the work buffer, w being the left walk as its slice has it
-  module _ {w : List Pt} (e : w ≡ getD (walksIn lf lp left) p []) {o o′ : List ℤ} {k : ℕ} (m : Put (mergedOf w (getD (walksIn rf rp right) q [])) o 0 o′ k) where
+  -- merged into a buffer as long as the work buffer
+  module _ {o o′ : List ℤ} {k : ℕ} (m : Put (pairIn firsts points left right p q) o 0 o′ k) where
     pub pair-count : k ≤ 2 * maxContour
-    pair-count = omega (arith, m .count, ap (λ l. length (mergedOf l (getD (walksIn rf rp right) q []))) e, pair-few)
+    pair-count = omega (arith, m .count, pair-few)
 
     pub pair-inside : length work ≡ length o → 2 * k ≤ length o′
     pair-inside f = omega (arith, pair-count, m .size, h .for-corners, f)
-
-    pub pair-front : pointsOf (take (2 * k) o′) ≡ pairOf lf lp left p rf rp right q
-    pair-front = merged-front m ∙ ap (λ l. mergedOf l (getD (walksIn rf rp right) q [])) e
 
 unrolled-none : (reflected : Bool) → unrolled reflected [] ≡ []
 unfolding unrolled
@@ -86,9 +92,10 @@ unrolled-at reflected ps k = ap (λ d. getD (map (unrolled reflected) ps) k d) (
 
 -- the line of walks p and q is that of the contour of parts p and q
 pub line-of-pair :
-    (reflected : Bool) (ls rs : List (List Pt)) (lf : List ℕ) (lp : List (List ℤ)) (left p : ℕ) (rf : List ℕ) (rp : List (List ℤ)) (right q : ℕ) →
-    walksIn lf lp left ≡ map (unrolled false) ls → walksIn rf rp right ≡ map (unrolled reflected) rs →
-    pairLine p q (pairOf lf lp left p rf rp right q) ≡ pairLine p q (pairContour reflected (getD ls p []) (getD rs q []))
-line-of-pair reflected ls rs lf lp left p rf rp right q e f =
+    (reflected : Bool) (ls rs : List (List Pt)) (firsts : List ℕ) (points : List (List ℤ)) (left right p q : ℕ) → p < left →
+    leftsIn firsts points left right ≡ map (unrolled false) ls → rightsIn firsts points left right ≡ map (unrolled reflected) rs →
+    pairLine p q (pairIn firsts points left right p q) ≡ pairLine p q (pairContour reflected (getD ls p []) (getD rs q []))
+line-of-pair reflected ls rs firsts points left right p q h e f =
     ap (pairLine p q)
-    (ap₂ mergedOf (ap (λ l. getD l p []) e ∙ unrolled-at false ls p) (ap (λ l. getD l q []) f ∙ unrolled-at reflected rs q) ∙ sym (pair-merged reflected (getD ls p []) (getD rs q [])))
+    (ap₂ mergedOf (sym (left-walk firsts points left right p h) ∙ ap (λ l. getD l p []) e ∙ unrolled-at false ls p) (sym (right-walk firsts points left right q) ∙ ap (λ l. getD l q []) f ∙ unrolled-at reflected rs q)
+    ∙ sym (pair-merged reflected (getD ls p []) (getD rs q [])))

@@ -5,8 +5,9 @@ ghost use Prim.Native.Nat.{_+_, _≤_};
 ghost use lib.ListN.{length};
 ghost use Rattle.table.specs.Table.{pointsOf};
 ghost use Rattle.text.specs.Put.{PutText};
+ghost use Rattle.pair_walks.specs.Walks.{pairIn};
 ghost use Rattle.pair_lines.specs.Lines.{boundsText, pairsHead, pairLine};
-ghost use Rattle.pair_lines.specs.Putting.{pairOf, Puttable};
+ghost use Rattle.pair_lines.specs.Putting.{Puttable};
 use table::IntRect;
 
 // " bounds ", then the bounds.
@@ -46,22 +47,18 @@ fn put_contour(i: u64, j: u64, corners: &[i32], out: &mut [u8]) -> usize
 
 // The line of left walk p and right walk q.
 pub fn put_line(
-    lf: &[u32],
-    lp: &[[i32; 2]],
+    firsts: &[u32],
+    points: &[[i32; 2]],
     left: usize,
-    p: usize,
-    rf: &[u32],
-    rp: &[[i32; 2]],
     right: usize,
+    p: usize,
     q: usize,
     work: &mut [i32],
     out: &mut [u8],
 ) -> usize
-    requires { ⌜ Puttable (now lf) (now lp) left p (now rf) (now rp) right q (now work) (now out) ⌝ }
-    ensures { λ r. ⌜ PutText (pairLine p q (pairOf (now (lf .entry)) (now (lp .entry)) left p (now (rf .entry)) (now (rp .entry)) right q)) 0 (now (out .entry)) (now (out .exit)) r ⌝ }
+    requires { ⌜ Puttable (now firsts) (now points) left right p q (now work) (now out) ⌝ }
+    ensures { λ r. ⌜ PutText (pairLine p q (pairIn (now (firsts .entry)) (now (points .entry)) left right p q)) 0 (now (out .entry)) (now (out .exit)) r ⌝ }
 {
-    let from = lf[p] as usize;
-    let to = lf[p + 1] as usize;
-    let count = minkowski_count::merge_one(&lp[from..to], rf, rp, right, q, work);
+    let count = minkowski_count::merge_one(firsts, points, left, right, p, q, work);
     put_contour(p as u64, q as u64, &work[..2 * count], out)
 }

@@ -1,5 +1,5 @@
 -- All parts of a table unrolled. In order: a part's numbers are a contour of sound length and range (`part-short`, `part-unrollable`); the loop over the
--- parts (`Unrolling`: `unrolling-start`, `unrolling-part`, `unrolling-leaves`, `unrolling-turn`, `unrolling-end`); every point in range (`parts-ranged`). Assumes nothing.
+-- parts (`Unrolling`: `unrolling-start`, `unrolling-leaves`, `unrolling-turn`, `unrolling-end`); how many points (`unrolled-few`); every point in range (`parts-ranged`). Assumes nothing.
 use mathlib.Core.Path.{_≡_, refl, sym, _∙_, ap, subst}
 use mathlib.Core.Bool.{Bool, true, false, cond}
 use mathlib.Core.List.{List, [], _∷_, _++_, map-append, flatten}
@@ -7,28 +7,28 @@ use Prim.Native.Nat.{ℕ, suc, _+_, _-_, _*_, _/_, _%_, _≤_, _<_}
 use native.Mathlib.Numerals.{add-one}
 use native.Mathlib.Omega.{arith}
 use borrow.Author.Tests.{eq-eqb, le-ltb}
-use lib.ListN.{length, getD, set, take, drop, length-append, length-set, drop-of-length-le}
-use lib.Seq.{slice, length-slice, take-suc, take-all, drop-cons, take-suc-set}
+use lib.ListN.{length, getD, set, take, drop, length-append, drop-of-length-le}
+use lib.Seq.{slice, length-slice, take-suc, take-all, drop-cons}
 use lib.IntN.{ℤ}
 use Rattle.integers.specs.Lists.{All}
 use Rattle.integers.proofs.Tests.{differ}
 use Rattle.integers.proofs.Elements.{all-image, getD-all}
 use Rattle.plane.specs.Plane.{Pt}
-use Rattle.table.specs.Table.{startsFrom, startsOf, tableParts, tableBroken, partCount, offRange, maxContour}
+use Rattle.table.specs.Table.{tableParts, tableBroken, partCount, offRange, maxContour}
 use Rattle.table.specs.Shown.{partNumbers}
 use Rattle.table.proofs.Rules.{sound, count-parts}
 use Rattle.table.proofs.Shown.{part-is, part-ranged}
 use Rattle.pair.specs.Walk.{windingLeaves}
 use Rattle.walk.specs.Calls.{lengthBroken}
-use Rattle.convex_gather.specs.Gather.{Gathered}
-use Rattle.convex_gather.proofs.Gathering.{part-appended}
+use Rattle.convex_gather.specs.Gather.{PartsAppended}
+use Rattle.convex_gather.proofs.Gathering.{part-appended, none-appended, then-appended}
 use Rattle.pair_points.specs.Points.{unrolled}
 use Rattle.pair_points.proofs.Merged.{length-unrolled}
 use Rattle.minkowski.specs.Pairs.{someWindingLeaves}
 use Rattle.pair_unroll.specs.declared.Unrolled.{Unrolled}
 use Rattle.pair_unroll.specs.Unroll.{Ranged, Unrollable, UnrolledTo, UnrolledBy}
 use Rattle.pair_unroll.proofs.Contours.{unrolled-ranged}
-use Rattle.pair_unroll_all.specs.Parts.{unrolledParts, tallyOf, PartAt, AllUnrolled}
+use Rattle.pair_unroll_all.specs.Parts.{unrolledParts, tallyAt, PartAt, AllUnrolled}
 
 -- ---- a part's numbers
 
@@ -60,26 +60,21 @@ unrollable-at {points = points} {from = from} e a = subst (λ l. Unrollable l po
 pub unrolled-at : {reflected : Bool} {l m : List Pt} {points : List (List ℤ)} {from : ℕ} {points′ : List (List ℤ)} {r : Unrolled} → l ≡ m → UnrolledBy reflected l points from points′ r → UnrolledBy reflected m points from points′ r
 unrolled-at {reflected} {points = points} {from = from} {points′ = points′} {r = r} e u = subst (λ l. UnrolledBy reflected l points from points′ r) e u
 
--- ---- the loop: the first p parts are unrolled, and none of their windings leaves
+-- ---- the loop: the first p parts are unrolled after `done` walks, and none of their windings leaves
 
-pub record Unrolling (reflected : Bool) (ps : List (List Pt)) (points₀ : List (List ℤ)) (firsts₀ : List ℕ) (points : List (List ℤ)) (firsts : List ℕ) (count p : ℕ) : Type 0 where
+pub record Unrolling (reflected : Bool) (ps : List (List Pt)) (done : ℕ) (points₀ : List (List ℤ)) (firsts₀ : List ℕ) (points : List (List ℤ)) (firsts : List ℕ) (count p : ℕ) : Type 0 where
   pub within : p ≤ length ps
-  pub points-size : length points ≡ length points₀
-  pub firsts-size : length firsts ≡ length firsts₀
-  pub few : count + length (flatten (drop p ps)) ≤ length (flatten ps) + p
+  pub few : count + length (flatten (drop p ps)) ≤ getD firsts₀ done 0 + length (flatten ps) + p
   pub told : someWindingLeaves reflected ps ≡ someWindingLeaves reflected (drop p ps)
-  pub gathered : Gathered firsts points (record { parts = p; corners = count }) (unrolledParts reflected (take p ps))
+  pub appended : PartsAppended (unrolledParts reflected (take p ps)) firsts₀ points₀ (tallyAt firsts₀ done) firsts points (record { parts = done + p; corners = count })
 
-module _ (reflected : Bool) (ps : List (List Pt)) where
-  pub unrolling-start : (points : List (List ℤ)) (firsts : List ℕ) {firsts′ : List ℕ} → 0 < length firsts → firsts′ ≡ set firsts 0 0 → Unrolling reflected ps points firsts′ points firsts′ 0 0
-  unfolding flatten startsOf startsFrom
-  unrolling-start points firsts {firsts′} h e = record {
+module _ (reflected : Bool) (ps : List (List Pt)) (done : ℕ) where
+  pub unrolling-start : (points : List (List ℤ)) (firsts : List ℕ) → Unrolling reflected ps done points firsts points firsts (getD firsts done 0) 0
+  unrolling-start points firsts = record {
     within = omega arith;
-    points-size = refl;
-    firsts-size = refl;
     few = omega arith;
     told = refl;
-    gathered = record { parts = refl; corners = refl; begins = ap (take 1) e ∙ take-suc-set firsts 0 0 h; gathered = refl };
+    appended = subst (λ n. PartsAppended [] firsts points (tallyAt firsts done) firsts points (record { parts = n; corners = getD firsts done 0 })) (omega arith) (none-appended firsts points (tallyAt firsts done));
   }
 
   -- the part at hand and those after it
@@ -91,9 +86,9 @@ module _ (reflected : Bool) (ps : List (List Pt)) where
   unfolding someWindingLeaves
   leaves-at p h = ap (someWindingLeaves reflected) (drop-cons ps p [] h)
 
-  module _ {points₀ : List (List ℤ)} {firsts₀ : List ℕ} {points : List (List ℤ)} {firsts : List ℕ} {count p : ℕ} (k : Unrolling reflected ps points₀ firsts₀ points firsts count p) where
+  module _ {points₀ : List (List ℤ)} {firsts₀ : List ℕ} {points : List (List ℤ)} {firsts : List ℕ} {count p : ℕ} (k : Unrolling reflected ps done points₀ firsts₀ points firsts count p) where
     -- there is room for the part at hand, in less than n places
-    pub unrolling-room : (n : ℕ) → p < length ps → length (flatten ps) + length ps ≤ n → count + length (getD ps p []) < n
+    pub unrolling-room : (n : ℕ) → p < length ps → getD firsts₀ done 0 + length (flatten ps) + length ps ≤ n → count + length (getD ps p []) < n
     unrolling-room n h g = omega (arith, k .few, rest-at p h)
 
     pub unrolling-leaves : p < length ps → windingLeaves reflected (getD ps p []) ≡ true → true ≡ someWindingLeaves reflected ps
@@ -101,39 +96,51 @@ module _ (reflected : Bool) (ps : List (List Pt)) where
 
     module _ {points′ : List (List ℤ)} {n : ℕ} (h : p < length ps) (a : UnrolledTo reflected (getD ps p []) points count points′ n) where
       -- a point more than corners, a part
-      pub unrolling-count : n + length (flatten (drop (suc p) ps)) ≤ length (flatten ps) + suc p
+      pub unrolling-count : n + length (flatten (drop (suc p) ps)) ≤ getD firsts₀ done 0 + length (flatten ps) + suc p
       unrolling-count = omega (arith, k .few, rest-at p h, a .appended .count, length-unrolled reflected (getD ps p []))
 
-      pub unrolling-turn : {firsts′ : List ℕ} → p + 1 < length firsts → firsts′ ≡ set firsts (p + 1) n → Unrolling reflected ps points₀ firsts₀ points′ firsts′ n (p + 1)
+      pub unrolling-turn : {firsts′ : List ℕ} → done + (p + 1) < length firsts → firsts′ ≡ set firsts (done + (p + 1)) n → Unrolling reflected ps done points₀ firsts₀ points′ firsts′ n (p + 1)
       unrolling-turn {firsts′} room e =
           let s : suc p ≡ p + 1 = sym (add-one p) in
+          let z : done + (p + 1) ≡ done + p + 1 = omega arith in
           record {
             within = omega arith;
-            points-size = a .appended .size ∙ k .points-size;
-            firsts-size = ap length e ∙ length-set firsts (p + 1) n ∙ k .firsts-size;
             few = omega (arith, unrolling-count, ap (λ m. length (flatten (drop m ps))) s);
             told = k .told ∙ leaves-at p h ∙ rw (a .stays) (ap (λ m. someWindingLeaves reflected (drop m ps)) s);
-            gathered =
-                subst (Gathered firsts′ points′ (record { parts = p + 1; corners = n })) (sym more)
-                (part-appended (unrolled reflected (getD ps p [])) firsts points (record { parts = p; corners = count }) room (a .appended) e .gathered (unrolledParts reflected (take p ps)) (k .gathered));
+            appended =
+                subst (λ m. PartsAppended (unrolledParts reflected (take (p + 1) ps)) firsts₀ points₀ (tallyAt firsts₀ done) firsts′ points′ (record { parts = m; corners = n })) (sym z)
+                (subst (λ qs. PartsAppended qs firsts₀ points₀ (tallyAt firsts₀ done) firsts′ points′ (record { parts = done + p + 1; corners = n })) (sym more)
+                (then-appended (unrolledParts reflected (take p ps)) (unrolled reflected (getD ps p []) ∷ []) (k .appended)
+                (part-appended (unrolled reflected (getD ps p [])) firsts points (record { parts = done + p; corners = count }) (omega (arith, room)) (a .appended) (e ∙ ap (λ m. set firsts m n) z))));
           }
         where
           more : unrolledParts reflected (take (p + 1) ps) ≡ unrolledParts reflected (take p ps) ++ (unrolled reflected (getD ps p []) ∷ [])
           more = ap (λ m. unrolledParts reflected (take m ps)) (add-one p) ∙ ap (unrolledParts reflected) (take-suc ps p [] h) ∙ map-append (unrolled reflected) (take p ps) (getD ps p [] ∷ [])
 
-    pub unrolling-end : length ps ≤ p → AllUnrolled reflected ps points firsts false
+    pub unrolling-end : length ps ≤ p → AllUnrolled reflected ps done points₀ firsts₀ points firsts false
     unfolding someWindingLeaves
     unrolling-end h = record {
       told = sym (k .told ∙ ap (someWindingLeaves reflected) (drop-of-length-le ps h));
-      gathered = λ t.
-          let g = k .gathered in
+      appended = λ t.
+          let e : p ≡ length ps = omega (arith, k .within) in
           let all : unrolledParts reflected (take p ps) ≡ unrolledParts reflected ps = ap (unrolledParts reflected) (take-all p ps h) in
-          subst (λ qs. Gathered firsts points (tallyOf qs) qs) all (subst (λ t. Gathered firsts points t (unrolledParts reflected (take p ps))) (λ i. record { parts = g .parts i; corners = g .corners i }) g);
+          let n : count ≡ getD firsts₀ done 0 + length (flatten (unrolledParts reflected ps)) = k .appended .corners ∙ ap (λ qs. getD firsts₀ done 0 + length (flatten qs)) all in
+          subst (λ qs. PartsAppended qs firsts₀ points₀ (tallyAt firsts₀ done) firsts points (record { parts = done + length ps; corners = getD firsts₀ done 0 + length (flatten (unrolledParts reflected ps)) })) all
+          (subst (λ t. PartsAppended (unrolledParts reflected (take p ps)) firsts₀ points₀ (tallyAt firsts₀ done) firsts points t) (λ i. record { parts = done + e i; corners = n i }) (k .appended));
     }
 
+-- a point more than corners, a part
+pub unrolled-few : (reflected : Bool) (ps : List (List Pt)) → length (flatten (unrolledParts reflected ps)) ≤ length (flatten ps) + length ps
+unfolding flatten
+unrolled-few reflected [] = omega arith
+unrolled-few reflected (p ∷ ps) =
+    omega (arith, length-append (unrolled reflected p) (flatten (unrolledParts reflected ps)), length-append p (flatten ps), length-unrolled reflected p, unrolled-few reflected ps)
+
 -- a winding leaves
-pub some-leaves : {reflected : Bool} {ps : List (List Pt)} {points : List (List ℤ)} {firsts : List ℕ} → true ≡ someWindingLeaves reflected ps → AllUnrolled reflected ps points firsts true
-some-leaves e = record { told = e; gathered = λ t. differ (sym t) }
+pub some-leaves :
+    {reflected : Bool} {ps : List (List Pt)} {done : ℕ} {points : List (List ℤ)} {firsts : List ℕ} {points′ : List (List ℤ)} {firsts′ : List ℕ} → true ≡ someWindingLeaves reflected ps →
+    AllUnrolled reflected ps done points firsts points′ firsts′ true
+some-leaves e = record { told = e; appended = λ t. differ (sym t) }
 
 -- ---- every point of every part is in range
 

@@ -3,21 +3,22 @@
 use mathlib.Core.Path.{_≡_}
 use mathlib.Core.Bool.{Bool, false}
 use mathlib.Core.List.{List, [], map, flatten}
-use Prim.Native.Nat.{ℕ, _+_, _/_, _≤_, _<_}
+use Prim.Native.Nat.{ℕ, _+_, _/_, _≤_, _<_, _^_}
 use lib.ListN.{length, getD}
 use lib.IntN.{ℤ}
 use Rattle.plane.specs.Plane.{Pt}
 use Rattle.table.specs.Table.{tableParts, tableBroken, partCount, offRange}
 use Rattle.convex_gather.specs.declared.Tally.{Tally}
-use Rattle.convex_gather.specs.Gather.{Gathered}
+use Rattle.convex_gather.specs.Gather.{PartsAppended}
 use Rattle.pair_points.specs.Points.{unrolled}
 use Rattle.minkowski.specs.Pairs.{someWindingLeaves}
 
 abbrev pub unrolledParts : Bool → List (List Pt) → List (List Pt)
 unrolledParts reflected ps = map (unrolled reflected) ps
 
-abbrev pub tallyOf : List (List Pt) → Tally
-tallyOf ps = record { parts = length ps; corners = length (flatten ps) }
+-- n walks in a buffer, which end where the next one begins
+abbrev pub tallyAt : List ℕ → ℕ → Tally
+tallyAt firsts n = record { parts = n; corners = getD firsts n 0 }
 
 -- part p of a sound table, with room after the first `from` points for its corners and one more
 pub record PartAt (starts : List ℕ) (corners : List ℤ) (p : ℕ) (points : List (List ℤ)) (from : ℕ) : Type 0 where
@@ -26,14 +27,15 @@ pub record PartAt (starts : List ℕ) (corners : List ℤ) (p : ℕ) (points : L
   pub inside : p < partCount starts
   pub room : from + length (getD (tableParts starts corners) p []) < length points
 
--- a sound table, with room for its corners and one point more a part, and for as many starts
-pub record Unrollables (starts : List ℕ) (corners : List ℤ) (points : List (List ℤ)) (firsts : List ℕ) : Type 0 where
+-- a sound table, with room after the first `done` walks for its corners and one point more a part, and for as many starts; every place has a number of 32 bits
+pub record Unrollables (starts : List ℕ) (corners : List ℤ) (done : ℕ) (points : List (List ℤ)) (firsts : List ℕ) : Type 0 where
   pub whole : tableBroken starts corners ≡ false
   pub ranged : offRange corners ≡ false
-  pub for-points : length corners / 2 + partCount starts ≤ length points
-  pub for-firsts : length starts ≤ length firsts
+  pub for-points : getD firsts done 0 + length corners / 2 + partCount starts ≤ length points
+  pub for-firsts : done + length starts ≤ length firsts
+  pub small : length points < 2 ^ 32
 
--- whether some winding leaves 64 bits (fault 8); where none does, all parts are there unrolled
-pub record AllUnrolled (reflected : Bool) (ps : List (List Pt)) (points : List (List ℤ)) (firsts : List ℕ) (leaves : Bool) : Type 0 where
+-- whether some winding leaves 64 bits (fault 8); where none does, all parts are there unrolled after the first `done` walks
+pub record AllUnrolled (reflected : Bool) (ps : List (List Pt)) (done : ℕ) (points : List (List ℤ)) (firsts : List ℕ) (points′ : List (List ℤ)) (firsts′ : List ℕ) (leaves : Bool) : Type 0 where
   pub told : leaves ≡ someWindingLeaves reflected ps
-  pub gathered : leaves ≡ false → Gathered firsts points (tallyOf (unrolledParts reflected ps)) (unrolledParts reflected ps)
+  pub appended : leaves ≡ false → PartsAppended (unrolledParts reflected ps) firsts points (tallyAt firsts done) firsts′ points′ (record { parts = done + length ps; corners = getD firsts done 0 + length (flatten (unrolledParts reflected ps)) })

@@ -1,5 +1,5 @@
-// All parts of a sound table unrolled to points, one after another (`unroll_all`): the points of part p stand from firsts[p] up to firsts[p + 1], or it is told
-// that some winding leaves 64 bits (fault 8), and then what the buffers hold is of no matter. Leans on pair_unroll and convex_gather.
+// All parts of a sound table unrolled to points, one after another, after walks that are there (`unroll_all`): walk n is the points from firsts[n] up to
+// firsts[n + 1]. Or it is told that some winding leaves 64 bits (fault 8), and then what the buffers hold is of no matter. Leans on pair_unroll and convex_gather.
 ghost use mathlib.Core.List.{[]};
 ghost use lib.ListN.{getD};
 ghost use Rattle.table.specs.Table.{tableParts};
@@ -24,20 +24,20 @@ fn unroll_part(
     pair_unroll::unroll(&corners[a..e], reflected, points, from)
 }
 
-// All parts unrolled; answers whether some winding leaves 64 bits.
+// All parts unrolled after the first `done` walks, which end at firsts[done]; answers whether some winding leaves 64 bits.
 pub fn unroll_all(
     starts: &[u32],
     corners: &[i32],
     reflected: bool,
+    done: usize,
     points: &mut [[i32; 2]],
     firsts: &mut [u32],
 ) -> bool
-    requires { ⌜ Unrollables (now starts) (now corners) (now points) (now firsts) ⌝ }
-    ensures { λ r. ⌜ AllUnrolled reflected (tableParts (now (starts .entry)) (now (corners .entry))) (now (points .exit)) (now (firsts .exit)) r ⌝ }
+    requires { ⌜ Unrollables (now starts) (now corners) done (now points) (now firsts) ⌝ }
+    ensures { λ r. ⌜ AllUnrolled reflected (tableParts (now (starts .entry)) (now (corners .entry))) done (now (points .entry)) (now (firsts .entry)) (now (points .exit)) (now (firsts .exit)) r ⌝ }
 {
     let parts = starts.len() - 1;
-    convex_gather::put_start(firsts, 0, 0);
-    let mut count: usize = 0;
+    let mut count = firsts[done] as usize;
     let mut p: usize = 0;
     while p < parts {
         let r = unroll_part(starts, corners, p, reflected, points, count);
@@ -46,7 +46,7 @@ pub fn unroll_all(
         };
         count = n;
         p += 1;
-        convex_gather::put_start(firsts, p, count);
+        convex_gather::put_start(firsts, done + p, count);
     }
     false
 }

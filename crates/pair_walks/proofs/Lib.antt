@@ -1,2 +1,3 @@
 -- Where walks lie, and that unrolled parts are walks.
 pub mod Walks
+pub mod Operands

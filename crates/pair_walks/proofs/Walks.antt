@@ -93,7 +93,7 @@ coordinates-grid p h = rw (coordinate-in-range (p .x) (h .0), coordinate-in-rang
 
 -- lists gathered that turn at each point, of coordinates in range
 module _ (firsts : List ℕ) (points : List (List ℤ)) (ps : List (List Pt)) (g : Gathered firsts points (record { parts = length ps; corners = length (flatten ps) }) ps) where
-  last-place : getD firsts (length ps) 0 ≡ length (flatten ps)
+  pub last-place : getD firsts (length ps) 0 ≡ length (flatten ps)
   last-place = start-at firsts points (record { parts = length ps; corners = length (flatten ps) }) ps g (length ps) (omega arith) ∙ ap (λ l. length (flatten l)) (take-all (length ps) ps (omega arith))
 
   pub gathered-walks-in : walksIn firsts points (length ps) ≡ ps

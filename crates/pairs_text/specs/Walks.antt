@@ -1,4 +1,4 @@
--- The pieces as the walks of both operands in work buffers have them (`piecesIn`), and what the inner functions promise of them. Assumes nothing.
+-- The pieces as the walks of both operands in a work buffer have them (`piecesIn`), and what the inner functions promise of them. Assumes nothing.
 use mathlib.Core.Path.{_≡_}
 use mathlib.Core.Bool.{cond}
 use mathlib.Core.List.{List, _∷_, map, flatten}
@@ -9,10 +9,9 @@ use lib.IntN.{ℤ}
 use Rattle.integers.specs.Lists.{upTo, overlay}
 use Rattle.table.specs.Table.{maxContour}
 use Rattle.text.specs.Text.{refusal}
-use Rattle.minkowski_rows.specs.Rows.{walksIn}
-use Rattle.minkowski_count.specs.Counting.{Countable, allCount}
+use Rattle.pair_walks.specs.Walks.{Walks, contoursIn, pairIn}
 use Rattle.pair_lines.specs.Lines.{pairsHead, pairLine}
-use Rattle.pair_lines.specs.Putting.{pairOf, lineRoom}
+use Rattle.pair_lines.specs.Putting.{lineRoom}
 use Rattle.pairs_work.specs.declared.Begun.{Begun}
 use Rattle.pairs_text.specs.declared.Chunk.{Chunk}
 use Rattle.pairs_text.specs.Pieces.{taking}
@@ -22,13 +21,17 @@ abbrev pub firstRoom : ℕ
 firstRoom = 154
 
 -- x is what a job answered before its lines
-module _ (x : Begun) (lf : List ℕ) (lp : List (List ℤ)) (rf : List ℕ) (rp : List (List ℤ)) where
+module _ (x : Begun) (firsts : List ℕ) (points : List (List ℤ)) where
+  -- how many corners all pairs have
+  abbrev pub cornersOver : ℕ
+  cornersOver = length (flatten (contoursIn firsts points (x .left) (x .right)))
+
   unfoldable pub firstIn : List ℕ
-  firstIn = cond (eqb (x .fault) 0) (pairsHead (x .left * x .right) (allCount (walksIn lf lp (x .left)) (walksIn rf rp (x .right))) (x .bounds)) (refusal (x .fault))
+  firstIn = cond (eqb (x .fault) 0) (pairsHead (x .left * x .right) cornersOver (x .bounds)) (refusal (x .fault))
 
   -- the line of pair k: left walk k / right, right walk k % right
   abbrev pub lineIn : ℕ → List ℕ
-  lineIn k = pairLine (k / x .right) (k % x .right) (pairOf lf lp (x .left) (k / x .right) rf rp (x .right) (k % x .right))
+  lineIn k = pairLine (k / x .right) (k % x .right) (pairIn firsts points (x .left) (x .right) (k / x .right) (k % x .right))
 
   unfoldable pub piecesIn : List (List ℕ)
   piecesIn = firstIn ∷ map lineIn (upTo (x .left * x .right))
@@ -37,9 +40,8 @@ module _ (x : Begun) (lf : List ℕ) (lp : List (List ℤ)) (rf : List ℕ) (rp 
   pub record Started : Type 0 where
     pub few : x .left * x .right < 4294967296
     pub refused : (x .fault ≡ 0 → ⊥) → x .left * x .right ≡ 0
-    pub lefts : x .fault ≡ 0 → Countable lf lp (x .left)
-    pub rights : x .fault ≡ 0 → Countable rf rp (x .right)
-    pub corners : x .fault ≡ 0 → allCount (walksIn lf lp (x .left)) (walksIn rf rp (x .right)) < 2 ^ 32
+    pub walks : x .fault ≡ 0 → Walks firsts points (x .left + x .right)
+    pub corners : x .fault ≡ 0 → cornersOver < 2 ^ 32
 
   -- with room to merge two walks
   pub record Workable (work : List ℤ) : Type 0 where

@@ -32,16 +32,9 @@ pub struct Chunk {
 }
 
 // Puts the head line, or the refusal, on the front of the lent bytes and answers how many bytes it has. Only the head line wants the corners counted.
-fn put_first(
-    begun: Begun,
-    lf: &[u32],
-    lp: &[[i32; 2]],
-    rf: &[u32],
-    rp: &[[i32; 2]],
-    out: &mut [u8],
-) -> usize
-    requires { ⌜ Started begun (now lf) (now lp) (now rf) (now rp) × (firstRoom ≤ length (now out)) ⌝ }
-    ensures { λ r. ⌜ PutText (firstIn begun (now (lf .entry)) (now (lp .entry)) (now (rf .entry)) (now (rp .entry))) 0 (now (out .entry)) (now (out .exit)) r ⌝ }
+fn put_first(begun: Begun, firsts: &[u32], points: &[[i32; 2]], out: &mut [u8]) -> usize
+    requires { ⌜ Started begun (now firsts) (now points) × (firstRoom ≤ length (now out)) ⌝ }
+    ensures { λ r. ⌜ PutText (firstIn begun (now (firsts .entry)) (now (points .entry))) 0 (now (out .entry)) (now (out .exit)) r ⌝ }
 {
     let fault = begun.fault;
     if fault != 0 {
@@ -50,47 +43,43 @@ fn put_first(
     let left = begun.left;
     let right = begun.right;
     let bounds = begun.bounds;
-    let corners = minkowski_count::count_all(lf, lp, left, rf, rp, right);
+    let corners = minkowski_count::count_all(firsts, points, left, right);
     pair_lines::put_head((left * right) as u64, corners as u64, bounds, out)
 }
 
 // Puts piece k on the front of the lent bytes and answers how many bytes it has.
 fn put_piece(
     begun: Begun,
-    lf: &[u32],
-    lp: &[[i32; 2]],
-    rf: &[u32],
-    rp: &[[i32; 2]],
+    firsts: &[u32],
+    points: &[[i32; 2]],
     k: usize,
     work: &mut [i32],
     out: &mut [u8],
 ) -> usize
-    requires { ⌜ Fitting begun (now lf) (now lp) (now rf) (now rp) k (now work) (now out) ⌝ }
-    ensures { λ r. ⌜ PutText (getD (piecesIn begun (now (lf .entry)) (now (lp .entry)) (now (rf .entry)) (now (rp .entry))) k []) 0 (now (out .entry)) (now (out .exit)) r ⌝ }
+    requires { ⌜ Fitting begun (now firsts) (now points) k (now work) (now out) ⌝ }
+    ensures { λ r. ⌜ PutText (getD (piecesIn begun (now (firsts .entry)) (now (points .entry))) k []) 0 (now (out .entry)) (now (out .exit)) r ⌝ }
 {
     if k == 0 {
-        return put_first(begun, lf, lp, rf, rp, out);
+        return put_first(begun, firsts, points, out);
     }
     let left = begun.left;
     let right = begun.right;
     let p = (k - 1) / right;
     let q = (k - 1) % right;
-    pair_lines::put_line(lf, lp, left, p, rf, rp, right, q, work, out)
+    pair_lines::put_line(firsts, points, left, right, p, q, work, out)
 }
 
 // Puts pieces from the one at `from` on, one after another, as long as there is room for any and pieces are left.
 fn put_pieces(
     begun: Begun,
-    lf: &[u32],
-    lp: &[[i32; 2]],
-    rf: &[u32],
-    rp: &[[i32; 2]],
+    firsts: &[u32],
+    points: &[[i32; 2]],
     from: usize,
     work: &mut [i32],
     out: &mut [u8],
 ) -> Chunk
-    requires { ⌜ Workable begun (now lf) (now lp) (now rf) (now rp) (now work) ⌝ }
-    ensures { λ r. ⌜ Handed (piecesIn begun (now (lf .entry)) (now (lp .entry)) (now (rf .entry)) (now (rp .entry))) from (now (out .entry)) (now (out .exit)) r ⌝ }
+    requires { ⌜ Workable begun (now firsts) (now points) (now work) ⌝ }
+    ensures { λ r. ⌜ Handed (piecesIn begun (now (firsts .entry)) (now (points .entry))) from (now (out .entry)) (now (out .exit)) r ⌝ }
 {
     let left = begun.left;
     let right = begun.right;
@@ -105,7 +94,7 @@ fn put_pieces(
                 more: true,
             };
         }
-        size += put_piece(begun, lf, lp, rf, rp, k, work, &mut out[size..]);
+        size += put_piece(begun, firsts, points, k, work, &mut out[size..]);
         k += 1;
     }
     Chunk {
@@ -115,21 +104,19 @@ fn put_pieces(
     }
 }
 
-// The same of a job begun, whose walks lie in places for any operand.
+// The same of a job begun, whose walks lie in places for any two operands.
 fn put_begun(
     begun: Begun,
-    lf: &[u32; FIRSTS],
-    lp: &[[i32; 2]; POINTS],
-    rf: &[u32; FIRSTS],
-    rp: &[[i32; 2]; POINTS],
+    firsts: &[u32; FIRSTS],
+    points: &[[i32; 2]; POINTS],
     from: usize,
     out: &mut [u8],
 ) -> Chunk
-    requires { ⌜ Started begun (now lf) (now lp) (now rf) (now rp) ⌝ }
-    ensures { λ r. ⌜ Handed (piecesIn begun (now (lf .entry)) (now (lp .entry)) (now (rf .entry)) (now (rp .entry))) from (now (out .entry)) (now (out .exit)) r ⌝ }
+    requires { ⌜ Started begun (now firsts) (now points) ⌝ }
+    ensures { λ r. ⌜ Handed (piecesIn begun (now (firsts .entry)) (now (points .entry))) from (now (out .entry)) (now (out .exit)) r ⌝ }
 {
     let mut work = [0i32; WORK];
-    put_pieces(begun, lf, lp, rf, rp, from, &mut work, out)
+    put_pieces(begun, firsts, points, from, &mut work, out)
 }
 
 // Hands over the pieces of a job's text after the first `from`, as many as there is room for, on the front of the lent bytes; past them these keep what they held.
@@ -142,24 +129,8 @@ pub fn next_chunk(bytes: &[u8], from: usize, out: &mut [u8; ROOM]) -> Chunk
     ensures text { λ r. ⌜ now (out .exit) ≡ overlay (flatten (chunkOf (now (bytes .entry)) from)) (now (out .entry)) ⌝ }
     ensures counted { λ r. ⌜ Counts (r .size) (now (out .exit)) ⌝ }
 {
-    let mut left_points = [[0i32; 2]; POINTS];
-    let mut left_firsts = [0u32; FIRSTS];
-    let mut right_points = [[0i32; 2]; POINTS];
-    let mut right_firsts = [0u32; FIRSTS];
-    let begun = pairs_work::begin_job(
-        bytes,
-        &mut left_points,
-        &mut left_firsts,
-        &mut right_points,
-        &mut right_firsts,
-    );
-    put_begun(
-        begun,
-        &left_firsts,
-        &left_points,
-        &right_firsts,
-        &right_points,
-        from,
-        out,
-    )
+    let mut points = [[0i32; 2]; POINTS];
+    let mut firsts = [0u32; FIRSTS];
+    let begun = pairs_work::begin_job(bytes, &mut points, &mut firsts);
+    put_begun(begun, &firsts, &points, from, out)
 }

@@ -9,18 +9,17 @@ use lib.Dec.{eqb}
 use lib.ListN.{length, take, drop, length-append}
 use lib.Seq.{take-at, length-take-le}
 use lib.IntN.{ℤ}
-use Rattle.integers.specs.Faults.{firstFault}
 use Rattle.integers.specs.Lists.{overlay}
 use Rattle.integers.proofs.Overlay.{overlay-eq}
 use Rattle.table.specs.declared.IntRect.{IntRect}
 use Rattle.table.specs.Stored.{wordAt}
-use Rattle.minkowski.specs.Pairs.{Operand, pairKinds}
+use Rattle.minkowski.specs.Pairs.{Operand}
 use Rattle.minkowski_faults.specs.Kinds.{operand}
 use Rattle.pairs_job.specs.Job.{boundsAt, startsAt, cornersAt, tableWords, operation, reflectedOf, rightPlace, leftOf, rightOf, jobFault, shapeFault, TableIn}
 use Rattle.pairs_job.proofs.Sizes.{sized, place, count-starts, count-numbers}
 use Rattle.pairs_job.proofs.Shape.{left-inside, right-inside, shaped, shape-passed}
 use Rattle.pairs_work.specs.declared.Begun.{Begun}
-use Rattle.pairs_work.specs.Begun.{Begins}
+use Rattle.pairs_work.specs.Begun.{jobCall, callFault, Begins}
 
 -- ---- where they lie
 
@@ -82,10 +81,7 @@ right-read bytes {k} h p q t =
     λ i. record { starts = (p ∙ ap (startsAt bytes) h) i; corners = (q ∙ ap (cornersAt bytes) h) i; bounds = (t ∙ ap (boundsAt bytes) m) i }
 
 pub begun-job :
-    (bytes : List ℕ) → shapeFault bytes ≡ 0 → {t : Bool} {l r : Operand} {lp rp : List (List ℤ)} {lf rf : List ℕ} {x : Begun} → t ≡ reflectedOf bytes → l ≡ leftOf bytes → r ≡ rightOf bytes →
-    Begins t l r (firstFault (pairKinds t l r)) lp lf rp rf x → Begins (reflectedOf bytes) (leftOf bytes) (rightOf bytes) (jobFault bytes) lp lf rp rf x
-begun-job bytes e {t} {l} {r} {lp} {rp} {lf} {rf} {x} p q s b =
-    subst (λ f. Begins (reflectedOf bytes) (leftOf bytes) (rightOf bytes) f lp lf rp rf x) (sym (shape-passed bytes e))
-    (subst (λ r. Begins (reflectedOf bytes) (leftOf bytes) r (firstFault (pairKinds (reflectedOf bytes) (leftOf bytes) r)) lp lf rp rf x) s
-    (subst (λ l. Begins (reflectedOf bytes) l r (firstFault (pairKinds (reflectedOf bytes) l r)) lp lf rp rf x) q
-    (subst (λ t. Begins t l r (firstFault (pairKinds t l r)) lp lf rp rf x) p b)))
+    (bytes : List ℕ) → shapeFault bytes ≡ 0 → {t : Bool} {l r : Operand} {points : List (List ℤ)} {firsts : List ℕ} {b : Begun} → t ≡ reflectedOf bytes → l ≡ leftOf bytes → r ≡ rightOf bytes →
+    Begins (record { reflected = t; left = l; right = r }) (callFault (record { reflected = t; left = l; right = r })) points firsts b → Begins (jobCall bytes) (jobFault bytes) points firsts b
+begun-job bytes e {points = points} {firsts = firsts} {b = b} p q s h =
+    subst (λ f. Begins (jobCall bytes) f points firsts b) (sym (shape-passed bytes e)) (subst (λ x. Begins x (callFault x) points firsts b) (λ i. record { reflected = p i; left = q i; right = s i }) h)

@@ -1,7 +1,7 @@
 -- What a pair job answers before its lines: its fault, or how many parts its operands have and the result's bounds, with the walks of both operands in work
--- buffers for any operand (`Begins`). Assumes nothing.
+-- buffers for any two (`Begins`). Assumes nothing.
 use mathlib.Core.Path.{_≡_}
-use mathlib.Core.Bool.{Bool, false, cond}
+use mathlib.Core.Bool.{cond}
 use mathlib.Core.List.{List}
 use Prim.Native.Nat.{ℕ, _+_, _*_}
 use lib.Dec.{eqb}
@@ -9,17 +9,15 @@ use lib.ListN.{length}
 use lib.IntN.{ℤ}
 use Rattle.integers.specs.Faults.{firstFault}
 use Rattle.table.specs.Table.{partCount, maxParts, maxCorners}
-use Rattle.minkowski.specs.Pairs.{Operand, noBounds, resultBounds, pairKinds}
-use Rattle.minkowski_work.specs.Scratch.{Walked}
-use Rattle.pairs_job.specs.Job.{shapeFault}
+use Rattle.minkowski.specs.Pairs.{noBounds, resultBounds, pairKinds}
+use Rattle.minkowski_work.specs.Scratch.{Call, Walked}
+use Rattle.pairs_job.specs.Job.{reflectedOf, leftOf, rightOf, shapeFault}
 use Rattle.pairs_work.specs.declared.Begun.{Begun}
 
--- a point for each of 8,192 corners and one more for each of 2,048 parts, and a first for each of 2,049 starts
-pub record Large (lp : List (List ℤ)) (lf : List ℕ) (rp : List (List ℤ)) (rf : List ℕ) : Type 0 where
-  pub left-points : length lp ≡ maxCorners + maxParts
-  pub left-firsts : length lf ≡ maxParts + 1
-  pub right-points : length rp ≡ maxCorners + maxParts
-  pub right-firsts : length rf ≡ maxParts + 1
+-- of either operand a point for each of 8,192 corners and one more for each of 2,048 parts, and a first for each of 2,049 starts
+pub record Large (points : List (List ℤ)) (firsts : List ℕ) : Type 0 where
+  pub for-points : length points ≡ 2 * (maxCorners + maxParts)
+  pub for-firsts : length firsts ≡ 2 * (maxParts + 1)
 
 -- a job without a fault of its shape, and places for any tables within the limits
 pub record Shapely (bytes : List ℕ) (ls : List ℕ) (lc : List ℤ) (rs : List ℕ) (rc : List ℤ) : Type 0 where
@@ -29,29 +27,39 @@ pub record Shapely (bytes : List ℕ) (ls : List ℕ) (lc : List ℤ) (rs : List
   pub right-starts : length rs ≡ maxParts + 1
   pub right-corners : length rc ≡ 2 * maxCorners
 
+-- the call that a job is
+abbrev pub jobCall : List ℕ → Call
+jobCall bytes = record { reflected = reflectedOf bytes; left = leftOf bytes; right = rightOf bytes }
+
+-- 7, 2, 9, 8, 10, 20
+abbrev pub callFault : Call → ℕ
+callFault x = firstFault (pairKinds (x .reflected) (x .left) (x .right))
+
 -- the first fault of two operands; where there is none, the walks of both are there
-pub record PairsTold (reflected : Bool) (l r : Operand) (lp : List (List ℤ)) (lf : List ℕ) (rp : List (List ℤ)) (rf : List ℕ) (f : ℕ) : Type 0 where
-  pub told : f ≡ firstFault (pairKinds reflected l r)
-  pub left : f ≡ 0 → Walked false l lf lp
-  pub right : f ≡ 0 → Walked reflected r rf rp
+pub record PairsTold (x : Call) (points : List (List ℤ)) (firsts : List ℕ) (f : ℕ) : Type 0 where
+  pub told : f ≡ callFault x
+  pub walked : f ≡ 0 → Walked x points firsts
 
 abbrev pub refusedBegun : ℕ → Begun
 refusedBegun f = record { fault = f; left = 0; right = 0; bounds = noBounds }
 
+abbrev pub acceptedBegun : Call → Begun
+acceptedBegun x = record {
+  fault = 0;
+  left = partCount (x .left .starts);
+  right = partCount (x .right .starts);
+  bounds = resultBounds (x .reflected) (x .left .bounds) (x .right .bounds);
+}
+
 -- how many parts each operand has, and the result's bounds; f is the fault number
-unfoldable pub begunOf : Bool → Operand → Operand → ℕ → Begun
-begunOf reflected l r f =
-    cond (eqb f 0)
-    (record {
-      fault = 0;
-      left = partCount (l .starts);
-      right = partCount (r .starts);
-      bounds = resultBounds reflected (l .bounds) (r .bounds);
-    })
-    (refusedBegun f)
+unfoldable pub begunOf : Call → ℕ → Begun
+begunOf x f = cond (eqb f 0) (acceptedBegun x) (refusedBegun f)
 
 -- that answer, and where there is no fault the walks of both operands
-pub record Begins (reflected : Bool) (l r : Operand) (f : ℕ) (lp : List (List ℤ)) (lf : List ℕ) (rp : List (List ℤ)) (rf : List ℕ) (x : Begun) : Type 0 where
-  pub answer : x ≡ begunOf reflected l r f
-  pub left : f ≡ 0 → Walked false l lf lp
-  pub right : f ≡ 0 → Walked reflected r rf rp
+pub record Begins (x : Call) (f : ℕ) (points : List (List ℤ)) (firsts : List ℕ) (b : Begun) : Type 0 where
+  pub answer : b ≡ begunOf x f
+  pub walked : f ≡ 0 → Walked x points firsts
+
+-- of its own fault
+abbrev pub CallBegins : Call → List (List ℤ) → List ℕ → Begun → Type 0
+CallBegins x points firsts b = Begins x (callFault x) points firsts b

@@ -2,20 +2,22 @@
 // both operands in its caller's work buffers, which pair_lines puts into lines (`Begins` of specs/Begun.antt, with pairs_job's `jobFault`, `leftOf` and `rightOf`). Of a
 // job that is refused nothing is said of the buffers. Leans on pairs_job, minkowski_faults and minkowski_work.
 ghost use mathlib.Core.Path.{_≡_};
-ghost use Rattle.integers.specs.Faults.{firstFault};
-ghost use Rattle.minkowski.specs.Pairs.{pairKinds};
-ghost use Rattle.minkowski_faults.specs.Kinds.{operand};
-ghost use Rattle.pairs_job.specs.Job.{reflectedOf, leftOf, rightOf, jobFault};
-ghost use Rattle.pairs_work.specs.Begun.{Large, Shapely, PairsTold, refusedBegun, Begins};
+ghost use Rattle.minkowski_work.specs.Scratch.{callOf};
+ghost use Rattle.pairs_job.specs.Job.{jobFault};
+ghost use Rattle.pairs_work.specs.Begun.{Large, Shapely, jobCall, PairsTold, refusedBegun, Begins, CallBegins};
+use minkowski::Operation;
 use pairs_job::LEFT;
 use pairs_job::LEFT_BOUNDS;
 use table::IntRect;
 use table_words::word_at;
 
-// The points and the firsts of any operand's walks: 8,192 corners, and one more point for each of 2,048 parts.
-pub const POINTS: usize = table::MAX_CORNERS + table::MAX_PARTS;
+// The starts of any operand.
+const STARTS: usize = table::MAX_PARTS + 1;
 
-pub const FIRSTS: usize = table::MAX_PARTS + 1;
+// The points and the firsts of any two operands' walks: of each 8,192 corners, and one more point for each of 2,048 parts.
+pub const POINTS: usize = 2 * (table::MAX_CORNERS + table::MAX_PARTS);
+
+pub const FIRSTS: usize = 2 * STARTS;
 
 // What a job answers before its lines: the fault number, 0 for none, how many parts each operand has, and the result's bounds; all 0 where it is refused.
 pub struct Begun {
@@ -44,83 +46,68 @@ fn refused(fault: u32) -> Begun
 
 // The first fault of two operands in the order of pairs up to 20; 0 for none, and then the work buffers hold the walks of both.
 fn pairs_fault(
-    reflected: bool,
+    operation: Operation,
     left_starts: &[u32],
     left_corners: &[i32],
-    left_bounds: IntRect,
     right_starts: &[u32],
     right_corners: &[i32],
-    right_bounds: IntRect,
-    left_points: &mut [[i32; 2]],
-    left_firsts: &mut [u32],
-    right_points: &mut [[i32; 2]],
-    right_firsts: &mut [u32],
+    points: &mut [[i32; 2]],
+    firsts: &mut [u32],
 ) -> u32
-    requires { ⌜ Large (now «left_points») (now «left_firsts») (now «right_points») (now «right_firsts») ⌝ }
-    ensures { λ r. ⌜ PairsTold reflected (operand (now («left_starts» .entry)) (now («left_corners» .entry)) «left_bounds») (operand (now («right_starts» .entry)) (now («right_corners» .entry)) «right_bounds») (now («left_points» .exit)) (now («left_firsts» .exit)) (now («right_points» .exit)) (now («right_firsts» .exit)) r ⌝ }
+    requires { ⌜ Large (now points) (now firsts) ⌝ }
+    ensures { λ r. ⌜ PairsTold (callOf operation (now («left_starts» .entry)) (now («left_corners» .entry)) (now («right_starts» .entry)) (now («right_corners» .entry))) (now (points .exit)) (now (firsts .exit)) r ⌝ }
 {
     let fault = minkowski_faults::operands_fault(
         left_starts,
         left_corners,
-        left_bounds,
+        operation.left,
         right_starts,
         right_corners,
-        right_bounds,
+        operation.right,
     );
     if fault != 0 {
         return fault;
     }
     minkowski_work::walks_fault(
-        reflected,
+        operation,
         left_starts,
         left_corners,
-        left_bounds,
         right_starts,
         right_corners,
-        right_bounds,
-        left_points,
-        left_firsts,
-        right_points,
-        right_firsts,
+        points,
+        firsts,
     )
 }
 
 // What the pairs of two operands answer before their lines.
 fn begin_operands(
-    reflected: bool,
+    operation: Operation,
     left_starts: &[u32],
     left_corners: &[i32],
-    left_bounds: IntRect,
     right_starts: &[u32],
     right_corners: &[i32],
-    right_bounds: IntRect,
-    left_points: &mut [[i32; 2]],
-    left_firsts: &mut [u32],
-    right_points: &mut [[i32; 2]],
-    right_firsts: &mut [u32],
+    points: &mut [[i32; 2]],
+    firsts: &mut [u32],
 ) -> Begun
-    requires { ⌜ Large (now «left_points») (now «left_firsts») (now «right_points») (now «right_firsts») ⌝ }
-    ensures { λ r. ⌜ Begins reflected (operand (now («left_starts» .entry)) (now («left_corners» .entry)) «left_bounds») (operand (now («right_starts» .entry)) (now («right_corners» .entry)) «right_bounds») (firstFault (pairKinds reflected (operand (now («left_starts» .entry)) (now («left_corners» .entry)) «left_bounds») (operand (now («right_starts» .entry)) (now («right_corners» .entry)) «right_bounds»))) (now («left_points» .exit)) (now («left_firsts» .exit)) (now («right_points» .exit)) (now («right_firsts» .exit)) r ⌝ }
+    requires { ⌜ Large (now points) (now firsts) ⌝ }
+    ensures { λ r. ⌜ CallBegins (callOf operation (now («left_starts» .entry)) (now («left_corners» .entry)) (now («right_starts» .entry)) (now («right_corners» .entry))) (now (points .exit)) (now (firsts .exit)) r ⌝ }
 {
     let fault = pairs_fault(
-        reflected,
+        operation,
         left_starts,
         left_corners,
-        left_bounds,
         right_starts,
         right_corners,
-        right_bounds,
-        left_points,
-        left_firsts,
-        right_points,
-        right_firsts,
+        points,
+        firsts,
     );
     if fault != 0 {
         return refused(fault);
     }
     let left = left_starts.len() - 1;
     let right = right_starts.len() - 1;
-    let bounds = minkowski_faults::result_bounds(left_bounds, right_bounds, reflected);
+    let reflected = operation.reflected;
+    let bounds = minkowski_faults::result_bounds(operation.left, operation.right, reflected);
     Begun {
         fault: 0,
         left: left,
@@ -136,13 +123,11 @@ fn begin_shaped(
     left_corners: &mut [i32],
     right_starts: &mut [u32],
     right_corners: &mut [i32],
-    left_points: &mut [[i32; 2]; POINTS],
-    left_firsts: &mut [u32; FIRSTS],
-    right_points: &mut [[i32; 2]; POINTS],
-    right_firsts: &mut [u32; FIRSTS],
+    points: &mut [[i32; 2]; POINTS],
+    firsts: &mut [u32; FIRSTS],
 ) -> Begun
     requires { ⌜ Shapely (now bytes) (now «left_starts») (now «left_corners») (now «right_starts») (now «right_corners») ⌝ }
-    ensures { λ r. ⌜ Begins (reflectedOf (now (bytes .entry))) (leftOf (now (bytes .entry))) (rightOf (now (bytes .entry))) (jobFault (now (bytes .entry))) (now («left_points» .exit)) (now («left_firsts» .exit)) (now («right_points» .exit)) (now («right_firsts» .exit)) r ⌝ }
+    ensures { λ r. ⌜ Begins (jobCall (now (bytes .entry))) (jobFault (now (bytes .entry))) (now (points .exit)) (now (firsts .exit)) r ⌝ }
 {
     let place = pairs_job::right_place(bytes);
     let l = word_at(bytes, LEFT) as usize;
@@ -154,38 +139,33 @@ fn begin_shaped(
     let reflected = word_at(bytes, 0) == pairs_job::DIFFERENCE;
     let left_bounds = pairs_job::bounds_at(bytes, LEFT_BOUNDS);
     let right_bounds = pairs_job::bounds_at(bytes, place - 4);
+    let operation = Operation {
+        reflected: reflected,
+        left: left_bounds,
+        right: right_bounds,
+    };
     begin_operands(
-        reflected,
+        operation,
         &left_starts[..l + 1],
         &left_corners[..2 * m],
-        left_bounds,
         &right_starts[..r + 1],
         &right_corners[..2 * n],
-        right_bounds,
-        left_points,
-        left_firsts,
-        right_points,
-        right_firsts,
+        points,
+        firsts,
     )
 }
 
 // What a job answers before its lines.
-pub fn begin_job(
-    bytes: &[u8],
-    left_points: &mut [[i32; 2]; POINTS],
-    left_firsts: &mut [u32; FIRSTS],
-    right_points: &mut [[i32; 2]; POINTS],
-    right_firsts: &mut [u32; FIRSTS],
-) -> Begun
-    ensures { λ r. ⌜ Begins (reflectedOf (now (bytes .entry))) (leftOf (now (bytes .entry))) (rightOf (now (bytes .entry))) (jobFault (now (bytes .entry))) (now («left_points» .exit)) (now («left_firsts» .exit)) (now («right_points» .exit)) (now («right_firsts» .exit)) r ⌝ }
+pub fn begin_job(bytes: &[u8], points: &mut [[i32; 2]; POINTS], firsts: &mut [u32; FIRSTS]) -> Begun
+    ensures { λ r. ⌜ Begins (jobCall (now (bytes .entry))) (jobFault (now (bytes .entry))) (now (points .exit)) (now (firsts .exit)) r ⌝ }
 {
     let fault = pairs_job::shape_fault(bytes);
     if fault != 0 {
         return refused(fault);
     }
-    let mut left_starts = [0u32; FIRSTS];
+    let mut left_starts = [0u32; STARTS];
     let mut left_corners = [0i32; 2 * table::MAX_CORNERS];
-    let mut right_starts = [0u32; FIRSTS];
+    let mut right_starts = [0u32; STARTS];
     let mut right_corners = [0i32; 2 * table::MAX_CORNERS];
     begin_shaped(
         bytes,
@@ -193,9 +173,7 @@ pub fn begin_job(
         &mut left_corners,
         &mut right_starts,
         &mut right_corners,
-        left_points,
-        left_firsts,
-        right_points,
-        right_firsts,
+        points,
+        firsts,
     )
 }

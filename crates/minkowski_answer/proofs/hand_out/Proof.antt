@@ -5,9 +5,9 @@ use Prim.Native.Nat.{_/_}
 use native.Mathlib.Omega.{arith}
 use borrow.Author.Needs.{needs}
 use lib.ListN.{length}
-use Rattle.minkowski_answer.specs.Answer.{contoursIn}
+use Rattle.pair_walks.specs.Walks.{contoursIn}
 use Rattle.minkowski_answer.proofs.Answer.{starts-refused, corners-refused, handed}
-use Rattle.minkowski_answer.proofs.Room.{more-corners, no-more, contours-count, room-for}
+use Rattle.minkowski_answer.proofs.Room.{more-corners, no-more, count-contours, room-for}
 use Rattle.minkowski_answer.proofs.hand_out.Statement.{statement}
 use Rattle.minkowski_answer.proofs.hand_out.Tie as tie
 
@@ -22,10 +22,10 @@ refusal-requires c κs = search needs
 
 returns : tie.Need-returns
 returns c =
-    let s = c .before .before .before .before .before in
+    let s = c .before .before .before .before in
     let g = s .args in
-    let ps = contoursIn (g .lf .now) (g .lp .now) (g .left) (g .rf .now) (g .rp .now) (g .right) in
-    starts-refused ps (g .bounds) (g .starts .now) (g .corners .now) (omega (arith, contours-count (s .pre), c .before .if1 .taken)) (c .refusal .ensures)
+    let ps = contoursIn (g .firsts .now) (g .points .now) (g .left) (g .right) in
+    starts-refused ps (g .bounds) (g .starts .now) (g .corners .now) (omega (arith, count-contours (s .pre), c .before .if1 .taken)) (c .refusal .ensures)
 
 no-room-requires : tie.Need-no-room-requires
 no-room-requires c κs = search needs
@@ -35,23 +35,24 @@ refusal-requires-2 c κs = search needs
 
 returns-2 : tie.Need-returns-2
 returns-2 c =
-    let s = c .before .before .before .before .before .before .before in
+    let s = c .before .before .before .before .before .before in
     let g = s .args in
-    let ps = contoursIn (g .lf .now) (g .lp .now) (g .left) (g .rf .now) (g .rp .now) (g .right) in
-    corners-refused ps (g .bounds) (g .starts .now) (g .corners .now) (omega (arith, contours-count (s .pre), c .before .before .before .if1 .left)) (more-corners (length (g .corners .now) / 2) (length (flatten ps)) (c .before .before .no-room .ensures) (c .before .if2 .taken)) (c .refusal2 .ensures)
+    let ps = contoursIn (g .firsts .now) (g .points .now) (g .left) (g .right) in
+    corners-refused ps (g .bounds) (g .starts .now) (g .corners .now) (omega (arith, count-contours (s .pre), c .before .before .before .if1 .left))
+    (more-corners (length (g .corners .now) / 2) (length (flatten ps)) (c .before .before .no-room .ensures) (c .before .if2 .taken)) (c .refusal2 .ensures)
 
 append-all-requires : tie.Need-append-all-requires
 append-all-requires c κs =
-    let s = c .before .before .before .before .before .before .before .before in
+    let s = c .before .before .before .before .before .before .before in
     let g = s .args in
-    let ps = contoursIn (g .lf .now) (g .lp .now) (g .left) (g .rf .now) (g .rp .now) (g .right) in
-    (s .pre .lefts .walks, s .pre .rights .walks, room-for (s .pre) (g .starts .now) (g .corners .now) (c .before .before .before .before .if1 .left) (no-more (length (g .corners .now) / 2) (length (flatten ps)) (c .before .before .before .no-room .ensures) (c .before .before .if2 .left)))
+    let ps = contoursIn (g .firsts .now) (g .points .now) (g .left) (g .right) in
+    (s .pre .walks, room-for (s .pre) (g .starts .now) (g .corners .now) (c .before .before .before .before .if1 .left) (no-more (length (g .corners .now) / 2) (length (flatten ps)) (c .before .before .before .no-room .ensures) (c .before .before .if2 .left)))
 
-cast-t21 : tie.Need-cast-t21
-cast-t21 c = search needs
+cast-t19 : tie.Need-cast-t19
+cast-t19 c = search needs
 
-cast-t22 : tie.Need-cast-t22
-cast-t22 c = search needs
+cast-t20 : tie.Need-cast-t20
+cast-t20 c = search needs
 
 same-length : tie.Need-same-length
 same-length c = search needs
@@ -61,15 +62,12 @@ same-length-2 c = search needs
 
 returns-3 : tie.Need-returns-3
 returns-3 c =
-    let p3 = c .before .before .before in
-    let p2 = p3 .before .before .before in
-    let p1 = p2 .before .before in
-    let s = p1 .before .before .before .before in
+    let s = c .before .before .before .before .before .before .before .before .before .before .before in
     let g = s .args in
-    let ps = contoursIn (g .lf .now) (g .lp .now) (g .left) (g .rf .now) (g .rp .now) (g .right) in
-    let a = p3 .append-all .ensures in
-    handed ps (g .bounds) (g .starts .now) (g .corners .now) (omega (arith, contours-count (s .pre), p1 .if1 .left))
-    (no-more (length (g .corners .now) / 2) (length (flatten ps)) (p2 .before .no-room .ensures) (p2 .if2 .left)) (sym (contours-count (s .pre)))
+    let ps = contoursIn (g .firsts .now) (g .points .now) (g .left) (g .right) in
+    let a = c .before .before .before .append-all .ensures in
+    handed ps (g .bounds) (g .starts .now) (g .corners .now) (omega (arith, count-contours (s .pre), c .before .before .before .before .before .before .before .before .if1 .left))
+    (no-more (length (g .corners .now) / 2) (length (flatten ps)) (c .before .before .before .before .before .before .before .no-room .ensures) (c .before .before .before .before .before .before .if2 .left)) (sym (count-contours (s .pre)))
     (a .count) (a .starts) (a .corners)
 
 pub hand-out-spec : {M : Type 1} → statement M
@@ -84,8 +82,8 @@ hand-out-spec =
     refusal-requires-2
     returns-2
     append-all-requires
-    cast-t21
-    cast-t22
+    cast-t19
+    cast-t20
     same-length
     same-length-2
     returns-3)

@@ -1,22 +1,20 @@
 -- `minkowski_count::count_row` meets its contract: after q turns the corners with the first q right walks are counted. Assumes nothing.
 use mathlib.Core.Path.{_≡_, refl, _∙_}
 use mathlib.Core.List.{flatten}
-use Prim.Native.Nat.{_-_, _≤_}
+use Prim.Native.Nat.{_+_, _-_, _≤_}
 use native.Mathlib.Omega.{arith}
 use lib.ListN.{length, take}
-use Rattle.pair_merge.specs.Putting.{pointsIn}
-use Rattle.minkowski_rows.specs.Rows.{walksIn}
-use Rattle.minkowski_rows.proofs.Pairs.{walk-inside}
-use Rattle.minkowski_count.specs.Counting.{rowCount}
-use Rattle.minkowski_count.proofs.Counts.{row-fits, row-turn, row-end}
+use Rattle.pair_walks.specs.Walks.{walkIn, rightsIn}
+use Rattle.pair_walks.proofs.Operands.{right-walk, rights-count}
+use Rattle.minkowski_count.proofs.Counts.{rowCount, row-fits, row-turn, row-end}
 use Rattle.minkowski_count.proofs.count_row.Statement.{statement}
 use Rattle.minkowski_count.proofs.count_row.Tie as tie
 
 abbrev Inv-loop : tie.InvT-loop
-Inv-loop a firsts points count work₀ total₀ q₀ work total q = (q ≤ count) × (length work ≡ length work₀) × (total ≡ rowCount (pointsIn a) (take q (walksIn firsts points count)))
+Inv-loop firsts points left right p work₀ total₀ q₀ work total q = (q ≤ right) × (length work ≡ length work₀) × (total ≡ rowCount (walkIn firsts points (left + right) p) (take q (rightsIn firsts points left right)))
 
 abbrev μ-loop : tie.MeasureT-loop
-μ-loop a firsts points count work₀ total₀ q₀ work total q = count - q
+μ-loop firsts points left right p work₀ total₀ q₀ work total q = right - q
 
 loop-holds : tie.Need-loop-holds Inv-loop μ-loop
 unfolding flatten
@@ -25,16 +23,15 @@ loop-holds c = (omega arith, refl, refl)
 merge-one-requires : tie.Need-merge-one-requires Inv-loop μ-loop
 merge-one-requires c κs =
     let s = c .before .before .before .before in
-    let l = c .before .before .loop in
-    let t = c .before .loop-test .taken in
-    (s .pre .0, s .pre .1, s .pre .2, t, omega (arith, s .pre .3, l .inv .1))
+    (s .pre .0 .0, s .pre .0 .1, c .before .loop-test .taken, omega (arith, s .pre .0 .2, c .before .before .loop .inv .1))
 
 add-total : tie.Need-add-total Inv-loop μ-loop
 add-total c =
     let s = c .before .before .before .before .before .before in
+    let g = s .args in
     let l = c .before .before .before .before .loop in
-    let t = c .before .before .before .loop-test .taken in
-    omega (arith, c .before .merge-one .ensures .count, l .inv .2, row-fits (pointsIn (s .args .a .now)) (walksIn (s .args .firsts .now) (s .args .points .now) (s .args .count)) (l .q) (walk-inside _ _ (s .args .count) (l .q) (s .pre .2 .walks) t), s .pre .4)
+    let h = rights-count (g .firsts .now) (g .points .now) (g .left) (g .right) (s .pre .0 .0) in
+    omega (arith, c .before .merge-one .ensures .count, l .inv .2, row-fits (walkIn (g .firsts .now) (g .points .now) (g .left + g .right) (g .p)) (rightsIn (g .firsts .now) (g .points .now) (g .left) (g .right)) (l .q) (omega (arith, c .before .before .before .loop-test .taken, h)) (right-walk (g .firsts .now) (g .points .now) (g .left) (g .right) (l .q)), s .pre .1)
 
 add-q : tie.Need-add-q Inv-loop μ-loop
 add-q c = omega (arith, c .before .before .before .loop-test .taken)
@@ -45,9 +42,14 @@ loop-less c = omega (arith, c .before .before .before .loop-test .taken)
 loop-again : tie.Need-loop-again Inv-loop μ-loop
 loop-again c =
     let s = c .before .before .before .before .before .before in
+    let g = s .args in
     let l = c .before .before .before .before .loop in
     let t = c .before .before .before .loop-test .taken in
-    (omega (arith, t), c .work .given ∙ l .inv .1, omega (arith, c .before .merge-one .ensures .count, l .inv .2, row-turn (pointsIn (s .args .a .now)) (walksIn (s .args .firsts .now) (s .args .points .now) (s .args .count)) (l .q) (walk-inside _ _ (s .args .count) (l .q) (s .pre .2 .walks) t)))
+    let h = rights-count (g .firsts .now) (g .points .now) (g .left) (g .right) (s .pre .0 .0) in (
+      omega (arith, t),
+      c .work .given ∙ l .inv .1,
+      omega (arith, c .before .merge-one .ensures .count, l .inv .2, row-turn (walkIn (g .firsts .now) (g .points .now) (g .left + g .right) (g .p)) (rightsIn (g .firsts .now) (g .points .now) (g .left) (g .right)) (l .q) (omega (arith, t, h)) (right-walk (g .firsts .now) (g .points .now) (g .left) (g .right) (l .q))),
+    )
 
 same-length : tie.Need-same-length Inv-loop μ-loop
 same-length c = c .before .loop .inv .1
@@ -55,20 +57,9 @@ same-length c = c .before .loop .inv .1
 returns : tie.Need-returns Inv-loop μ-loop
 returns c =
     let s = c .before .before .before in
+    let g = s .args in
     let l = c .before .loop in
-    l .inv .2 ∙ row-end (pointsIn (s .args .a .now)) (walksIn (s .args .firsts .now) (s .args .points .now) (s .args .count)) (l .q) (omega (arith, c .loop-test .left, s .pre .2 .walks .gathered .parts))
+    l .inv .2 ∙ row-end (walkIn (g .firsts .now) (g .points .now) (g .left + g .right) (g .p)) (rightsIn (g .firsts .now) (g .points .now) (g .left) (g .right)) (l .q) (omega (arith, c .loop-test .left, rights-count (g .firsts .now) (g .points .now) (g .left) (g .right) (s .pre .0 .0)))
 
 pub count-row-spec : {M : Type 1} → statement M
-count-row-spec =
-    tie.close
-    (tie.spec
-    Inv-loop
-    μ-loop
-    loop-holds
-    merge-one-requires
-    add-total
-    add-q
-    loop-less
-    loop-again
-    same-length
-    returns)
+count-row-spec = tie.close (tie.spec Inv-loop μ-loop loop-holds merge-one-requires add-total add-q loop-less loop-again same-length returns)

@@ -1,7 +1,6 @@
--- `minkowski_parts::pairs_large` meets its contract: its buffers hold the points of any operand. Assumes nothing.
+-- `minkowski_parts::pairs_large` meets its contract: its buffers hold the points of any two operands. Assumes nothing.
 use mathlib.Core.Path.{refl}
-use Rattle.minkowski_faults.specs.Kinds.{operand}
-use Rattle.minkowski_work.proofs.Faults.{judged}
+use Rattle.minkowski_work.specs.Scratch.{callOf}
 use Rattle.minkowski_work.proofs.Walked.{large}
 use borrow.Author.Needs.{needs}
 use Rattle.minkowski_parts.proofs.pairs_large.Statement.{statement}
@@ -13,24 +12,11 @@ slice-aggregate-pairs-over c = search needs
 slice-aggregate-pairs-over-2 : tie.Need-slice-aggregate-pairs-over-2
 slice-aggregate-pairs-over-2 c = search needs
 
-slice-aggregate-pairs-over-3 : tie.Need-slice-aggregate-pairs-over-3
-slice-aggregate-pairs-over-3 c = search needs
-
-slice-aggregate-pairs-over-4 : tie.Need-slice-aggregate-pairs-over-4
-slice-aggregate-pairs-over-4 c = search needs
-
 pairs-over-requires : tie.Need-pairs-over-requires
 pairs-over-requires c κs =
-    let s = c .before .before .before .before .before .before .before .before .before in
+    let s = c .before .before .before .before .before .before .before in
     let g = s .args in
-    let l = operand (g .left-starts .now) (g .left-corners .now) (g .left-bounds) in
-    let r = operand (g .right-starts .now) (g .right-corners .now) (g .right-bounds) in
-    let j = judged l r (s .pre) in
-    record {
-      accepted = s .pre;
-      left = large l (j .0) refl refl;
-      right = large r (j .1) refl refl;
-    }
+    large (callOf (g .operation) (g .left-starts .now) (g .left-corners .now) (g .right-starts .now) (g .right-corners .now)) (s .pre) refl refl
 
 same-length : tie.Need-same-length
 same-length c = search needs
@@ -42,14 +28,4 @@ returns : tie.Need-returns
 returns c = search needs
 
 pub pairs-large-spec : {M : Type 1} → statement M
-pairs-large-spec =
-    tie.close
-    (tie.spec
-    slice-aggregate-pairs-over
-    slice-aggregate-pairs-over-2
-    slice-aggregate-pairs-over-3
-    slice-aggregate-pairs-over-4
-    pairs-over-requires
-    same-length
-    same-length-2
-    returns)
+pairs-large-spec = tie.close (tie.spec slice-aggregate-pairs-over slice-aggregate-pairs-over-2 pairs-over-requires same-length same-length-2 returns)

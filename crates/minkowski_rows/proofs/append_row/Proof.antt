@@ -1,20 +1,27 @@
 -- `minkowski_rows::append_row` meets its contract: after q turns the contours with the first q right walks are put. Assumes nothing.
-use mathlib.Core.Path.{_≡_, subst}
+use mathlib.Core.Path.{_≡_, sym, subst}
 use mathlib.Core.List.{[]}
 use Prim.Native.Nat.{_+_, _-_, _≤_}
 use native.Mathlib.Omega.{arith}
 use lib.ListN.{take}
-use Rattle.pair_merge.specs.Putting.{pointsIn}
-use Rattle.minkowski_rows.specs.Rows.{walksIn, mergedRow, PairsPut}
-use Rattle.minkowski_rows.proofs.Pairs.{pairs-none, walk-inside, row-room, row-more, row-done}
+use Rattle.pair_walks.specs.Walks.{walkIn, rightsIn, mergedRow}
+use Rattle.pair_walks.proofs.Operands.{walks-enough, right-walk, rights-count}
+use Rattle.minkowski_rows.specs.Rows.{PairsPut}
+use Rattle.minkowski_rows.proofs.Pairs.{pairs-none, row-room, row-more, row-done}
 use Rattle.minkowski_rows.proofs.append_row.Statement.{statement}
 use Rattle.minkowski_rows.proofs.append_row.Tie as tie
 
 abbrev Inv-loop : tie.InvT-loop
-Inv-loop a firsts points count starts₀ n out₀ at k₀ q₀ starts out k q = (q ≤ count) × PairsPut (mergedRow (pointsIn a) (take q (walksIn firsts points count))) starts₀ n out₀ at starts (n + q) out k
+Inv-loop firsts points left right p starts₀ n out₀ at count k₀ q₀ starts out k q =
+    (q ≤ right) × PairsPut (mergedRow (walkIn firsts points (left + right) p) (take q (rightsIn firsts points left right))) starts₀ n out₀ at starts (n + q) out k
 
 abbrev μ-loop : tie.MeasureT-loop
-μ-loop a firsts points count starts₀ n out₀ at k₀ q₀ starts out k q = count - q
+μ-loop firsts points left right p starts₀ n out₀ at count k₀ q₀ starts out k q = right - q
+
+add-count : tie.Need-add-count Inv-loop μ-loop
+add-count c =
+    let s = c .before .before in
+    omega (arith, walks-enough _ _ (s .args .left + s .args .right) (s .pre .0))
 
 loop-holds : tie.Need-loop-holds Inv-loop μ-loop
 loop-holds c =
@@ -23,17 +30,29 @@ loop-holds c =
 
 add-append-one : tie.Need-add-append-one Inv-loop μ-loop
 add-append-one c =
+    let s = c .before .before .before .before in
+    omega (arith, c .loop-test .taken, walks-enough _ _ (s .args .left + s .args .right) (s .pre .0))
+
+add-append-one-2 : tie.Need-add-append-one-2 Inv-loop μ-loop
+add-append-one-2 c =
     let s = c .before .before .before .before .before in
+    let g = s .args in
     let l = c .before .before .loop in
-    let t = c .before .loop-test .taken in
-    omega (arith, row-room (pointsIn (s .args .a .now)) (walksIn (s .args .firsts .now) (s .args .points .now) (s .args .count)) (l .q) (walk-inside _ _ (s .args .count) (l .q) (s .pre .1) t) (s .pre .2) (l .inv .1) .for-starts, l .inv .1 .starts-size)
+    let h = rights-count (g .firsts .now) (g .points .now) (g .left) (g .right) (s .pre .0) in
+    omega (arith, row-room (walkIn (g .firsts .now) (g .points .now) (g .left + g .right) (g .p)) (rightsIn (g .firsts .now) (g .points .now) (g .left) (g .right)) (l .q) (omega (arith, c .before .loop-test .taken, h)) (right-walk (g .firsts .now) (g .points .now) (g .left) (g .right) (l .q)) (s .pre .2) (l .inv .1) .for-starts, l .inv .1 .starts-size)
 
 append-one-requires : tie.Need-append-one-requires Inv-loop μ-loop
 append-one-requires c κs =
     let s = c .before .before .before .before .before .before in
+    let g = s .args in
     let l = c .before .before .before .loop in
     let t = c .before .before .loop-test .taken in
-    (s .pre .0, s .pre .1, t, row-room (pointsIn (s .args .a .now)) (walksIn (s .args .firsts .now) (s .args .points .now) (s .args .count)) (l .q) (walk-inside _ _ (s .args .count) (l .q) (s .pre .1) t) (s .pre .2) (l .inv .1))
+    let h = rights-count (g .firsts .now) (g .points .now) (g .left) (g .right) (s .pre .0) in (
+      s .pre .0,
+      omega (arith, s .pre .1),
+      omega (arith, t),
+      row-room (walkIn (g .firsts .now) (g .points .now) (g .left + g .right) (g .p)) (rightsIn (g .firsts .now) (g .points .now) (g .left) (g .right)) (l .q) (omega (arith, t, h)) (right-walk (g .firsts .now) (g .points .now) (g .left) (g .right) (l .q)) (s .pre .2) (l .inv .1),
+    )
 
 add-q : tie.Need-add-q Inv-loop μ-loop
 add-q c = omega (arith, c .before .before .before .before .before .before .loop-test .taken)
@@ -44,9 +63,11 @@ loop-less c = omega (arith, c .before .before .before .before .before .before .l
 loop-again : tie.Need-loop-again Inv-loop μ-loop
 loop-again c =
     let s = c .before .before .before .before .before .before .before .before .before .before in
+    let g = s .args in
     let l = c .before .before .before .before .before .before .before .loop in
     let t = c .before .before .before .before .before .before .loop-test .taken in
-    (omega (arith, t), row-more (pointsIn (s .args .a .now)) (walksIn (s .args .firsts .now) (s .args .points .now) (s .args .count)) (l .q) (walk-inside _ _ (s .args .count) (l .q) (s .pre .1) t) (l .inv .1) (c .before .before .before .append-one .ensures) (omega arith))
+    let h = rights-count (g .firsts .now) (g .points .now) (g .left) (g .right) (s .pre .0) in
+    (omega (arith, t), row-more (walkIn (g .firsts .now) (g .points .now) (g .left + g .right) (g .p)) (rightsIn (g .firsts .now) (g .points .now) (g .left) (g .right)) (l .q) (omega (arith, t, h)) (right-walk (g .firsts .now) (g .points .now) (g .left) (g .right) (l .q)) (l .inv .1) (c .before .before .before .append-one .ensures) (omega arith))
 
 same-length : tie.Need-same-length Inv-loop μ-loop
 same-length c = c .before .loop .inv .1 .starts-size
@@ -57,10 +78,10 @@ same-length-2 c = c .before .loop .inv .1 .out-size
 returns : tie.Need-returns Inv-loop μ-loop
 returns c =
     let s = c .before .before .before .before in
+    let g = s .args in
     let l = c .before .loop in
-    let ws = walksIn (s .args .firsts .now) (s .args .points .now) (s .args .count) in
-    let e : l .q ≡ s .args .count = omega (arith, c .loop-test .left, l .inv .0) in
-    row-done (pointsIn (s .args .a .now)) ws (l .q) e (s .pre .1 .gathered .parts) (l .inv .1)
+    let e : l .q ≡ g .right = omega (arith, c .loop-test .left, l .inv .0) in
+    row-done (walkIn (g .firsts .now) (g .points .now) (g .left + g .right) (g .p)) (rightsIn (g .firsts .now) (g .points .now) (g .left) (g .right)) (l .q) e (sym (rights-count (g .firsts .now) (g .points .now) (g .left) (g .right) (s .pre .0))) (l .inv .1)
 
 pub append-row-spec : {M : Type 1} → statement M
 append-row-spec =
@@ -68,8 +89,10 @@ append-row-spec =
     (tie.spec
     Inv-loop
     μ-loop
+    add-count
     loop-holds
     add-append-one
+    add-append-one-2
     append-one-requires
     add-q
     loop-less

@@ -5,10 +5,10 @@ use borrow.Author.Needs.{needs}
 use lib.ListN.{length}
 use Rattle.table.proofs.Rules.{sound}
 use Rattle.minkowski.specs.Pairs.{resultBounds, pairContours}
-use Rattle.minkowski_faults.specs.Kinds.{operand}
 use Rattle.minkowski_answer.proofs.Answer.{refused}
-use Rattle.minkowski_work.proofs.Faults.{walks-refused, room-decides, judged}
-use Rattle.minkowski_work.proofs.Walked.{unrolleds, answered}
+use Rattle.minkowski_work.specs.Scratch.{callOf}
+use Rattle.minkowski_work.proofs.Faults.{walks-refused, room-decides}
+use Rattle.minkowski_work.proofs.Walked.{left-judged, right-judged, unrolleds, answered}
 use Rattle.minkowski_work.proofs.pairs_over.Statement.{statement}
 use Rattle.minkowski_work.proofs.pairs_over.Tie as tie
 
@@ -24,65 +24,54 @@ same-length c = search needs
 same-length-2 : tie.Need-same-length-2
 same-length-2 c = search needs
 
+returns : tie.Need-returns
+returns c =
+    let s = c .before .before .before .before .before .before .before .before .before .before .before .before in
+    let g = s .args in
+    let x = callOf (g .operation) (g .left-starts .now) (g .left-corners .now) (g .right-starts .now) (g .right-corners .now) in
+    let e = walks-refused (x .reflected) (x .left) (x .right) (length (g .starts .now)) (length (g .corners .now)) (s .pre .accepted) (c .before .before .before .before .before .walks-fault .ensures .told) (c .before .if1 .taken) in
+    refused (pairContours (x .reflected) (x .left) (x .right)) (resultBounds (x .reflected) (x .left .bounds) (x .right .bounds)) (g .starts .now) (g .corners .now) e (c .before .if1 .taken) (c .refusal .ensures)
+
+result-bounds-requires : tie.Need-result-bounds-requires
+result-bounds-requires c κs =
+    let s = c .before .before .before .before .before .before .before .before .before .before .before in
+    let g = s .args in
+    let x = callOf (g .operation) (g .left-starts .now) (g .left-corners .now) (g .right-starts .now) (g .right-corners .now) in
+    (left-judged x (s .pre .accepted) .bounded, right-judged x (s .pre .accepted) .bounded)
+
+most-corners-requires : tie.Need-most-corners-requires
+most-corners-requires c κs =
+    let s = c .before .before .before .before .before .before .before .before .before .before .before .before in
+    let g = s .args in
+    let x = callOf (g .operation) (g .left-starts .now) (g .left-corners .now) (g .right-starts .now) (g .right-corners .now) in
+    (left-judged x (s .pre .accepted) .sound, right-judged x (s .pre .accepted) .sound)
+
+sub-left : tie.Need-sub-left
+sub-left c =
+    let s = c .before .before .before .before .before .before .before .before .before .before .before .before .before in
+    let g = s .args in
+    let x = callOf (g .operation) (g .left-starts .now) (g .left-corners .now) (g .right-starts .now) (g .right-corners .now) in
+    omega (arith, sound (x .left .starts) (x .left .corners) (left-judged x (s .pre .accepted) .sound) .some)
+
+sub-right : tie.Need-sub-right
+sub-right c =
+    let s = c .before .before .before .before .before .before .before .before .before .before .before .before .before in
+    let g = s .args in
+    let x = callOf (g .operation) (g .left-starts .now) (g .left-corners .now) (g .right-starts .now) (g .right-corners .now) in
+    omega (arith, sound (x .right .starts) (x .right .corners) (right-judged x (s .pre .accepted) .sound) .some)
+
+hand-out-requires : tie.Need-hand-out-requires
+hand-out-requires c κs =
+    let s = c .before .before .before .before .before .before .before .before .before .before .before .before .before .before .before .before .before in
+    let g = s .args in
+    let x = callOf (g .operation) (g .left-starts .now) (g .left-corners .now) (g .right-starts .now) (g .right-corners .now) in
+    unrolleds x (c .before .before .before .before .before .before .before .before .before .before .walks-fault .ensures .walked (c .before .before .before .before .before .before .if1 .left)) (s .pre .accepted) (c .before .before .before .before .most-corners .ensures)
+
 same-length-3 : tie.Need-same-length-3
 same-length-3 c = search needs
 
 same-length-4 : tie.Need-same-length-4
 same-length-4 c = search needs
-
-returns : tie.Need-returns
-returns c =
-    let s = c .before .before .before .before .before .before .before .before .before .before .before .before .before .before .before .before .before .before in
-    let g = s .args in
-    let l = operand (g .left-starts .now) (g .left-corners .now) (g .left-bounds) in
-    let r = operand (g .right-starts .now) (g .right-corners .now) (g .right-bounds) in
-    let w = c .before .before .before .before .before .before .before .before .walks-fault .ensures in
-    refused (pairContours (g .reflected) l r) (resultBounds (g .reflected) (g .left-bounds) (g .right-bounds)) (g .starts .now) (g .corners .now) (walks-refused (g .reflected) l r (length (g .starts .now)) (length (g .corners .now)) (s .pre .accepted) (w .told) (c .before .if1 .taken)) (c .before .if1 .taken) (c .refusal .ensures)
-
-result-bounds-requires : tie.Need-result-bounds-requires
-result-bounds-requires c κs =
-    let s = c .before .before .before .before .before .before .before .before .before .before .before .before .before .before .before .before .before in
-    let g = s .args in
-    let l = operand (g .left-starts .now) (g .left-corners .now) (g .left-bounds) in
-    let r = operand (g .right-starts .now) (g .right-corners .now) (g .right-bounds) in
-    let j = judged l r (s .pre .accepted) in
-    (j .0 .bounded, j .1 .bounded)
-
-most-corners-requires : tie.Need-most-corners-requires
-most-corners-requires c κs =
-    let s = c .before .before .before .before .before .before .before .before .before .before .before .before .before .before .before .before .before .before in
-    let g = s .args in
-    let l = operand (g .left-starts .now) (g .left-corners .now) (g .left-bounds) in
-    let r = operand (g .right-starts .now) (g .right-corners .now) (g .right-bounds) in
-    let j = judged l r (s .pre .accepted) in
-    (j .0 .sound, j .1 .sound)
-
-sub-left : tie.Need-sub-left
-sub-left c =
-    let s = c .before .before .before .before .before .before .before .before .before .before .before .before .before .before .before .before .before .before .before in
-    let g = s .args in
-    let l = operand (g .left-starts .now) (g .left-corners .now) (g .left-bounds) in
-    let r = operand (g .right-starts .now) (g .right-corners .now) (g .right-bounds) in
-    omega (arith, sound (l .starts) (l .corners) (judged l r (s .pre .accepted) .0 .sound) .some, sound (r .starts) (r .corners) (judged l r (s .pre .accepted) .1 .sound) .some)
-
-sub-right : tie.Need-sub-right
-sub-right c =
-    let s = c .before .before .before .before .before .before .before .before .before .before .before .before .before .before .before .before .before .before .before in
-    let g = s .args in
-    let l = operand (g .left-starts .now) (g .left-corners .now) (g .left-bounds) in
-    let r = operand (g .right-starts .now) (g .right-corners .now) (g .right-bounds) in
-    omega (arith, sound (l .starts) (l .corners) (judged l r (s .pre .accepted) .0 .sound) .some, sound (r .starts) (r .corners) (judged l r (s .pre .accepted) .1 .sound) .some)
-
-hand-out-requires : tie.Need-hand-out-requires
-hand-out-requires c κs =
-    let s = c .before .before .before .before .before .before .before .before .before .before .before .before .before .before .before .before .before .before .before .before .before .before .before .before .before in
-    let g = s .args in
-    let l = operand (g .left-starts .now) (g .left-corners .now) (g .left-bounds) in
-    let r = operand (g .right-starts .now) (g .right-corners .now) (g .right-bounds) in
-    let w = c .before .before .before .before .before .before .before .before .before .before .before .before .before .before .before .walks-fault .ensures in
-    let n = c .before .before .before .before .before .before .before .before .if1 .left in
-    let j = judged l r (s .pre .accepted) in
-    unrolleds (g .reflected) l r (w .left n) (w .right n) (j .0) (j .1) (c .before .before .before .before .before .before .most-corners .ensures)
 
 same-length-5 : tie.Need-same-length-5
 same-length-5 c = search needs
@@ -90,28 +79,15 @@ same-length-5 c = search needs
 same-length-6 : tie.Need-same-length-6
 same-length-6 c = search needs
 
-same-length-7 : tie.Need-same-length-7
-same-length-7 c = search needs
-
-same-length-8 : tie.Need-same-length-8
-same-length-8 c = search needs
-
-same-length-9 : tie.Need-same-length-9
-same-length-9 c = search needs
-
-same-length-10 : tie.Need-same-length-10
-same-length-10 c = search needs
-
 returns-2 : tie.Need-returns-2
 returns-2 c =
-    let s = c .before .before .before .before .before .before .before .before .before .before .before .before .before .before .before .before .before .before .before .before .before .before .before .before .before .before .before .before .before in
+    let s = c .before .before .before .before .before .before .before .before .before .before .before .before .before .before .before .before .before .before .before .before .before in
     let g = s .args in
-    let l = operand (g .left-starts .now) (g .left-corners .now) (g .left-bounds) in
-    let r = operand (g .right-starts .now) (g .right-corners .now) (g .right-bounds) in
-    let w = c .before .before .before .before .before .before .before .before .before .before .before .before .before .before .before .before .before .before .before .walks-fault .ensures in
-    let n = c .before .before .before .before .before .before .before .before .before .before .before .before .if1 .left in
-    let d = room-decides (g .reflected) l r (length (g .starts .now)) (length (g .corners .now)) (s .pre .accepted) (sym (w .told) ∙ n) in
-    answered (g .reflected) l r (w .left n) (w .right n) (g .starts .now) (g .corners .now) d (c .before .before .before .before .before .before .before .before .before .before .before .result-bounds .ensures) (c .before .before .before .hand-out .ensures)
+    let x = callOf (g .operation) (g .left-starts .now) (g .left-corners .now) (g .right-starts .now) (g .right-corners .now) in
+    let w = c .before .before .before .before .before .before .before .before .before .before .before .before .before .before .walks-fault .ensures in
+    let n = c .before .before .before .before .before .before .before .before .before .before .if1 .left in
+    let d = room-decides (x .reflected) (x .left) (x .right) (length (g .starts .now)) (length (g .corners .now)) (s .pre .accepted) (sym (w .told) ∙ n) in
+    answered x (w .walked n) (g .starts .now) (g .corners .now) d (c .before .before .before .before .before .before .before .before .before .result-bounds .ensures) (c .before .before .before .hand-out .ensures)
 
 pub pairs-over-spec : {M : Type 1} → statement M
 pairs-over-spec =
@@ -121,18 +97,14 @@ pairs-over-spec =
     refusal-requires
     same-length
     same-length-2
-    same-length-3
-    same-length-4
     returns
     result-bounds-requires
     most-corners-requires
     sub-left
     sub-right
     hand-out-requires
+    same-length-3
+    same-length-4
     same-length-5
     same-length-6
-    same-length-7
-    same-length-8
-    same-length-9
-    same-length-10
     returns-2)

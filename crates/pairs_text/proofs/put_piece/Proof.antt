@@ -14,32 +14,32 @@ same-length c = search needs
 
 returns : tie.Need-returns
 returns c =
-    let g = c .before .before .before .before .before .before .before .before .args in
-    put-as (piece-first (g .begun) (g .lf .now) (g .lp .now) (g .rf .now) (g .rp .now) (c .before .before .before .before .if1 .taken)) (c .before .before .put-first .ensures)
+    let g = c .before .before .before .before .before .before .before .args in
+    put-as (piece-first (g .begun) (g .firsts .now) (g .points .now) (c .before .before .before .before .if1 .taken)) (c .before .before .put-first .ensures)
 
 sub-p : tie.Need-sub-p
 sub-p c = search needs
 
 div-p : tie.Need-div-p
 div-p c =
-    let s = c .before .before .before .before in
+    let s = c .before .before .before in
     let g = s .args in
-    omega (arith, some-right (g .begun) (g .lf .now) (g .lp .now) (g .rf .now) (g .rp .now) (s .pre) (c .if1 .left))
+    omega (arith, some-right (g .begun) (g .firsts .now) (g .points .now) (s .pre) (c .if1 .left))
 
 sub-q : tie.Need-sub-q
 sub-q c = search needs
 
 rem-q : tie.Need-rem-q
 rem-q c =
-    let s = c .before .before .before .before in
+    let s = c .before .before .before in
     let g = s .args in
-    omega (arith, some-right (g .begun) (g .lf .now) (g .lp .now) (g .rf .now) (g .rp .now) (s .pre) (c .if1 .left))
+    omega (arith, some-right (g .begun) (g .firsts .now) (g .points .now) (s .pre) (c .if1 .left))
 
 put-line-requires : tie.Need-put-line-requires
 put-line-requires c κs =
-    let s = c .before .before .before .before .before .before in
+    let s = c .before .before .before .before .before in
     let g = s .args in
-    puttable (g .begun) (g .lf .now) (g .lp .now) (g .rf .now) (g .rp .now) (s .pre) (c .before .before .if1 .left)
+    puttable (g .begun) (g .firsts .now) (g .points .now) (s .pre) (c .before .before .if1 .left)
 
 same-length-2 : tie.Need-same-length-2
 same-length-2 c = search needs
@@ -49,22 +49,9 @@ same-length-3 c = search needs
 
 returns-2 : tie.Need-returns-2
 returns-2 c =
-    let s = c .before .before .before .before .before .before .before .before .before .before in
+    let s = c .before .before .before .before .before .before .before .before .before in
     let g = s .args in
-    put-as (piece-line (g .begun) (g .lf .now) (g .lp .now) (g .rf .now) (g .rp .now) (g .k) (c .before .before .before .before .before .before .if1 .left) (s .pre .inside)) (c .before .before .before .put-line .ensures)
+    put-as (piece-line (g .begun) (g .firsts .now) (g .points .now) (g .k) (c .before .before .before .before .before .before .if1 .left) (s .pre .inside)) (c .before .before .before .put-line .ensures)
 
 pub put-piece-spec : {M : Type 1} → statement M
-put-piece-spec =
-    tie.close
-    (tie.spec
-    put-first-requires
-    same-length
-    returns
-    sub-p
-    div-p
-    sub-q
-    rem-q
-    put-line-requires
-    same-length-2
-    same-length-3
-    returns-2)
+put-piece-spec = tie.close (tie.spec put-first-requires same-length returns sub-p div-p sub-q rem-q put-line-requires same-length-2 same-length-3 returns-2)

@@ -1,8 +1,8 @@
 -- `pairs_work::begin_job` meets its contract: a fault of the shape is the job's. Assumes nothing.
 use mathlib.Core.Path.{sym, _∙_}
 use borrow.Author.Needs.{needs}
-use Rattle.pairs_job.specs.Job.{reflectedOf, leftOf, rightOf}
 use Rattle.pairs_job.proofs.Shape.{shape-told}
+use Rattle.pairs_work.specs.Begun.{jobCall}
 use Rattle.pairs_work.proofs.Answer.{begun-refused}
 use Rattle.pairs_work.proofs.begin_job.Statement.{statement}
 use Rattle.pairs_work.proofs.begin_job.Tie as tie
@@ -19,11 +19,7 @@ returns c =
     let e = c .before .before .shape-fault .ensures in
     let d = c .before .if1 .taken in
     let t = e ∙ sym (shape-told B (λ q. d (e ∙ q))) in
-    record {
-      answer = begun-refused (reflectedOf B) (leftOf B) (rightOf B) t d (c .refused .ensures);
-      left = λ q. absurd (d (t ∙ q));
-      right = λ q. absurd (d (t ∙ q));
-    }
+    record { answer = begun-refused (jobCall B) t d (c .refused .ensures); walked = λ q. absurd (d (t ∙ q)) }
 
 slice-aggregate-begin-shaped : tie.Need-slice-aggregate-begin-shaped
 slice-aggregate-begin-shaped c = search needs

@@ -10,14 +10,10 @@ use Rattle.pairs_work.proofs.begin_shaped.Statement.{statement}
 use Rattle.pairs_work.proofs.begin_shaped.Tie as tie
 
 right-place-requires : tie.Need-right-place-requires
-right-place-requires c κs =
-    let s = c .before .before .before in
-    omega (arith, long-enough _ (s .pre .shape))
+right-place-requires c κs = omega (arith, long-enough _ (c .before .before .before .pre .shape))
 
 word-at-requires : tie.Need-word-at-requires
-word-at-requires c κs =
-    let s = c .before .before .before .before in
-    omega (arith, long-enough _ (s .pre .shape))
+word-at-requires c κs = omega (arith, long-enough _ (c .before .before .before .before .pre .shape))
 
 cast-l : tie.Need-cast-l
 cast-l c = search needs
@@ -26,17 +22,14 @@ add-word-at : tie.Need-add-word-at
 add-word-at c = search needs
 
 word-at-requires-2 : tie.Need-word-at-requires-2
-word-at-requires-2 c κs =
-    let s = c .before .before .before .before .before in
-    omega (arith, long-enough _ (s .pre .shape))
+word-at-requires-2 c κs = omega (arith, long-enough _ (c .before .before .before .before .before .pre .shape))
 
 cast-m : tie.Need-cast-m
 cast-m c = search needs
 
 word-at-requires-3 : tie.Need-word-at-requires-3
 word-at-requires-3 c κs =
-    let s = c .before .before .before .before .before .before in
-    let a = right-after _ (s .pre .shape) (c .before .before .right-place .ensures .0) in
+    let a = right-after _ (c .before .before .before .before .before .before .pre .shape) (c .before .before .right-place .ensures .0) in
     omega (arith, a .0, a .1)
 
 cast-r : tie.Need-cast-r
@@ -47,8 +40,7 @@ add-word-at-2 c = search needs
 
 word-at-requires-4 : tie.Need-word-at-requires-4
 word-at-requires-4 c κs =
-    let s = c .before .before .before .before .before .before .before in
-    let a = right-after _ (s .pre .shape) (c .before .before .before .right-place .ensures .0) in
+    let a = right-after _ (c .before .before .before .before .before .before .before .pre .shape) (c .before .before .before .right-place .ensures .0) in
     omega (arith, a .0, a .1)
 
 cast-n : tie.Need-cast-n
@@ -66,24 +58,20 @@ read-operand-requires-2 c κs =
 
 word-at-requires-5 : tie.Need-word-at-requires-5
 word-at-requires-5 c κs =
-    let s = c .before .before .before .before .before .before .before .before .before .before .before .before .before .before .before .before .before .before .before .before in
-    omega (arith, long-enough _ (s .pre .shape))
+    omega (arith, long-enough _ (c .before .before .before .before .before .before .before .before .before .before .before .before .before .before .before .before .before .before .before .before .pre .shape))
 
 bounds-at-requires : tie.Need-bounds-at-requires
 bounds-at-requires c κs =
-    let s = c .before .before .before .before .before .before .before .before .before .before .before .before .before .before .before .before .before .before .before .before .before in
-    omega (arith, long-enough _ (s .pre .shape))
+    omega (arith, long-enough _ (c .before .before .before .before .before .before .before .before .before .before .before .before .before .before .before .before .before .before .before .before .before .pre .shape))
 
 sub-bounds-at : tie.Need-sub-bounds-at
 sub-bounds-at c =
-    let s = c .before .before .before .before .before .before .before .before .before .before .before .before .before .before .before .before .before .before .before .before .before .before in
-    let a = right-after _ (s .pre .shape) (c .before .before .before .before .before .before .before .before .before .before .before .before .before .before .before .before .before .before .right-place .ensures .0) in
+    let a = right-after _ (c .before .before .before .before .before .before .before .before .before .before .before .before .before .before .before .before .before .before .before .before .before .before .pre .shape) (c .before .before .before .before .before .before .before .before .before .before .before .before .before .before .before .before .before .before .right-place .ensures .0) in
     omega (arith, a .0, a .1)
 
 bounds-at-requires-2 : tie.Need-bounds-at-requires-2
 bounds-at-requires-2 c κs =
-    let s = c .before .before .before .before .before .before .before .before .before .before .before .before .before .before .before .before .before .before .before .before .before .before in
-    let a = right-after _ (s .pre .shape) (c .before .before .before .before .before .before .before .before .before .before .before .before .before .before .before .before .before .before .right-place .ensures .0) in
+    let a = right-after _ (c .before .before .before .before .before .before .before .before .before .before .before .before .before .before .before .before .before .before .before .before .before .before .pre .shape) (c .before .before .before .before .before .before .before .before .before .before .before .before .before .before .before .before .before .before .right-place .ensures .0) in
     omega (arith, a .0, a .1)
 
 add-begin-operands : tie.Need-add-begin-operands
@@ -91,144 +79,119 @@ add-begin-operands c = search needs
 
 slice-reshare-prefix-begin-operands : tie.Need-slice-reshare-prefix-begin-operands
 slice-reshare-prefix-begin-operands c =
-    let p2 = c .before .before .before .before .before .before .before .before .before .before .before .before in
-    let p1 = p2 .before .before .before .before .before .before in
-    let s = p1 .before .before .before .before .before in
+    let s = c .before .before .before .before .before .before .before .before .before .before .before .before .before .before .before .before .before .before .before .before .before .before .before in
     let B = s .args .bytes .now in
     let h = left-in B (s .pre .shape) in
-    front-fits (startsAt B 5) (s .args .left-starts .now) (p2 .read-operand .ensures .0) (p1 .word-at .result + 1)
-    (starts-count B 5 h (p1 .word-at .ensures))
+    front-fits (startsAt B 5) (s .args .left-starts .now) (c .before .before .before .before .before .before .before .before .before .before .before .before .read-operand .ensures .0) (c .before .before .before .before .before .before .before .before .before .before .before .before .before .before .before .before .before .before .word-at .result + 1)
+    (starts-count B 5 h (c .before .before .before .before .before .before .before .before .before .before .before .before .before .before .before .before .before .before .word-at .ensures))
 
 slice-aggregate-begin-operands : tie.Need-slice-aggregate-begin-operands
 slice-aggregate-begin-operands c =
-    let p2 = c .before .before .before .before .before .before .before .before .before .before .before .before .before in
-    let p1 = p2 .before .before .before .before .before .before in
-    let s = p1 .before .before .before .before .before in
+    let s = c .before .before .before .before .before .before .before .before .before .before .before .before .before .before .before .before .before .before .before .before .before .before .before .before in
     let B = s .args .bytes .now in
     let h = left-in B (s .pre .shape) in
-    front-length (startsAt B 5) (s .args .left-starts .now) (p2 .read-operand .ensures .0) (p1 .word-at .result + 1)
-    (starts-count B 5 h (p1 .word-at .ensures))
+    front-length (startsAt B 5) (s .args .left-starts .now) (c .before .before .before .before .before .before .before .before .before .before .before .before .before .read-operand .ensures .0) (c .before .before .before .before .before .before .before .before .before .before .before .before .before .before .before .before .before .before .before .word-at .result + 1)
+    (starts-count B 5 h (c .before .before .before .before .before .before .before .before .before .before .before .before .before .before .before .before .before .before .before .word-at .ensures))
 
 mul-begin-operands : tie.Need-mul-begin-operands
 mul-begin-operands c = search needs
 
 slice-reshare-prefix-begin-operands-2 : tie.Need-slice-reshare-prefix-begin-operands-2
 slice-reshare-prefix-begin-operands-2 c =
-    let p2 = c .before .before .before .before .before .before .before .before .before .before .before .before .before in
-    let p1 = p2 .before .before .before .before .before in
-    let s = p1 .before .before .before .before .before .before in
+    let s = c .before .before .before .before .before .before .before .before .before .before .before .before .before .before .before .before .before .before .before .before .before .before .before .before in
     let B = s .args .bytes .now in
     let h = left-in B (s .pre .shape) in
-    front-fits (cornersAt B 5) (s .args .left-corners .now) (p2 .read-operand .ensures .1) (2 * p1 .word-at2 .result)
-    (numbers-count B 5 h (p1 .word-at2 .ensures))
+    front-fits (cornersAt B 5) (s .args .left-corners .now) (c .before .before .before .before .before .before .before .before .before .before .before .before .before .read-operand .ensures .1) (2 * c .before .before .before .before .before .before .before .before .before .before .before .before .before .before .before .before .before .before .word-at2 .result)
+    (numbers-count B 5 h (c .before .before .before .before .before .before .before .before .before .before .before .before .before .before .before .before .before .before .word-at2 .ensures))
 
 slice-aggregate-begin-operands-2 : tie.Need-slice-aggregate-begin-operands-2
 slice-aggregate-begin-operands-2 c =
-    let p2 = c .before .before .before .before .before .before .before .before .before .before .before .before .before .before in
-    let p1 = p2 .before .before .before .before .before in
-    let s = p1 .before .before .before .before .before .before in
+    let s = c .before .before .before .before .before .before .before .before .before .before .before .before .before .before .before .before .before .before .before .before .before .before .before .before .before in
     let B = s .args .bytes .now in
     let h = left-in B (s .pre .shape) in
-    front-length (cornersAt B 5) (s .args .left-corners .now) (p2 .read-operand .ensures .1) (2 * p1 .word-at2 .result)
-    (numbers-count B 5 h (p1 .word-at2 .ensures))
+    front-length (cornersAt B 5) (s .args .left-corners .now) (c .before .before .before .before .before .before .before .before .before .before .before .before .before .before .read-operand .ensures .1) (2 * c .before .before .before .before .before .before .before .before .before .before .before .before .before .before .before .before .before .before .before .word-at2 .result)
+    (numbers-count B 5 h (c .before .before .before .before .before .before .before .before .before .before .before .before .before .before .before .before .before .before .before .word-at2 .ensures))
 
 add-begin-operands-2 : tie.Need-add-begin-operands-2
 add-begin-operands-2 c = search needs
 
 slice-reshare-prefix-begin-operands-3 : tie.Need-slice-reshare-prefix-begin-operands-3
 slice-reshare-prefix-begin-operands-3 c =
-    let p3 = c .before .before .before .before .before .before .before .before in
-    let p2 = p3 .before .before .before .before .before .before .before .before .before .before in
-    let p1 = p2 .before .before .before in
-    let s = p1 .before .before .before .before in
+    let s = c .before .before .before .before .before .before .before .before .before .before .before .before .before .before .before .before .before .before .before .before .before .before .before .before .before in
     let B = s .args .bytes .now in
-    let k = p1 .right-place .result in
-    let h = right-in B (s .pre .shape) (p1 .right-place .ensures .0) in
-    front-fits (startsAt B k) (s .args .right-starts .now) (p3 .read-operand2 .ensures .0) (p2 .word-at3 .result + 1)
-    (starts-count B k h (p2 .word-at3 .ensures))
+    let k = c .before .before .before .before .before .before .before .before .before .before .before .before .before .before .before .before .before .before .before .before .before .right-place .result in
+    let h = right-in B (s .pre .shape) (c .before .before .before .before .before .before .before .before .before .before .before .before .before .before .before .before .before .before .before .before .before .right-place .ensures .0) in
+    front-fits (startsAt B k) (s .args .right-starts .now) (c .before .before .before .before .before .before .before .before .read-operand2 .ensures .0) (c .before .before .before .before .before .before .before .before .before .before .before .before .before .before .before .before .before .before .word-at3 .result + 1)
+    (starts-count B k h (c .before .before .before .before .before .before .before .before .before .before .before .before .before .before .before .before .before .before .word-at3 .ensures))
 
 slice-aggregate-begin-operands-3 : tie.Need-slice-aggregate-begin-operands-3
 slice-aggregate-begin-operands-3 c =
-    let p3 = c .before .before .before .before .before .before .before .before .before in
-    let p2 = p3 .before .before .before .before .before .before .before .before .before .before in
-    let p1 = p2 .before .before .before in
-    let s = p1 .before .before .before .before in
+    let s = c .before .before .before .before .before .before .before .before .before .before .before .before .before .before .before .before .before .before .before .before .before .before .before .before .before .before in
     let B = s .args .bytes .now in
-    let k = p1 .right-place .result in
-    let h = right-in B (s .pre .shape) (p1 .right-place .ensures .0) in
-    front-length (startsAt B k) (s .args .right-starts .now) (p3 .read-operand2 .ensures .0) (p2 .word-at3 .result + 1)
-    (starts-count B k h (p2 .word-at3 .ensures))
+    let k = c .before .before .before .before .before .before .before .before .before .before .before .before .before .before .before .before .before .before .before .before .before .before .right-place .result in
+    let h = right-in B (s .pre .shape) (c .before .before .before .before .before .before .before .before .before .before .before .before .before .before .before .before .before .before .before .before .before .before .right-place .ensures .0) in
+    front-length (startsAt B k) (s .args .right-starts .now) (c .before .before .before .before .before .before .before .before .before .read-operand2 .ensures .0) (c .before .before .before .before .before .before .before .before .before .before .before .before .before .before .before .before .before .before .before .word-at3 .result + 1)
+    (starts-count B k h (c .before .before .before .before .before .before .before .before .before .before .before .before .before .before .before .before .before .before .before .word-at3 .ensures))
 
 mul-begin-operands-2 : tie.Need-mul-begin-operands-2
 mul-begin-operands-2 c = search needs
 
 slice-reshare-prefix-begin-operands-4 : tie.Need-slice-reshare-prefix-begin-operands-4
 slice-reshare-prefix-begin-operands-4 c =
-    let p3 = c .before .before .before .before .before .before .before .before .before in
-    let p2 = p3 .before .before .before .before .before .before .before .before .before in
-    let p1 = p2 .before .before .before .before in
-    let s = p1 .before .before .before .before in
+    let s = c .before .before .before .before .before .before .before .before .before .before .before .before .before .before .before .before .before .before .before .before .before .before .before .before .before .before in
     let B = s .args .bytes .now in
-    let k = p1 .right-place .result in
-    let h = right-in B (s .pre .shape) (p1 .right-place .ensures .0) in
-    front-fits (cornersAt B k) (s .args .right-corners .now) (p3 .read-operand2 .ensures .1) (2 * p2 .word-at4 .result)
-    (numbers-count B k h (p2 .word-at4 .ensures))
+    let k = c .before .before .before .before .before .before .before .before .before .before .before .before .before .before .before .before .before .before .before .before .before .before .right-place .result in
+    let h = right-in B (s .pre .shape) (c .before .before .before .before .before .before .before .before .before .before .before .before .before .before .before .before .before .before .before .before .before .before .right-place .ensures .0) in
+    front-fits (cornersAt B k) (s .args .right-corners .now) (c .before .before .before .before .before .before .before .before .before .read-operand2 .ensures .1) (2 * c .before .before .before .before .before .before .before .before .before .before .before .before .before .before .before .before .before .before .word-at4 .result)
+    (numbers-count B k h (c .before .before .before .before .before .before .before .before .before .before .before .before .before .before .before .before .before .before .word-at4 .ensures))
 
 slice-aggregate-begin-operands-4 : tie.Need-slice-aggregate-begin-operands-4
 slice-aggregate-begin-operands-4 c =
-    let p3 = c .before .before .before .before .before .before .before .before .before .before in
-    let p2 = p3 .before .before .before .before .before .before .before .before .before in
-    let p1 = p2 .before .before .before .before in
-    let s = p1 .before .before .before .before in
+    let s = c .before .before .before .before .before .before .before .before .before .before .before .before .before .before .before .before .before .before .before .before .before .before .before .before .before .before .before in
     let B = s .args .bytes .now in
-    let k = p1 .right-place .result in
-    let h = right-in B (s .pre .shape) (p1 .right-place .ensures .0) in
-    front-length (cornersAt B k) (s .args .right-corners .now) (p3 .read-operand2 .ensures .1) (2 * p2 .word-at4 .result)
-    (numbers-count B k h (p2 .word-at4 .ensures))
+    let k = c .before .before .before .before .before .before .before .before .before .before .before .before .before .before .before .before .before .before .before .before .before .before .before .right-place .result in
+    let h = right-in B (s .pre .shape) (c .before .before .before .before .before .before .before .before .before .before .before .before .before .before .before .before .before .before .before .before .before .before .before .right-place .ensures .0) in
+    front-length (cornersAt B k) (s .args .right-corners .now) (c .before .before .before .before .before .before .before .before .before .before .read-operand2 .ensures .1) (2 * c .before .before .before .before .before .before .before .before .before .before .before .before .before .before .before .before .before .before .before .word-at4 .result)
+    (numbers-count B k h (c .before .before .before .before .before .before .before .before .before .before .before .before .before .before .before .before .before .before .before .word-at4 .ensures))
 
 begin-operands-requires : tie.Need-begin-operands-requires
 begin-operands-requires c κs = search needs
 
 same-length : tie.Need-same-length
-same-length c = c .before .before .before .before .before .before .before .before .before .before .before .before .before .before .before .before .before .before .before .before .left-starts .given
+same-length c =
+    c .before .before .before .before .before .before .before .before .before .before .before .before .before .before .before .before .before .before .left-starts .given
 
 same-length-2 : tie.Need-same-length-2
-same-length-2 c = c .before .before .before .before .before .before .before .before .before .before .before .before .before .before .before .before .before .before .left-corners .given
+same-length-2 c =
+    c .before .before .before .before .before .before .before .before .before .before .before .before .before .before .before .before .left-corners .given
 
 same-length-3 : tie.Need-same-length-3
-same-length-3 c = c .before .before .before .before .before .before .before .before .before .before .before .before .before .before .right-starts .given
+same-length-3 c = c .before .before .before .before .before .before .before .before .before .before .before .before .right-starts .given
 
 same-length-4 : tie.Need-same-length-4
 same-length-4 c = search needs
 
 returns : tie.Need-returns
 returns c =
-    let p7 = c .before .before .before .before .before .before .before .before .before in
-    let p6 = p7 .before .before in
-    let p5 = p6 .before .before .before .before in
-    let p4 = p5 .before .before .before .before .before .before in
-    let p3 = p4 .before .before .before in
-    let p2 = p3 .before .before in
-    let p1 = p2 .before .before in
-    let s = p1 .before .before .before .before in
+    let s = c .before .before .before .before .before .before .before .before .before .before .before .before .before .before .before .before .before .before .before .before .before .before .before .before .before .before .before .before .before .before in
     let B = s .args .bytes .now in
-    let q = p1 .right-place .ensures .0 in
-    let k = p1 .right-place .result in
+    let q = c .before .before .before .before .before .before .before .before .before .before .before .before .before .before .before .before .before .before .before .before .before .before .before .before .before .before .right-place .ensures .0 in
+    let k = c .before .before .before .before .before .before .before .before .before .before .before .before .before .before .before .before .before .before .before .before .before .before .before .before .before .before .right-place .result in
     let h = left-in B (s .pre .shape) in
     let l =
     left-read B
-    (front (startsAt B 5) (s .args .left-starts .now) (p4 .read-operand .ensures .0) (p2 .before .word-at .result + 1)
-    (starts-count B 5 h (p2 .before .word-at .ensures)))
-    (front (cornersAt B 5) (s .args .left-corners .now) (p4 .read-operand .ensures .1) (2 * p2 .word-at2 .result)
-    (numbers-count B 5 h (p2 .word-at2 .ensures))) (p7 .before .bounds-at .ensures) in
+    (front (startsAt B 5) (s .args .left-starts .now) (c .before .before .before .before .before .before .before .before .before .before .before .before .before .before .before .before .before .before .before .read-operand .ensures .0) (c .before .before .before .before .before .before .before .before .before .before .before .before .before .before .before .before .before .before .before .before .before .before .before .before .before .word-at .result + 1)
+    (starts-count B 5 h (c .before .before .before .before .before .before .before .before .before .before .before .before .before .before .before .before .before .before .before .before .before .before .before .before .before .word-at .ensures)))
+    (front (cornersAt B 5) (s .args .left-corners .now) (c .before .before .before .before .before .before .before .before .before .before .before .before .before .before .before .before .before .before .before .read-operand .ensures .1) (2 * c .before .before .before .before .before .before .before .before .before .before .before .before .before .before .before .before .before .before .before .before .before .before .before .before .word-at2 .result)
+    (numbers-count B 5 h (c .before .before .before .before .before .before .before .before .before .before .before .before .before .before .before .before .before .before .before .before .before .before .before .before .word-at2 .ensures))) (c .before .before .before .before .before .before .before .before .bounds-at .ensures) in
     let h = right-in B (s .pre .shape) q in
     let r =
     right-read B q
-    (front (startsAt B k) (s .args .right-starts .now) (p5 .read-operand2 .ensures .0) (p3 .before .word-at3 .result + 1)
-    (starts-count B k h (p3 .before .word-at3 .ensures)))
-    (front (cornersAt B k) (s .args .right-corners .now) (p5 .read-operand2 .ensures .1) (2 * p3 .word-at4 .result)
-    (numbers-count B k h (p3 .word-at4 .ensures))) (p7 .bounds-at2 .ensures) in
-    begun-job B (s .pre .shape) (ap (λ w. eqb w 1) (p6 .word-at5 .ensures)) l r (c .begin-operands .ensures)
+    (front (startsAt B k) (s .args .right-starts .now) (c .before .before .before .before .before .before .before .before .before .before .before .before .before .read-operand2 .ensures .0) (c .before .before .before .before .before .before .before .before .before .before .before .before .before .before .before .before .before .before .before .before .before .before .before .word-at3 .result + 1)
+    (starts-count B k h (c .before .before .before .before .before .before .before .before .before .before .before .before .before .before .before .before .before .before .before .before .before .before .before .word-at3 .ensures)))
+    (front (cornersAt B k) (s .args .right-corners .now) (c .before .before .before .before .before .before .before .before .before .before .before .before .before .read-operand2 .ensures .1) (2 * c .before .before .before .before .before .before .before .before .before .before .before .before .before .before .before .before .before .before .before .before .before .before .word-at4 .result)
+    (numbers-count B k h (c .before .before .before .before .before .before .before .before .before .before .before .before .before .before .before .before .before .before .before .before .before .before .word-at4 .ensures))) (c .before .before .before .before .before .before .before .bounds-at2 .ensures) in
+    begun-job B (s .pre .shape) (ap (λ w. eqb w 1) (c .before .before .before .before .before .before .before .before .before .word-at5 .ensures)) l r (c .begin-operands .ensures)
 
 pub begin-shaped-spec : {M : Type 1} → statement M
 begin-shaped-spec =

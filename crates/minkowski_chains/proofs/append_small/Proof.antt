@@ -1,0 +1,44 @@
+-- `minkowski_chains::append_small` meets its contract: its work buffers hold the corners of a pair of few points. Assumes nothing.
+use mathlib.Core.Path.{refl}
+use Prim.Native.Nat.{_≤_}
+use native.Mathlib.Omega.{arith}
+use lib.ListN.{length}
+use Rattle.minkowski_chains.proofs.Contours.{rooms-long}
+use borrow.Author.Needs.{needs}
+use Rattle.minkowski_chains.proofs.append_small.Statement.{statement}
+use Rattle.minkowski_chains.proofs.append_small.Tie as tie
+
+slice-aggregate-append-used : tie.Need-slice-aggregate-append-used
+slice-aggregate-append-used c = search needs
+
+slice-aggregate-append-used-2 : tie.Need-slice-aggregate-append-used-2
+slice-aggregate-append-used-2 c = search needs
+
+slice-aggregate-append-used-3 : tie.Need-slice-aggregate-append-used-3
+slice-aggregate-append-used-3 c = search needs
+
+append-used-requires : tie.Need-append-used-requires
+append-used-requires c κs =
+    let s = c .before .before .before .before .before .before .before .before in
+    (s .pre .0 .0, rooms-long (s .args .points .now) 1024 (omega (arith, s .pre .0 .1)) refl refl refl, s .pre .1)
+
+same-length : tie.Need-same-length
+same-length c = search needs
+
+same-length-2 : tie.Need-same-length-2
+same-length-2 c = search needs
+
+returns : tie.Need-returns
+returns c = search needs
+
+pub append-small-spec : {M : Type 1} → statement M
+append-small-spec =
+    tie.close
+    (tie.spec
+    slice-aggregate-append-used
+    slice-aggregate-append-used-2
+    slice-aggregate-append-used-3
+    append-used-requires
+    same-length
+    same-length-2
+    returns)

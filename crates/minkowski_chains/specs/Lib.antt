@@ -1,0 +1,2 @@
+-- What contracts cite: pairs in order, and their contours.
+pub mod Contours

@@ -1,0 +1,2 @@
+-- What choosing a size leans on.
+pub mod Sizes
