@@ -78,12 +78,8 @@ mod archive {
             corners_lent: usize,
         ) -> Counts;
         // of libforms.a too: where a walk that holds its contour begins and goes
-        pub fn begun(
-            contour: *const i32,
-            length: usize,
-            reflected: bool,
-            fault: *mut u32,
-        ) -> Place;
+        pub fn begun(contour: *const i32, length: usize, reflected: bool, fault: *mut u32)
+            -> Place;
         pub fn advanced(contour: *const i32, length: usize, at: Place, fault: *mut u32) -> Place;
         pub fn bezinkwolu_read_table(
             bytes: *const u8,
@@ -416,9 +412,8 @@ fn numbered<T>(call: impl FnOnce(*mut u32) -> T) -> (u32, T) {
 }
 
 fn held_begun(contour: Handed<i32>, reflected: bool) -> ToldPlace {
-    let (fault, place) = numbered(|fault| unsafe {
-        archive::begun(contour.at, contour.length, reflected, fault)
-    });
+    let (fault, place) =
+        numbered(|fault| unsafe { archive::begun(contour.at, contour.length, reflected, fault) });
     ToldPlace { fault, place }
 }
 
@@ -554,14 +549,7 @@ fn difference_parts(
 pub fn placement(contours: HandedTable, (x, y): Point) -> ToldPlacement {
     let HandedTable { starts, corners } = contours;
     unsafe {
-        archive::bezinkwolu_placement(
-            starts.at,
-            starts.length,
-            corners.at,
-            corners.length,
-            x,
-            y,
-        )
+        archive::bezinkwolu_placement(starts.at, starts.length, corners.at, corners.length, x, y)
     }
 }
 

@@ -5,8 +5,8 @@
 //! again, and for another mesh each time.
 
 use crate::timing::{median, timed};
-use driver::boundary::{mesh_fault, to_convex_polygons, to_convex_polygons_with_max_vertices};
 use driver::boundary::structs_joined;
+use driver::boundary::{mesh_fault, to_convex_polygons, to_convex_polygons_with_max_vertices};
 use driver::mesh::{rows, Row};
 use driver::told::Counts;
 use i_triangle::advanced::convex::ConvexSplitStrategy::{self, Centroid, EarClipping, Fan};
