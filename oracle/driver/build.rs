@@ -1,6 +1,6 @@
 //! Links the C++ and the earlier build that BENCH_PEERS lists (oracle/peers/archive) into
-//! the benchmark, and libforms.a, of the forms by hand that the package has not. The archive of the Rattle
-//! functions that it has is linked by the crate bezinkwolu.
+//! the benchmark, and libforms.a, of what is exported for the runs alone. The archive of the Rattle
+//! functions that the package has is linked by the crate bezinkwolu.
 
 use std::env;
 

@@ -5,12 +5,13 @@ ghost use mathlib.Core.Path.{_≡_};
 ghost use Rattle.integers.specs.Faults.{firstFault};
 ghost use Rattle.mesh.specs.Mesh.{meshKinds};
 ghost use Rattle.mesh.specs.Rows.{rowsMesh};
-ghost use Rattle.convex.specs.Joining.{partsCounts, partsStarts, partsCorners};
+ghost use Rattle.convex.specs.Joining.{PartsAnswered};
+use mesh::Row;
 use table::Counts;
 
 // mesh_faults::mesh_fault.
 #[no_mangle]
-pub extern "C" fn bezinkwolu_mesh_fault(mesh: &[[i32; 9]]) -> u32
+pub extern "C" fn bezinkwolu_mesh_fault(mesh: &[Row]) -> u32
     ensures { λ r. ⌜ r ≡ firstFault (meshKinds (rowsMesh (now (mesh .entry)))) ⌝ }
 {
     mesh_faults::mesh_fault(mesh)
@@ -19,13 +20,11 @@ pub extern "C" fn bezinkwolu_mesh_fault(mesh: &[[i32; 9]]) -> u32
 // convex_join::to_convex_polygons.
 #[no_mangle]
 pub extern "C" fn bezinkwolu_to_convex_polygons(
-    mesh: &[[i32; 9]],
+    mesh: &[Row],
     starts: &mut [u32],
     corners: &mut [i32],
 ) -> Counts
-    ensures counts { λ r. ⌜ r ≡ partsCounts (rowsMesh (now (mesh .entry))) (now (starts .entry)) (now (corners .entry)) ⌝ }
-    ensures starts { λ r. ⌜ now (starts .exit) ≡ partsStarts (rowsMesh (now (mesh .entry))) (now (starts .entry)) (now (corners .entry)) ⌝ }
-    ensures corners { λ r. ⌜ now (corners .exit) ≡ partsCorners (rowsMesh (now (mesh .entry))) (now (starts .entry)) (now (corners .entry)) ⌝ }
+    ensures { λ r. ⌜ PartsAnswered (rowsMesh (now (mesh .entry))) (now (starts .entry)) (now (corners .entry)) r (now (starts .exit)) (now (corners .exit)) ⌝ }
 {
     convex_join::to_convex_polygons(mesh, starts, corners)
 }

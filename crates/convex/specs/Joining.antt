@@ -14,7 +14,7 @@ use Rattle.plane.specs.Plane.{Pt, O, _-ᵖ_, cross, turn}
 use Rattle.plane.specs.Contour.{lastOf, edges, contourArea}
 use Rattle.mesh.specs.Mesh.{Triangle, Mesh, none, vertex, neighbour, after, before, triangleAt, triangleArea, opposite, meshArea, meshKinds}
 use Rattle.table.specs.declared.Counts.{Counts}
-use Rattle.table.specs.Table.{roomKinds, countsOf, written, startsOf, cornersOf, tableBroken}
+use Rattle.table.specs.Table.{roomKinds, countsOf, written, startsOf, cornersOf, Answered, tableBroken}
 
 -- ---- a region: its contour, its stack of edges, the triangles taken
 
@@ -170,6 +170,10 @@ unfoldable pub partsFault : Mesh → ℕ → ℕ → ℕ
 partsFault m starts corners = firstFault (meshKinds m ++ roomKinds (parts m) starts corners)
 
 -- what a call answers and leaves in the lent starts and corners, which held s and c
+abbrev pub PartsAnswered : Mesh → List ℕ → List ℤ → Counts → List ℕ → List ℤ → Type 0
+PartsAnswered m s c r s′ c′ = Answered (partsFault m (length s) (length c)) (parts m) s c r s′ c′
+
+-- the same, each by itself
 abbrev pub partsCounts : Mesh → List ℕ → List ℤ → Counts
 partsCounts m s c = countsOf (partsFault m (length s) (length c)) (parts m)
 

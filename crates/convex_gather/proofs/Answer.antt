@@ -16,7 +16,7 @@ use Rattle.integers.proofs.Overlay.{overlay-two}
 use Rattle.plane.specs.Plane.{Pt}
 use Rattle.mesh.specs.Mesh.{Mesh, meshKinds}
 use Rattle.table.specs.declared.Counts.{Counts}
-use Rattle.table.specs.Table.{numbersOf, startsOf, cornersOf, roomKinds, countsOf, written}
+use Rattle.table.specs.Table.{numbersOf, startsOf, cornersOf, roomKinds, Answered}
 use Rattle.integers.proofs.Faults.{append-some, append-none}
 use Rattle.table.proofs.Answers.{refused-counts, refused-buffer, accepted-counts, accepted-buffer}
 use Rattle.table.proofs.Corners.{length-numbers, numbers-append}
@@ -24,7 +24,7 @@ use Rattle.table.proofs.Parts.{length-startsFrom}
 use Rattle.convex_gather.specs.declared.Tally.{Tally}
 use Rattle.convex_ring.specs.Buffers.{cornerOf, cornerAt}
 use Rattle.convex_contour.specs.Contour.{firstPoints}
-use Rattle.convex_gather.specs.Gather.{Gathered, Answered, HandedOut}
+use Rattle.convex_gather.specs.Gather.{Gathered, HandedOut}
 
 -- ---- copies
 

@@ -8,7 +8,7 @@ use lib.IntN.{ℤ}
 use Rattle.integers.specs.Faults.{firstFault}
 use Rattle.plane.specs.Plane.{Pt}
 use Rattle.table.specs.declared.Counts.{Counts}
-use Rattle.table.specs.Table.{startsOf, cornersOf, roomKinds, countsOf, written}
+use Rattle.table.specs.Table.{startsOf, roomKinds, Answered}
 use Rattle.convex_ring.specs.Buffers.{cornerOf}
 use Rattle.convex_contour.specs.Contour.{firstPoints}
 use Rattle.convex_gather.specs.declared.Tally.{Tally}
@@ -41,12 +41,6 @@ pub record PartsAppended (qs : List (List Pt)) (starts : List ℕ) (points : Lis
   pub gathered : (ps : List (List Pt)) → Gathered starts points t ps → Gathered starts′ points′ t′ (ps ++ qs)
 
 -- ---- parts handed out to lent starts and corners, which held s and c
-
--- what a call with the fault number f answers and leaves there
-pub record Answered (f : ℕ) (ps : List (List Pt)) (s : List ℕ) (c : List ℤ) (r : Counts) (s′ : List ℕ) (c′ : List ℤ) : Type 0 where
-  pub counts : r ≡ countsOf f ps
-  pub starts : s′ ≡ written f (startsOf ps) s
-  pub corners : c′ ≡ written f (cornersOf ps) c
 
 -- whatever parts are gathered: 22 and 21 are told of them, or they are written
 pub record HandedOut (starts : List ℕ) (points : List (List ℤ)) (t : Tally) (s : List ℕ) (c : List ℤ) (r : Counts) (s′ : List ℕ) (c′ : List ℤ) : Type 0 where

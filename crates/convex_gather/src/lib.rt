@@ -40,7 +40,8 @@ fn copy_starts(from: &[u32], n: usize, to: &mut [u32])
 // Point i as two numbers.
 fn put_pair(points: &[[i32; 2]], i: usize, to: &mut [i32])
     requires { ⌜ (i < length (now points)) × (2 * i + 1 < length (now to)) ⌝ }
-    ensures { λ r. ⌜ now (to .exit) ≡ set (set (now (to .entry)) (2 * i) (cornerAt (now (points .entry)) i .x)) (2 * i + 1) (cornerAt (now (points .entry)) i .y) ⌝ }
+    ensures { λ r. ⌜ now (to .exit) ≡ set (set (now (to .entry)) (2 * i) (cornerAt (now (points .entry)) i .x)) (2 * i + 1)
+        (cornerAt (now (points .entry)) i .y) ⌝ }
 {
     let c = points[i];
     let at = 2 * i;
@@ -80,7 +81,8 @@ pub fn hand_out(
     corners: &mut [i32],
 ) -> Counts
     requires { ⌜ (t .parts < length (now begins)) × (t .corners ≤ length (now points)) × (length (now begins) < 2 ^ 32) × (length (now points) < 2 ^ 32) ⌝ }
-    ensures { λ r. ⌜ HandedOut (now (begins .entry)) (now (points .entry)) t (now (starts .entry)) (now (corners .entry)) r (now (starts .exit)) (now (corners .exit)) ⌝ }
+    ensures { λ r. ⌜ HandedOut (now (begins .entry)) (now (points .entry)) t (now (starts .entry)) (now (corners .entry)) r (now (starts .exit))
+        (now (corners .exit)) ⌝ }
 {
     let parts = t.parts;
     let count = t.corners;

@@ -13,6 +13,7 @@ ghost use Rattle.convex_grow.specs.Growing.{movedBy, pushedBy, Stepped, 
 use convex_ring::Progress;
 use mesh::Far;
 use mesh::NIL_INDEX;
+use mesh::Row;
 
 // The top corner is done.
 fn move_top(corners: &mut [[i32; 2]], p: Progress) -> Progress
@@ -64,14 +65,15 @@ fn push(
 
 // One edge is taken from the top: the triangle across joins, or the top corner is done.
 fn step(
-    mesh: &[[i32; 9]],
+    mesh: &[Row],
     corners: &mut [[i32; 2]],
     edges: &mut [[usize; 2]],
     taken: &mut [bool],
     p: Progress,
 ) -> Progress
     requires { ⌜ Sound (length (now corners)) (rowsMesh (now mesh)) (now corners) (now edges) (now taken) p × (0 < p .pending) ⌝ }
-    ensures { λ r. ⌜ Stepped (length (now (corners .entry))) (rowsMesh (now (mesh .entry))) (now (corners .entry)) (now (edges .entry)) (now (taken .entry)) p (now (corners .exit)) (now (edges .exit)) (now (taken .exit)) r ⌝ }
+    ensures { λ r. ⌜ Stepped (length (now (corners .entry))) (rowsMesh (now (mesh .entry))) (now (corners .entry)) (now (edges .entry)) (now (taken .entry))
+        p (now (corners .exit)) (now (edges .exit)) (now (taken .exit)) r ⌝ }
 {
     let pending = p.pending;
     let edge = edges[pending - 1];
@@ -93,7 +95,7 @@ fn step(
 }
 
 // Vertex i of triangle k as pending corner i, with the edge to the next vertex.
-fn put_vertex(corners: &mut [[i32; 2]], edges: &mut [[usize; 2]], row: [i32; 9], k: usize, i: usize)
+fn put_vertex(corners: &mut [[i32; 2]], edges: &mut [[usize; 2]], row: Row, k: usize, i: usize)
     requires { ⌜ (length (now edges) ≡ length (now corners)) × (3 ≤ length (now corners)) × (i < 3) ⌝ }
     ensures buffer { λ r. ⌜ now (corners .exit) ≡ set (now (corners .entry)) i (pairOf (vertex (rowTriangle row) i)) ⌝ }
     ensures edge { λ r. ⌜ now (edges .exit) ≡ set (now (edges .entry)) i (k ∷ neighbour (rowTriangle row) (before i) ∷ []) ⌝ }
@@ -109,14 +111,17 @@ fn put_vertex(corners: &mut [[i32; 2]], edges: &mut [[usize; 2]], row: [i32; 9],
 
 // Triangle k, which is not taken, starts a region.
 fn start_region(
-    mesh: &[[i32; 9]],
+    mesh: &[Row],
     corners: &mut [[i32; 2]],
     edges: &mut [[usize; 2]],
     taken: &mut [bool],
     k: usize,
 ) -> Progress
-    requires { ⌜ Ready (length (now corners)) (rowsMesh (now mesh)) (now corners) (now edges) (now taken) × (k < length (now mesh)) × (getD (now taken) k false ≡ false) ⌝ }
-    ensures { λ r. ⌜ Started (length (now (corners .entry))) (rowsMesh (now (mesh .entry))) k (now (taken .entry)) (now (corners .exit)) (now (edges .exit)) (now (taken .exit)) r ⌝ }
+    requires { ⌜ Ready (length (now corners)) (rowsMesh (now mesh)) (now corners) (now edges) (now taken)
+        × (k < length (now mesh))
+        × (getD (now taken) k false ≡ false) ⌝ }
+    ensures { λ r. ⌜ Started (length (now (corners .entry))) (rowsMesh (now (mesh .entry))) k (now (taken .entry)) (now (corners .exit)) (now (edges .exit))
+        (now (taken .exit)) r ⌝ }
 {
     let row = mesh[k];
     let size = corners.len();
@@ -133,14 +138,15 @@ fn start_region(
 
 // Edges are taken from the top until none is pending.
 fn run(
-    mesh: &[[i32; 9]],
+    mesh: &[Row],
     corners: &mut [[i32; 2]],
     edges: &mut [[usize; 2]],
     taken: &mut [bool],
     from: Progress,
 ) -> Progress
     requires { ⌜ Sound (length (now corners)) (rowsMesh (now mesh)) (now corners) (now edges) (now taken) from ⌝ }
-    ensures { λ r. ⌜ Ran (length (now (corners .entry))) (rowsMesh (now (mesh .entry))) (now (corners .entry)) (now (edges .entry)) (now (taken .entry)) from (now (corners .exit)) (now (edges .exit)) (now (taken .exit)) r ⌝ }
+    ensures { λ r. ⌜ Ran (length (now (corners .entry))) (rowsMesh (now (mesh .entry))) (now (corners .entry)) (now (edges .entry)) (now (taken .entry))
+        from (now (corners .exit)) (now (edges .exit)) (now (taken .exit)) r ⌝ }
 {
     let mut p = from;
     while p.pending > 0 {
@@ -151,14 +157,17 @@ fn run(
 
 // The region that starts with triangle k, which is not taken: its corners are done, from `done` to the end of the buffer.
 pub fn grow(
-    mesh: &[[i32; 9]],
+    mesh: &[Row],
     corners: &mut [[i32; 2]],
     edges: &mut [[usize; 2]],
     taken: &mut [bool],
     k: usize,
 ) -> Progress
-    requires { ⌜ Ready (length (now corners)) (rowsMesh (now mesh)) (now corners) (now edges) (now taken) × (k < length (now mesh)) × (getD (now taken) k false ≡ false) ⌝ }
-    ensures { λ r. ⌜ Grown (length (now (corners .entry))) (rowsMesh (now (mesh .entry))) k (now (taken .entry)) (now (corners .exit)) (now (edges .exit)) (now (taken .exit)) r ⌝ }
+    requires { ⌜ Ready (length (now corners)) (rowsMesh (now mesh)) (now corners) (now edges) (now taken)
+        × (k < length (now mesh))
+        × (getD (now taken) k false ≡ false) ⌝ }
+    ensures { λ r. ⌜ Grown (length (now (corners .entry))) (rowsMesh (now (mesh .entry))) k (now (taken .entry)) (now (corners .exit)) (now (edges .exit))
+        (now (taken .exit)) r ⌝ }
 {
     let p = start_region(mesh, corners, edges, taken, k);
     run(mesh, corners, edges, taken, p)

@@ -6,11 +6,11 @@ use lib.IntN.{ℤ}
 use Rattle.integers.specs.Faults.{firstFault}
 use Rattle.table.specs.declared.Counts.{Counts}
 use Rattle.mesh.specs.Mesh.{Mesh, meshKinds}
-use Rattle.convex.specs.Joining.{parts, partsFault, partsCounts, partsStarts, partsCorners}
+use Rattle.convex.specs.Joining.{parts, partsFault, PartsAnswered}
 use Rattle.convex_gather.specs.declared.Tally.{Tally}
 use Rattle.convex_gather.specs.Gather.{Gathered, HandedOut}
 use Rattle.convex_gather.proofs.Answer.{mesh-answered}
 
-pub answered : (m : Mesh) {begins : List ℕ} {points : List (List ℤ)} {t : Tally} {s : List ℕ} {c : List ℤ} {r : Counts} {s′ : List ℕ} {c′ : List ℤ} → firstFault (meshKinds m) ≡ 0 → Gathered begins points t (parts m) → HandedOut begins points t s c r s′ c′ → (r ≡ partsCounts m s c) × ((s′ ≡ partsStarts m s c) × (c′ ≡ partsCorners m s c))
+pub answered : (m : Mesh) {begins : List ℕ} {points : List (List ℤ)} {t : Tally} {s : List ℕ} {c : List ℤ} {r : Counts} {s′ : List ℕ} {c′ : List ℤ} → firstFault (meshKinds m) ≡ 0 → Gathered begins points t (parts m) → HandedOut begins points t s c r s′ c′ → PartsAnswered m s c r s′ c′
 unfolding partsFault
-answered m {s = s} {c = c} e g h = let a = mesh-answered m (parts m) s c e (h .answer (parts m) g) in (a .counts, (a .starts, a .corners))
+answered m {s = s} {c = c} e g h = mesh-answered m (parts m) s c e (h .answer (parts m) g)

@@ -14,6 +14,7 @@ ghost use Rattle.convex_ring.specs.Buffers.{Marked, Ready};
 ghost use Rattle.convex_gather.specs.Gather.{Gathered};
 ghost use Rattle.convex_regions.specs.Parts.{tiny, small, medium, Fresh, Room, Joined, Visited};
 use convex_gather::Tally;
+use mesh::Row;
 
 // A mesh of at most so many triangles is tiny, small, or medium; `large` is any that is accepted.
 pub const TINY: usize = 16;
@@ -24,7 +25,7 @@ pub const MEDIUM: usize = 512;
 
 // The region that starts with triangle k, which is not taken, is gathered.
 fn append_region(
-    mesh: &[[i32; 9]],
+    mesh: &[Row],
     corners: &mut [[i32; 2]],
     edges: &mut [[usize; 2]],
     taken: &mut [bool],
@@ -33,8 +34,12 @@ fn append_region(
     k: usize,
     t: Tally,
 ) -> Tally
-    requires { ⌜ Ready (length (now corners)) (rowsMesh (now mesh)) (now corners) (now edges) (now taken) × (k < length (now mesh)) × (getD (now taken) k false ≡ false) × Room (rowsMesh (now mesh)) (now taken) (now starts) (now points) t ⌝ }
-    ensures { λ r. ⌜ Joined (length (now (corners .entry))) (rowsMesh (now (mesh .entry))) k (now (taken .entry)) (now (starts .entry)) (now (points .entry)) t (now (corners .exit)) (now (edges .exit)) (now (taken .exit)) (now (starts .exit)) (now (points .exit)) r ⌝ }
+    requires { ⌜ Ready (length (now corners)) (rowsMesh (now mesh)) (now corners) (now edges) (now taken)
+        × (k < length (now mesh))
+        × (getD (now taken) k false ≡ false)
+        × Room (rowsMesh (now mesh)) (now taken) (now starts) (now points) t ⌝ }
+    ensures { λ r. ⌜ Joined (length (now (corners .entry))) (rowsMesh (now (mesh .entry))) k (now (taken .entry)) (now (starts .entry))
+        (now (points .entry)) t (now (corners .exit)) (now (edges .exit)) (now (taken .exit)) (now (starts .exit)) (now (points .exit)) r ⌝ }
 {
     let p = convex_grow::grow(mesh, corners, edges, taken, k);
     let count = convex_contour::append_contour(corners, p, points, t.corners);
@@ -48,7 +53,7 @@ fn append_region(
 
 // Triangle k starts a region, unless it is taken.
 fn visit(
-    mesh: &[[i32; 9]],
+    mesh: &[Row],
     corners: &mut [[i32; 2]],
     edges: &mut [[usize; 2]],
     taken: &mut [bool],
@@ -57,8 +62,11 @@ fn visit(
     k: usize,
     t: Tally,
 ) -> Tally
-    requires { ⌜ Ready (length (now corners)) (rowsMesh (now mesh)) (now corners) (now edges) (now taken) × (k < length (now mesh)) × Room (rowsMesh (now mesh)) (now taken) (now starts) (now points) t ⌝ }
-    ensures { λ r. ⌜ Visited (length (now (corners .entry))) (rowsMesh (now (mesh .entry))) k (now (taken .entry)) (now (starts .entry)) (now (points .entry)) t (now (corners .exit)) (now (edges .exit)) (now (taken .exit)) (now (starts .exit)) (now (points .exit)) r ⌝ }
+    requires { ⌜ Ready (length (now corners)) (rowsMesh (now mesh)) (now corners) (now edges) (now taken)
+        × (k < length (now mesh))
+        × Room (rowsMesh (now mesh)) (now taken) (now starts) (now points) t ⌝ }
+    ensures { λ r. ⌜ Visited (length (now (corners .entry))) (rowsMesh (now (mesh .entry))) k (now (taken .entry)) (now (starts .entry))
+        (now (points .entry)) t (now (corners .exit)) (now (edges .exit)) (now (taken .exit)) (now (starts .exit)) (now (points .exit)) r ⌝ }
 {
     if taken[k] {
         return t;
@@ -68,15 +76,21 @@ fn visit(
 
 // Unvisited triangles start regions in table order.
 fn visit_all(
-    mesh: &[[i32; 9]],
+    mesh: &[Row],
     corners: &mut [[i32; 2]],
     edges: &mut [[usize; 2]],
     taken: &mut [bool],
     starts: &mut [u32],
     points: &mut [[i32; 2]],
 ) -> Tally
-    requires { ⌜ Ready (length (now corners)) (rowsMesh (now mesh)) (now corners) (now edges) (now taken) × Marked (now taken) [] × (length (now mesh) < length (now starts)) × (3 * length (now mesh) ≤ length (now points)) × (getD (now starts) 0 0 ≡ 0) ⌝ }
-    ensures { λ r. ⌜ Gathered (now (starts .exit)) (now (points .exit)) r (parts (rowsMesh (now (mesh .entry)))) × (r .parts ≤ length (now (mesh .entry))) × (r .corners ≤ 3 * length (now (mesh .entry))) ⌝ }
+    requires { ⌜ Ready (length (now corners)) (rowsMesh (now mesh)) (now corners) (now edges) (now taken)
+        × Marked (now taken) []
+        × (length (now mesh) < length (now starts))
+        × (3 * length (now mesh) ≤ length (now points))
+        × (getD (now starts) 0 0 ≡ 0) ⌝ }
+    ensures { λ r. ⌜ Gathered (now (starts .exit)) (now (points .exit)) r (parts (rowsMesh (now (mesh .entry))))
+        × (r .parts ≤ length (now (mesh .entry)))
+        × (r .corners ≤ 3 * length (now (mesh .entry))) ⌝ }
 {
     let mut t = Tally {
         parts: 0,
@@ -92,15 +106,20 @@ fn visit_all(
 
 // The parts of an accepted mesh, by way of lent work arrays that serve any mesh of so many triangles.
 fn gather_within(
-    mesh: &[[i32; 9]],
+    mesh: &[Row],
     corners: &mut [[i32; 2]],
     edges: &mut [[usize; 2]],
     taken: &mut [bool],
     starts: &mut [u32],
     points: &mut [[i32; 2]],
 ) -> Tally
-    requires { ⌜ (firstFault (meshKinds (rowsMesh (now mesh))) ≡ 0) × Fresh (length (now mesh)) (now corners) (now edges) (now taken) × (length (now mesh) < length (now starts)) × (3 * length (now mesh) ≤ length (now points)) ⌝ }
-    ensures { λ r. ⌜ Gathered (now (starts .exit)) (now (points .exit)) r (parts (rowsMesh (now (mesh .entry)))) × (r .parts ≤ length (now (mesh .entry))) × (r .corners ≤ 3 * length (now (mesh .entry))) ⌝ }
+    requires { ⌜ (firstFault (meshKinds (rowsMesh (now mesh))) ≡ 0)
+        × Fresh (length (now mesh)) (now corners) (now edges) (now taken)
+        × (length (now mesh) < length (now starts))
+        × (3 * length (now mesh) ≤ length (now points)) ⌝ }
+    ensures { λ r. ⌜ Gathered (now (starts .exit)) (now (points .exit)) r (parts (rowsMesh (now (mesh .entry))))
+        × (r .parts ≤ length (now (mesh .entry)))
+        × (r .corners ≤ 3 * length (now (mesh .entry))) ⌝ }
 {
     let n = mesh.len();
     convex_gather::put_start(starts, 0, 0);
@@ -108,9 +127,14 @@ fn gather_within(
 }
 
 // The parts of a tiny mesh that is accepted.
-fn gather_tiny(mesh: &[[i32; 9]], starts: &mut [u32], points: &mut [[i32; 2]]) -> Tally
-    requires { ⌜ (length (now mesh) ≤ tiny) × (firstFault (meshKinds (rowsMesh (now mesh))) ≡ 0) × (length (now mesh) < length (now starts)) × (3 * length (now mesh) ≤ length (now points)) ⌝ }
-    ensures { λ r. ⌜ Gathered (now (starts .exit)) (now (points .exit)) r (parts (rowsMesh (now (mesh .entry)))) × (r .parts ≤ length (now (mesh .entry))) × (r .corners ≤ 3 * length (now (mesh .entry))) ⌝ }
+fn gather_tiny(mesh: &[Row], starts: &mut [u32], points: &mut [[i32; 2]]) -> Tally
+    requires { ⌜ (length (now mesh) ≤ tiny)
+        × (firstFault (meshKinds (rowsMesh (now mesh))) ≡ 0)
+        × (length (now mesh) < length (now starts))
+        × (3 * length (now mesh) ≤ length (now points)) ⌝ }
+    ensures { λ r. ⌜ Gathered (now (starts .exit)) (now (points .exit)) r (parts (rowsMesh (now (mesh .entry))))
+        × (r .parts ≤ length (now (mesh .entry)))
+        × (r .corners ≤ 3 * length (now (mesh .entry))) ⌝ }
 {
     let mut corners = [[0i32; 2]; TINY + 2];
     let mut edges = [[0usize; 2]; TINY + 2];
@@ -119,9 +143,14 @@ fn gather_tiny(mesh: &[[i32; 9]], starts: &mut [u32], points: &mut [[i32; 2]]) -
 }
 
 // The parts of a small mesh that is accepted.
-fn gather_small(mesh: &[[i32; 9]], starts: &mut [u32], points: &mut [[i32; 2]]) -> Tally
-    requires { ⌜ (length (now mesh) ≤ small) × (firstFault (meshKinds (rowsMesh (now mesh))) ≡ 0) × (length (now mesh) < length (now starts)) × (3 * length (now mesh) ≤ length (now points)) ⌝ }
-    ensures { λ r. ⌜ Gathered (now (starts .exit)) (now (points .exit)) r (parts (rowsMesh (now (mesh .entry)))) × (r .parts ≤ length (now (mesh .entry))) × (r .corners ≤ 3 * length (now (mesh .entry))) ⌝ }
+fn gather_small(mesh: &[Row], starts: &mut [u32], points: &mut [[i32; 2]]) -> Tally
+    requires { ⌜ (length (now mesh) ≤ small)
+        × (firstFault (meshKinds (rowsMesh (now mesh))) ≡ 0)
+        × (length (now mesh) < length (now starts))
+        × (3 * length (now mesh) ≤ length (now points)) ⌝ }
+    ensures { λ r. ⌜ Gathered (now (starts .exit)) (now (points .exit)) r (parts (rowsMesh (now (mesh .entry))))
+        × (r .parts ≤ length (now (mesh .entry)))
+        × (r .corners ≤ 3 * length (now (mesh .entry))) ⌝ }
 {
     let mut corners = [[0i32; 2]; SMALL + 2];
     let mut edges = [[0usize; 2]; SMALL + 2];
@@ -130,9 +159,14 @@ fn gather_small(mesh: &[[i32; 9]], starts: &mut [u32], points: &mut [[i32; 2]]) 
 }
 
 // The parts of a medium mesh that is accepted.
-fn gather_medium(mesh: &[[i32; 9]], starts: &mut [u32], points: &mut [[i32; 2]]) -> Tally
-    requires { ⌜ (length (now mesh) ≤ medium) × (firstFault (meshKinds (rowsMesh (now mesh))) ≡ 0) × (length (now mesh) < length (now starts)) × (3 * length (now mesh) ≤ length (now points)) ⌝ }
-    ensures { λ r. ⌜ Gathered (now (starts .exit)) (now (points .exit)) r (parts (rowsMesh (now (mesh .entry)))) × (r .parts ≤ length (now (mesh .entry))) × (r .corners ≤ 3 * length (now (mesh .entry))) ⌝ }
+fn gather_medium(mesh: &[Row], starts: &mut [u32], points: &mut [[i32; 2]]) -> Tally
+    requires { ⌜ (length (now mesh) ≤ medium)
+        × (firstFault (meshKinds (rowsMesh (now mesh))) ≡ 0)
+        × (length (now mesh) < length (now starts))
+        × (3 * length (now mesh) ≤ length (now points)) ⌝ }
+    ensures { λ r. ⌜ Gathered (now (starts .exit)) (now (points .exit)) r (parts (rowsMesh (now (mesh .entry))))
+        × (r .parts ≤ length (now (mesh .entry)))
+        × (r .corners ≤ 3 * length (now (mesh .entry))) ⌝ }
 {
     let mut corners = [[0i32; 2]; MEDIUM + 2];
     let mut edges = [[0usize; 2]; MEDIUM + 2];
@@ -141,9 +175,14 @@ fn gather_medium(mesh: &[[i32; 9]], starts: &mut [u32], points: &mut [[i32; 2]])
 }
 
 // The parts of any mesh that is accepted: document 01 has at most 1,024 triangles.
-fn gather_large(mesh: &[[i32; 9]], starts: &mut [u32], points: &mut [[i32; 2]]) -> Tally
-    requires { ⌜ (length (now mesh) ≤ maxTriangles) × (firstFault (meshKinds (rowsMesh (now mesh))) ≡ 0) × (length (now mesh) < length (now starts)) × (3 * length (now mesh) ≤ length (now points)) ⌝ }
-    ensures { λ r. ⌜ Gathered (now (starts .exit)) (now (points .exit)) r (parts (rowsMesh (now (mesh .entry)))) × (r .parts ≤ length (now (mesh .entry))) × (r .corners ≤ 3 * length (now (mesh .entry))) ⌝ }
+fn gather_large(mesh: &[Row], starts: &mut [u32], points: &mut [[i32; 2]]) -> Tally
+    requires { ⌜ (length (now mesh) ≤ maxTriangles)
+        × (firstFault (meshKinds (rowsMesh (now mesh))) ≡ 0)
+        × (length (now mesh) < length (now starts))
+        × (3 * length (now mesh) ≤ length (now points)) ⌝ }
+    ensures { λ r. ⌜ Gathered (now (starts .exit)) (now (points .exit)) r (parts (rowsMesh (now (mesh .entry))))
+        × (r .parts ≤ length (now (mesh .entry)))
+        × (r .corners ≤ 3 * length (now (mesh .entry))) ⌝ }
 {
     let mut corners = [[0i32; 2]; mesh::MAX_TRIANGLES + 2];
     let mut edges = [[0usize; 2]; mesh::MAX_TRIANGLES + 2];
@@ -152,9 +191,14 @@ fn gather_large(mesh: &[[i32; 9]], starts: &mut [u32], points: &mut [[i32; 2]]) 
 }
 
 // The parts of an accepted mesh, in buffers with a place for a start more than it has triangles, and three times as many for corners.
-pub fn gather(mesh: &[[i32; 9]], starts: &mut [u32], points: &mut [[i32; 2]]) -> Tally
-    requires { ⌜ (length (now mesh) ≤ maxTriangles) × (firstFault (meshKinds (rowsMesh (now mesh))) ≡ 0) × (length (now mesh) < length (now starts)) × (3 * length (now mesh) ≤ length (now points)) ⌝ }
-    ensures { λ r. ⌜ Gathered (now (starts .exit)) (now (points .exit)) r (parts (rowsMesh (now (mesh .entry)))) × (r .parts ≤ length (now (mesh .entry))) × (r .corners ≤ 3 * length (now (mesh .entry))) ⌝ }
+pub fn gather(mesh: &[Row], starts: &mut [u32], points: &mut [[i32; 2]]) -> Tally
+    requires { ⌜ (length (now mesh) ≤ maxTriangles)
+        × (firstFault (meshKinds (rowsMesh (now mesh))) ≡ 0)
+        × (length (now mesh) < length (now starts))
+        × (3 * length (now mesh) ≤ length (now points)) ⌝ }
+    ensures { λ r. ⌜ Gathered (now (starts .exit)) (now (points .exit)) r (parts (rowsMesh (now (mesh .entry))))
+        × (r .parts ≤ length (now (mesh .entry)))
+        × (r .corners ≤ 3 * length (now (mesh .entry))) ⌝ }
 {
     let n = mesh.len();
     if n <= TINY {

@@ -62,7 +62,9 @@ fn ring_end(corners: &[[i32; 2]], pending: usize, done: usize) -> IntPoint
 // Whether the point p joins after the top corner.
 pub fn joins_over(corners: &[[i32; 2]], p: IntPoint, pending: usize, done: usize) -> bool
     requires { ⌜ Around (now corners) pending done × OnGrid p ⌝ }
-    ensures { λ r. ⌜ r ≡ joins (getD (around (now (corners .entry)) pending done) (length (around (now (corners .entry)) pending done) - 1) O) (cornerAt (now (corners .entry)) (pending - 1)) (point p) (getD (around (now (corners .entry)) pending done) 0 O) (getD (around (now (corners .entry)) pending done) 1 O) ⌝ }
+    ensures { λ r. ⌜ r ≡ joins (getD (around (now (corners .entry)) pending done) (length (around (now (corners .entry)) pending done) - 1) O)
+        (cornerAt (now (corners .entry)) (pending - 1)) (point p) (getD (around (now (corners .entry)) pending done) 0 O)
+        (getD (around (now (corners .entry)) pending done) 1 O) ⌝ }
 {
     let a0 = ring_end(corners, pending, done);
     let a = corner_at(corners, pending - 1);

@@ -1,8 +1,9 @@
 // The README's example of joining: the parts of document 01's dart, two triangles that do not join, then the same mesh refused, once for want of
 // a place for the last start and once for a neighbour that is not there. What it prints is its file `stdout`. Leans on convex_join, part_lines and lines.
+use mesh::Row;
 
 // Joins the mesh into the lent places and writes what the call told and what it left there.
-fn print_parts(mesh: &[[i32; 9]], starts: &mut [u32], corners: &mut [i32]) {
+fn print_parts(mesh: &[Row], starts: &mut [u32], corners: &mut [i32]) {
     let counts = convex_join::to_convex_polygons(mesh, starts, corners);
     io::write_all(1, b"joined: ");
     part_lines::print_counts(counts);

@@ -3,12 +3,19 @@
 use mathlib.Core.Path.{_≡_}
 use mathlib.Core.Bool.{true}
 use mathlib.Core.List.{List, map}
-use Prim.Native.Nat.{ℕ}
+use Prim.Native.Nat.{ℕ, _*_}
 use lib.ListN.{getD}
 use lib.IntN.{ℤ, pos}
 use Rattle.integers.specs.Word.{unsigned}
 use Rattle.plane.specs.Plane.{onGrid}
 use Rattle.mesh.specs.Mesh.{Triangle, Mesh, vertex}
+
+-- how many numbers a row has, and how many bytes those take: a record of the mesh file
+abbrev pub rowWidth : ℕ
+rowWidth = 9
+
+abbrev pub rowBytes : ℕ
+rowBytes = 4 * rowWidth
 
 abbrev pub number : List ℤ → ℕ → ℤ
 number row k = getD row k (pos 0)

@@ -13,8 +13,17 @@ pub const NIL_INDEX: usize = 4294967295;
 // Document 01's fault 1.
 pub const MAX_TRIANGLES: usize = 1024;
 
+// The numbers of a triangle's row: six coordinates and three neighbours.
+pub const ROW: usize = 9;
+
+// Their bytes.
+pub const ROW_BYTES: usize = 4 * ROW;
+
+// A triangle as it is lent.
+pub type Row = [i32; ROW];
+
 // Vertex i of a row.
-pub fn vertex_of(row: [i32; 9], i: usize) -> IntPoint
+pub fn vertex_of(row: Row, i: usize) -> IntPoint
     requires { ⌜ i < 3 ⌝ }
     ensures { λ r. ⌜ point r ≡ vertex (rowTriangle row) i ⌝ }
 {
@@ -25,7 +34,7 @@ pub fn vertex_of(row: [i32; 9], i: usize) -> IntPoint
 }
 
 // The neighbour across from vertex i of a row.
-pub fn neighbor_of(row: [i32; 9], i: usize) -> usize
+pub fn neighbor_of(row: Row, i: usize) -> usize
     requires { ⌜ i < 3 ⌝ }
     ensures { λ r. ⌜ r ≡ neighbour (rowTriangle row) i ⌝ }
 {
@@ -41,8 +50,10 @@ pub struct Far {
 
 // A row as it is seen over the side that names n, or over side 2 (the Rust's `opposite`). Each place is named, since a place known only at run time costs
 // more than these tests.
-pub fn far_of(row: [i32; 9], n: usize) -> Far
-    ensures { λ r. ⌜ (point (r .vertex) ≡ vertex (rowTriangle row) (opposite (rowTriangle row) n)) × (r .first ≡ neighbour (rowTriangle row) (after (opposite (rowTriangle row) n))) × (r .second ≡ neighbour (rowTriangle row) (before (opposite (rowTriangle row) n))) ⌝ }
+pub fn far_of(row: Row, n: usize) -> Far
+    ensures { λ r. ⌜ (point (r .vertex) ≡ vertex (rowTriangle row) (opposite (rowTriangle row) n))
+        × (r .first ≡ neighbour (rowTriangle row) (after (opposite (rowTriangle row) n)))
+        × (r .second ≡ neighbour (rowTriangle row) (before (opposite (rowTriangle row) n))) ⌝ }
 {
     let n0 = neighbor_of(row, 0);
     let n1 = neighbor_of(row, 1);
@@ -83,7 +94,7 @@ pub fn after_of(i: usize) -> usize
 }
 
 // The doubled area of a row.
-pub fn area_of(row: [i32; 9]) -> i64
+pub fn area_of(row: Row) -> i64
     requires { ⌜ RowOnGrid row ⌝ }
     ensures { λ r. ⌜ (r ≡ triangleArea (rowTriangle row)) × CrossSize r ⌝ }
 {

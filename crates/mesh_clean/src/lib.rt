@@ -13,9 +13,10 @@ ghost use Rattle.mesh_clean.specs.Packed.{Packs};
 ghost use Rattle.mesh_clean.specs.Clean.{sharesBack, linked, clean};
 ghost use Rattle.mesh_clean.specs.Counted.{Counted, RowCounted};
 use mesh::NIL_INDEX;
+use mesh::Row;
 
 // Vertex i of a row as one number, its coordinates' 32 bits side by side, so that two points are compared at once.
-fn packed_of(row: [i32; 9], i: usize) -> u64
+fn packed_of(row: Row, i: usize) -> u64
     requires { ⌜ i < 3 ⌝ }
     ensures { λ r. ⌜ Packs (vertex (rowTriangle row) i) r ⌝ }
 {
@@ -36,7 +37,7 @@ fn choose(test: bool, yes: u64, no: u64) -> u64
 // Of a row that triangle k names over the edge from a to b, points as numbers: whether its first side that names k runs from b to a. That side is chosen
 // (conditional moves) and not branched on: which it is cannot be foretold, and a branch that is foretold wrong costs more than all the rest. Where no side
 // names k, what is chosen begins at 2^64 - 1 - b, which is not b, since the two add up to an odd number.
-fn names_back(far: [i32; 9], k: usize, a: u64, b: u64) -> bool
+fn names_back(far: Row, k: usize, a: u64, b: u64) -> bool
     ensures { λ r. ⌜ ((p q : Pt) → Packs p a → Packs q b → r ≡ sharesBack (rowTriangle far) k p q) ⌝ }
 {
     let v0 = packed_of(far, 0);
@@ -73,7 +74,7 @@ fn one_if(test: bool) -> usize
 
 // The side of triangle k across whose edge, from a to b, it names n: counted, and where n is before k, whether n's first side that names k runs from b to a.
 // A side that names a triangle after its own is only counted, and one that names none passed over: one branch, n < k, tells both from the rest.
-fn count_side(mesh: &[[i32; 9]], k: usize, n: usize, a: u64, b: u64, s: Seen) -> Seen
+fn count_side(mesh: &[Row], k: usize, n: usize, a: u64, b: u64, s: Seen) -> Seen
     requires { ⌜ (k < length (now mesh)) × (s .before < 2 ^ 32) × (s .after < 2 ^ 32) ⌝ }
     ensures { λ r. ⌜ Counted (rowsMesh (now (mesh .entry))) k n a b s r ⌝ }
 {
@@ -94,7 +95,7 @@ fn count_side(mesh: &[[i32; 9]], k: usize, n: usize, a: u64, b: u64, s: Seen) ->
 }
 
 // The three sides of triangle k, up to the first whose edge is not shared.
-fn count_row(mesh: &[[i32; 9]], k: usize, s: Seen) -> Seen
+fn count_row(mesh: &[Row], k: usize, s: Seen) -> Seen
     requires { ⌜ (k < length (now mesh)) × (s .before + 2 < 2 ^ 32) × (s .after + 2 < 2 ^ 32) ⌝ }
     ensures { λ r. ⌜ RowCounted (rowsMesh (now (mesh .entry))) k (triangleAt (rowsMesh (now (mesh .entry))) k) s r ⌝ }
 {
@@ -114,7 +115,7 @@ fn count_row(mesh: &[[i32; 9]], k: usize, s: Seen) -> Seen
 }
 
 // The second pass: whether the edge of every side that names a triangle before its own is shared, and there are as many sides that name one after it.
-fn all_linked(mesh: &[[i32; 9]]) -> bool
+fn all_linked(mesh: &[Row]) -> bool
     requires { ⌜ length (now mesh) ≤ maxTriangles ⌝ }
     ensures { λ r. ⌜ r ≡ linked (rowsMesh (now (mesh .entry))) ⌝ }
 {
@@ -135,7 +136,7 @@ fn all_linked(mesh: &[[i32; 9]]) -> bool
 }
 
 // Whether every triangle is sound, their doubled areas add up to at most 2^63 - 1, and every edge that has a neighbour is shared. Then the mesh has no fault.
-pub fn is_clean(mesh: &[[i32; 9]]) -> bool
+pub fn is_clean(mesh: &[Row]) -> bool
     requires { ⌜ length (now mesh) ≤ maxTriangles ⌝ }
     ensures { λ r. ⌜ r ≡ clean (rowsMesh (now (mesh .entry))) ⌝ }
 {

@@ -7,9 +7,10 @@ ghost use Rattle.integers.specs.Faults.{firstFault};
 ghost use Rattle.mesh.specs.Mesh.{offGrid, flat, tooLarge, meshKinds};
 ghost use Rattle.mesh.specs.Rows.{rowsMesh};
 use mesh::MAX_TRIANGLES;
+use mesh::Row;
 
 // 2: a coordinate off the grid.
-fn off_grid(mesh: &[[i32; 9]]) -> bool
+fn off_grid(mesh: &[Row]) -> bool
     ensures { λ r. ⌜ r ≡ offGrid (rowsMesh (now (mesh .entry))) ⌝ }
 {
     let mut k: usize = 0;
@@ -23,7 +24,7 @@ fn off_grid(mesh: &[[i32; 9]]) -> bool
 }
 
 // 6: a triangle's doubled area not above 0.
-fn flat(mesh: &[[i32; 9]]) -> bool
+fn flat(mesh: &[Row]) -> bool
     requires { ⌜ offGrid (rowsMesh (now mesh)) ≡ false ⌝ }
     ensures { λ r. ⌜ r ≡ flat (rowsMesh (now (mesh .entry))) ⌝ }
 {
@@ -38,7 +39,7 @@ fn flat(mesh: &[[i32; 9]]) -> bool
 }
 
 // 11: doubled areas that add up to more than 2^63 - 1.
-fn too_large(mesh: &[[i32; 9]]) -> bool
+fn too_large(mesh: &[Row]) -> bool
     requires { ⌜ (offGrid (rowsMesh (now mesh)) ≡ false) × (flat (rowsMesh (now mesh)) ≡ false) ⌝ }
     ensures { λ r. ⌜ r ≡ tooLarge (rowsMesh (now (mesh .entry))) ⌝ }
 {
@@ -56,7 +57,7 @@ fn too_large(mesh: &[[i32; 9]]) -> bool
 }
 
 // The first fault of a mesh, as document 01 orders them; 0 for none.
-pub fn mesh_fault(mesh: &[[i32; 9]]) -> u32
+pub fn mesh_fault(mesh: &[Row]) -> u32
     ensures { λ r. ⌜ r ≡ firstFault (meshKinds (rowsMesh (now (mesh .entry)))) ⌝ }
 {
     if mesh.len() > MAX_TRIANGLES {

@@ -5,6 +5,7 @@ ghost use mathlib.Core.Path.{_≡_};
 ghost use mathlib.Core.List.{[], _∷_};
 ghost use Prim.Native.Nat.{_+_, _≤_};
 ghost use lib.ListN.{length};
+ghost use Rattle.mesh.specs.Rows.{rowWidth};
 ghost use Rattle.fields.specs.Fields.{fieldOf};
 ghost use Rattle.mesh_fields.specs.Entries.{isPoint, pointOf, pointWords, isNeighbour, neighbourOf, isSplit, splitOf};
 ghost use Rattle.field_numbers.specs.Numbers.{valueOf};
@@ -34,7 +35,8 @@ pub fn passed_over(line: &[u8]) -> bool
 // Puts the point that is field k.
 fn put_point_at(line: &[u8], k: usize, at: usize, words: &mut [u32]) -> bool
     requires { ⌜ at + 2 ≤ length (now words) ⌝ }
-    ensures { λ r. ⌜ Put (isPoint (fieldOf k (now (line .entry)))) (pointWords (pointOf (fieldOf k (now (line .entry))))) at (now (words .entry)) (now (words .exit)) r ⌝ }
+    ensures { λ r. ⌜ Put (isPoint (fieldOf k (now (line .entry)))) (pointWords (pointOf (fieldOf k (now (line .entry))))) at (now (words .entry))
+        (now (words .exit)) r ⌝ }
 {
     let entry = fields::field(line, k);
     mesh_fields::put_point(entry, at, words)
@@ -43,7 +45,8 @@ fn put_point_at(line: &[u8], k: usize, at: usize, words: &mut [u32]) -> bool
 // Puts the neighbour that is field k.
 fn put_neighbour_at(line: &[u8], k: usize, at: usize, words: &mut [u32]) -> bool
     requires { ⌜ at + 1 ≤ length (now words) ⌝ }
-    ensures { λ r. ⌜ Put (isNeighbour (fieldOf k (now (line .entry)))) (neighbourOf (fieldOf k (now (line .entry))) ∷ []) at (now (words .entry)) (now (words .exit)) r ⌝ }
+    ensures { λ r. ⌜ Put (isNeighbour (fieldOf k (now (line .entry)))) (neighbourOf (fieldOf k (now (line .entry))) ∷ []) at (now (words .entry))
+        (now (words .exit)) r ⌝ }
 {
     let entry = fields::field(line, k);
     mesh_fields::put_reading(mesh_fields::neighbour(entry), at, words)
@@ -77,7 +80,7 @@ fn put_neighbours(line: &[u8], at: usize, words: &mut [u32]) -> bool
 
 // Puts a triangle's nine words.
 pub fn put_triangle(line: &[u8], at: usize, words: &mut [u32]) -> bool
-    requires { ⌜ at + 9 ≤ length (now words) ⌝ }
+    requires { ⌜ at + rowWidth ≤ length (now words) ⌝ }
     ensures { λ r. ⌜ Put (isTriangle (now (line .entry))) (triangleWords (triangleOf (now (line .entry)))) at (now (words .entry)) (now (words .exit)) r ⌝ }
 {
     if put_points(line, at, words) {
@@ -104,7 +107,8 @@ fn put_limit(line: &[u8], words: &mut [u32]) -> bool
 // Puts the split that is field 2.
 fn put_split(line: &[u8], words: &mut [u32]) -> bool
     requires { ⌜ 2 ≤ length (now words) ⌝ }
-    ensures { λ r. ⌜ Put (isSplit (fieldOf 2 (now (line .entry)))) (splitOf (fieldOf 2 (now (line .entry))) ∷ []) 1 (now (words .entry)) (now (words .exit)) r ⌝ }
+    ensures { λ r. ⌜ Put (isSplit (fieldOf 2 (now (line .entry)))) (splitOf (fieldOf 2 (now (line .entry))) ∷ []) 1 (now (words .entry)) (now (words .exit))
+        r ⌝ }
 {
     let entry = fields::field(line, 2);
     mesh_fields::put_reading(mesh_fields::split(entry), 1, words)

@@ -8,6 +8,7 @@ ghost use Rattle.mesh.specs.Mesh.{triangleAt};
 ghost use Rattle.mesh.specs.Rows.{rowsMesh};
 ghost use Rattle.mesh_neighbors.specs.Earliest.{earlier, edgeFault, backFault, sideFault, rowFault, neighbourFault};
 use mesh::NIL_INDEX;
+use mesh::Row;
 use plane::IntPoint;
 
 // The earlier of two fault numbers; 0 is none.
@@ -40,7 +41,7 @@ fn edge_fault(a: IntPoint, b: IntPoint, p: IntPoint, q: IntPoint) -> u32
 
 // 4 where triangle n does not name k back exactly once, 5 where the edge that it shares so does not run from b to a; else 0. Each place of its row
 // is named, since a place known only at run time costs more than these tests.
-fn back_fault(mesh: &[[i32; 9]], n: usize, k: usize, a: IntPoint, b: IntPoint) -> u32
+fn back_fault(mesh: &[Row], n: usize, k: usize, a: IntPoint, b: IntPoint) -> u32
     requires { ⌜ n < length (now mesh) ⌝ }
     ensures { λ r. ⌜ r ≡ backFault (triangleAt (rowsMesh (now (mesh .entry))) n) k (point a) (point b) ⌝ }
 {
@@ -70,15 +71,7 @@ fn back_fault(mesh: &[[i32; 9]], n: usize, k: usize, a: IntPoint, b: IntPoint) -
 }
 
 // The first of 3, 4 and 5 that holds of n, the neighbour of triangle k across the edge from a to b; o and p are its other two. 0 for none.
-fn side_fault(
-    mesh: &[[i32; 9]],
-    k: usize,
-    n: usize,
-    o: usize,
-    p: usize,
-    a: IntPoint,
-    b: IntPoint,
-) -> u32
+fn side_fault(mesh: &[Row], k: usize, n: usize, o: usize, p: usize, a: IntPoint, b: IntPoint) -> u32
     ensures { λ r. ⌜ r ≡ sideFault (rowsMesh (now (mesh .entry))) k n o p (point a) (point b) ⌝ }
 {
     if n == NIL_INDEX {
@@ -100,7 +93,7 @@ fn side_fault(
 }
 
 // The earliest of the three sides of triangle k.
-fn row_fault(mesh: &[[i32; 9]], k: usize) -> u32
+fn row_fault(mesh: &[Row], k: usize) -> u32
     requires { ⌜ k < length (now mesh) ⌝ }
     ensures { λ r. ⌜ r ≡ rowFault (rowsMesh (now (mesh .entry))) k ⌝ }
 {
@@ -118,7 +111,7 @@ fn row_fault(mesh: &[[i32; 9]], k: usize) -> u32
 }
 
 // The first of 3, 4 and 5 that holds of the mesh; 0 for none.
-pub fn neighbor_fault(mesh: &[[i32; 9]]) -> u32
+pub fn neighbor_fault(mesh: &[Row]) -> u32
     ensures { λ r. ⌜ r ≡ neighbourFault (rowsMesh (now (mesh .entry))) ⌝ }
 {
     let mut fault: u32 = 0;

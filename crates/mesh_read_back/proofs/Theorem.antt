@@ -16,6 +16,7 @@ use Rattle.plane.specs.Plane.{Pt}
 use Rattle.mesh.specs.Mesh.{Triangle, Mesh}
 use Rattle.table.specs.Stored.{wordsOf, wordBytes, wordAt, signed}
 use Rattle.table.proofs.Words.{Word, words-wordBytes}
+use Rattle.mesh.specs.Rows.{rowBytes}
 use Rattle.fields.specs.Fields.{linesOf, fieldOf}
 use Rattle.listing.specs.File.{recordOf, recordsOf, meshOf, triangleCount, cornerLimit, splitNumber, totalBytes, recordOffset, headerBroken}
 use Rattle.mesh_lines.specs.Lines.{isTriangle, triangleOf, triangleWords}
@@ -55,7 +56,7 @@ rows-small (t ∷ m) h =
     (u (t .v0 .x) (f .first .x-fits), (u (t .v0 .y) (f .first .y-fits), (u (t .v1 .x) (f .next .x-fits), (u (t .v1 .y) (f .next .y-fits), (u (t .v2 .x) (f .last .x-fits), (u (t .v2 .y) (f .last .y-fits), (f .side-0, (f .side-1, (f .side-2, rows-small m (h .1))))))))))
 
 module _ (limit split : ℕ) (m : Mesh) (l : Word limit) (s : split ≤ 2) (n : length m ≤ maxWritten) (h : All TriangleFits m) where
-  file-words : wordsOf (fileOf limit split m) ≡ (20 + 36 * length m) ∷ length m ∷ 20 ∷ limit ∷ split ∷ flatten (map triangleWords m)
+  file-words : wordsOf (fileOf limit split m) ≡ (20 + rowBytes * length m) ∷ length m ∷ 20 ∷ limit ∷ split ∷ flatten (map triangleWords m)
   unfolding fileOf
   file-words = words-wordBytes _ (omega arith, (omega arith, (omega arith, (l, (omega arith, rows-small m h)))))
 
@@ -63,7 +64,7 @@ module _ (limit split : ℕ) (m : Mesh) (l : Word limit) (s : split ≤ 2) (n : 
   unfolding meshOf
   mesh-back = ap (λ ws. recordsOf (getD ws 1 0) (drop 5 ws)) file-words ∙ rows-back m h
 
-  word-back : (k : ℕ) → wordAt (fileOf limit split m) k ≡ getD ((20 + 36 * length m) ∷ length m ∷ 20 ∷ limit ∷ split ∷ flatten (map triangleWords m)) k 0
+  word-back : (k : ℕ) → wordAt (fileOf limit split m) k ≡ getD ((20 + rowBytes * length m) ∷ length m ∷ 20 ∷ limit ∷ split ∷ flatten (map triangleWords m)) k 0
   word-back k = ap (λ ws. getD ws k 0) file-words
 
   -- ---- the header
@@ -72,9 +73,9 @@ module _ (limit split : ℕ) (m : Mesh) (l : Word limit) (s : split ≤ 2) (n : 
   unfolding headerBroken
   header-right =
       let f = fileOf limit split m in
-      let t : totalBytes f ≡ 20 + 36 * triangleCount f = word-back 0 ∙ ap (λ k. 20 + 36 * k) (sym (word-back 1)) in
+      let t : totalBytes f ≡ 20 + rowBytes * triangleCount f = word-back 0 ∙ ap (λ k. 20 + rowBytes * k) (sym (word-back 1)) in
       let b : totalBytes f ≡ length f = word-back 0 ∙ sym (length-file limit split m) in
-      rw (eq-eqb (recordOffset f) 20 (word-back 2), le-ltb 2 (splitNumber f) (omega (arith, word-back 4)), eq-eqb (totalBytes f) (20 + 36 * triangleCount f) t, eq-eqb (totalBytes f) (length f) b)
+      rw (eq-eqb (recordOffset f) 20 (word-back 2), le-ltb 2 (splitNumber f) (omega (arith, word-back 4)), eq-eqb (totalBytes f) (20 + rowBytes * triangleCount f) t, eq-eqb (totalBytes f) (length f) b)
 
 -- ---- the theorem
 

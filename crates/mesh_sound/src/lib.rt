@@ -7,9 +7,10 @@ ghost use Rattle.mesh.specs.Mesh.{triangleOff, triangleArea};
 ghost use Rattle.mesh.specs.Rows.{rowTriangle, rowsMesh, RowOnGrid};
 ghost use Rattle.mesh_sound.specs.Totals.{addedOf};
 ghost use Rattle.mesh_sound.specs.Sound.{sound, soundFrom};
+use mesh::Row;
 
 // Whether a coordinate of a row is off the grid.
-pub fn row_off(row: [i32; 9]) -> bool
+pub fn row_off(row: Row) -> bool
     ensures { λ r. ⌜ r ≡ triangleOff (rowTriangle row) ⌝ }
 {
     if !plane::on_grid(mesh::vertex_of(row, 0)) {
@@ -22,7 +23,7 @@ pub fn row_off(row: [i32; 9]) -> bool
 }
 
 // Whether a row's doubled area is not above 0.
-pub fn row_flat(row: [i32; 9]) -> bool
+pub fn row_flat(row: Row) -> bool
     requires { ⌜ RowOnGrid row ⌝ }
     ensures { λ r. ⌜ r ≡ leZ (triangleArea (rowTriangle row)) (pos 0) ⌝ }
 {
@@ -47,7 +48,7 @@ pub fn add_area(total: i64, area: i64) -> Added
 }
 
 // Whether a row is on the grid and its doubled area above 0.
-fn row_sound(row: [i32; 9]) -> bool
+fn row_sound(row: Row) -> bool
     ensures { λ r. ⌜ r ≡ sound (rowTriangle row) ⌝ }
 {
     if row_off(row) {
@@ -57,7 +58,7 @@ fn row_sound(row: [i32; 9]) -> bool
 }
 
 // Whether every row is sound and the doubled areas add up to at most 2^63 - 1.
-pub fn all_sound(mesh: &[[i32; 9]]) -> bool
+pub fn all_sound(mesh: &[Row]) -> bool
     ensures { λ r. ⌜ r ≡ soundFrom (pos 0) (rowsMesh (now (mesh .entry))) ⌝ }
 {
     let mut total: i64 = 0;

@@ -11,6 +11,7 @@ use lib.Dec.{eqb, ltb}
 use lib.ListN.{length, getD, take, drop, drop-of-length-le}
 use lib.Seq.{drop-cons, drop-drop}
 use Rattle.integers.proofs.Order.{by-test}
+use Rattle.mesh.specs.Rows.{rowWidth}
 use Rattle.fields.specs.Fields.{runOf, inRun, linesOf}
 use Rattle.fields.specs.declared.Run.the-variants as run
 use Rattle.fields.proofs.Lines.{lines-none, lines-first}
@@ -19,7 +20,7 @@ use Rattle.mesh_lines.specs.Lines.{isPassedOver, isHead, headWords, isTriangle,
 use Rattle.mesh_text.specs.declared.Step.{Step}
 use Rattle.mesh_text.specs.declared.Reading.{Reading}
 use Rattle.mesh_text.specs.Text.{maxWritten, maxTelling, fits, wrongFrom, wrongLine, telling, lineWords}
-use Rattle.mesh_text.specs.Gathering.{wordsFrom, Taken, Gathered}
+use Rattle.mesh_text.specs.Gathering.{wordsFrom, Taken, Gathered, fewer}
 
 pub true-false : true ≡ false → ⊥
 true-false q = let z : _≡_ {A = ℕ} 0 1 = ap (λ t. cond t 0 1) q in omega arith
@@ -65,12 +66,12 @@ fits-few k l e =
     (λ z. omega (arith, eqb-true k 0 z))
     (λ z. by-test (ltb maxWritten k) (λ g. absurd (true-false (sym e ∙ fits-many k l (eqb-false k 0 z) (ltb-true maxWritten k g)))) (λ g. ltb-false maxWritten k g))
 
-pub put-first : (k : ℕ) (l : List ℕ) {old new : List ℕ} {r : Bool} → k ≡ 0 → Put (isHead l) (headWords l) 0 old new r → Put (fits k l) (lineWords k l) (9 * k - 7) old new r
+pub put-first : (k : ℕ) (l : List ℕ) {old new : List ℕ} {r : Bool} → k ≡ 0 → Put (isHead l) (headWords l) 0 old new r → Put (fits k l) (lineWords k l) (rowWidth * k - fewer) old new r
 unfolding fits lineWords
-put-first k l {old} {new} {r} e p = subst (λ j. Put (fits j l) (lineWords j l) (9 * j - 7) old new r) (sym e) p
+put-first k l {old} {new} {r} e p = subst (λ j. Put (fits j l) (lineWords j l) (rowWidth * j - fewer) old new r) (sym e) p
 
-pub put-next : (k : ℕ) (l : List ℕ) {old new : List ℕ} {r : Bool} → (k ≡ 0 → ⊥) → k ≤ maxWritten → Put (isTriangle l) (triangleWords (triangleOf l)) (9 * k - 7) old new r
-    → Put (fits k l) (lineWords k l) (9 * k - 7) old new r
+pub put-next : (k : ℕ) (l : List ℕ) {old new : List ℕ} {r : Bool} → (k ≡ 0 → ⊥) → k ≤ maxWritten → Put (isTriangle l) (triangleWords (triangleOf l)) (rowWidth * k - fewer) old new r
+    → Put (fits k l) (lineWords k l) (rowWidth * k - fewer) old new r
 unfolding fits lineWords
 put-next k l h g p = rw (ne-eqb k 0 h, le-ltb maxWritten k g) p
 
@@ -82,8 +83,8 @@ pub fits-triangle : (k : ℕ) (l : List ℕ) → fits (k + 1) l ≡ true → isT
 unfolding fits
 fits-triangle k l e = rw (ne-eqb (k + 1) 0 (λ z. omega arith), le-ltb maxWritten (k + 1) (fits-few (k + 1) l e)) at e
 
--- behind k lines 9 k - 7 words are gathered: none, 2, 11, ..
-line-size : (k : ℕ) (l : List ℕ) → 9 * k - 7 + length (lineWords k l) ≡ 9 * (k + 1) - 7
+-- behind k lines rowWidth * k - fewer words are gathered: none, 2, 11, ..
+line-size : (k : ℕ) (l : List ℕ) → rowWidth * k - fewer + length (lineWords k l) ≡ rowWidth * (k + 1) - fewer
 unfolding lineWords
 line-size k l =
     by-test (eqb k 0)
@@ -97,21 +98,21 @@ module _ (l : List ℕ) (k : ℕ) (old : List ℕ) where
   taken-passed e h =
       record {
         judged = λ n ls. wrong-passed l ls e k n;
-        words = λ q ls. ap (λ w. take (9 * k - 7) old ++ w) (words-passed l ls e k);
+        words = λ q ls. ap (λ w. take (rowWidth * k - fewer) old ++ w) (words-passed l ls e k);
         lines = λ q ls. ap (λ t. k + length t) (telling-passed l ls e);
         few = λ q. h;
         as-many = refl;
       }
 
-  module _ {new : List ℕ} {r : Bool} (e : isPassedOver l ≡ false) (p : Put (fits k l) (lineWords k l) (9 * k - 7) old new r) where
+  module _ {new : List ℕ} {r : Bool} (e : isPassedOver l ≡ false) (p : Put (fits k l) (lineWords k l) (rowWidth * k - fewer) old new r) where
     pub taken-right : r ≡ true → Taken l k old new (record { right = true; count = k + 1 })
     taken-right q =
         let f : fits k l ≡ true = sym (p .answer) ∙ q in
-        let front : take (9 * (k + 1) - 7) new ≡ take (9 * k - 7) old ++ lineWords k l = ap (λ n. take n new) (sym (line-size k l)) ∙ p .front f in
+        let front : take (rowWidth * (k + 1) - fewer) new ≡ take (rowWidth * k - fewer) old ++ lineWords k l = ap (λ n. take n new) (sym (line-size k l)) ∙ p .front f in
         record {
           judged = λ n ls. wrong-more l ls e k n ∙ ap (λ t. cond t (wrongFrom (k + 1) (n + 1) ls) (n + 1)) f;
           words = λ u ls.
-              ap (λ w. take (9 * k - 7) old ++ w) (words-more l ls e k) ∙ sym (append-assoc (take (9 * k - 7) old) (lineWords k l) (wordsFrom (k + 1) ls))
+              ap (λ w. take (rowWidth * k - fewer) old ++ w) (words-more l ls e k) ∙ sym (append-assoc (take (rowWidth * k - fewer) old) (lineWords k l) (wordsFrom (k + 1) ls))
               ∙ ap (λ w. w ++ wordsFrom (k + 1) ls) (sym front);
           lines = λ u ls. omega (arith, ap length (telling-more l ls e));
           few = λ u. omega (arith, fits-few k l f);
@@ -146,7 +147,7 @@ lines-at text at {e} h q =
 -- what holds where the lines before place `at`, of which `count` said something, are taken
 pub record Going (text old : List ℕ) (at line count : ℕ) (words : List ℕ) : Type 0 where
   pub judged : wrongLine text ≡ wrongFrom count line (linesOf (drop at text))
-  pub gathered : wordsFrom 0 (linesOf text) ≡ take (9 * count - 7) words ++ wordsFrom count (linesOf (drop at text))
+  pub gathered : wordsFrom 0 (linesOf text) ≡ take (rowWidth * count - fewer) words ++ wordsFrom count (linesOf (drop at text))
   pub lines : length (telling (linesOf text)) ≡ count + length (telling (linesOf (drop at text)))
   pub few : count ≤ maxTelling
   pub near : line ≤ at
@@ -166,7 +167,7 @@ module _ {text old : List ℕ} {at line count : ℕ} {words : List ℕ} (g : Goi
         let l = lines-at text at h q in
         record {
           judged = judged-line ∙ ap (λ b. cond b (wrongFrom (r .count) (line + 1) (linesOf (drop (e + 1) text))) (line + 1)) f;
-          gathered = g .gathered ∙ ap (λ ls. take (9 * count - 7) words ++ wordsFrom count ls) l ∙ t .words f (linesOf (drop (e + 1) text));
+          gathered = g .gathered ∙ ap (λ ls. take (rowWidth * count - fewer) words ++ wordsFrom count ls) l ∙ t .words f (linesOf (drop (e + 1) text));
           lines = g .lines ∙ ap (λ ls. count + length (telling ls)) l ∙ t .lines f (linesOf (drop (e + 1) text));
           few = t .few f;
           near = omega (arith, g .near);
@@ -210,7 +211,7 @@ module _ {text old : List ℕ} {at line count : ℕ} {words : List ℕ} (g : Goi
         record {
           judged = sym (wrong-at-end ∙ ap (λ b. cond b (line + 1) 0) (ne-eqb count 0 z));
           lines = λ e. omega (arith, g .lines, ap (λ ls. length (telling ls)) none-left);
-          words = λ e. sym (g .gathered ∙ ap (λ ls. take (9 * count - 7) words ++ wordsFrom count ls) none-left ∙ append-nil (take (9 * count - 7) words));
+          words = λ e. sym (g .gathered ∙ ap (λ ls. take (rowWidth * count - fewer) words ++ wordsFrom count ls) none-left ∙ append-nil (take (rowWidth * count - fewer) words));
           some = λ e. omega arith;
           few = λ e. g .few;
           as-many = g .as-many;

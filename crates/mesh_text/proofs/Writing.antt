@@ -17,11 +17,12 @@ use Rattle.table_words.specs.Place.{putWords}
 use Rattle.table_words.proofs.Places.{put-put, put-front}
 use Rattle.fields.specs.Fields.{linesOf}
 use Rattle.mesh.specs.Mesh.{Mesh}
+use Rattle.mesh.specs.Rows.{rowWidth, rowBytes}
 use Rattle.mesh_lines.specs.Lines.{isPassedOver, headWords, triangleOf, triangleWords}
 use Rattle.mesh_text.specs.declared.Reading.{Reading}
 use Rattle.mesh_text.specs.declared.Converted.the-variants as converted
 use Rattle.mesh_text.specs.Text.{wrongLine, telling, lineWords, trianglesOf, fileOf, fileOfText}
-use Rattle.mesh_text.specs.Gathering.{gatherRoom, wordsFrom, Gathered}
+use Rattle.mesh_text.specs.Gathering.{gatherRoom, wordsFrom, Gathered, fewer}
 use Rattle.mesh_text.specs.Conversion.{maxText, tooLong, conversion, bytesConverted}
 use Rattle.mesh_text.proofs.Gatherings.{telling-passed, telling-more, words-passed, words-more}
 
@@ -92,33 +93,33 @@ words-all (l ∷ ls) h =
 pub length-mesh : (text : List ℕ) → length (trianglesOf text) ≡ length (telling (linesOf text)) - 1
 length-mesh text = length-map (drop 1 (telling (linesOf text))) triangleOf ∙ length-drop 1 (telling (linesOf text))
 
-flatten-words : (m : Mesh) → length (flatten (map triangleWords m)) ≡ 9 * length m
+flatten-words : (m : Mesh) → length (flatten (map triangleWords m)) ≡ rowWidth * length m
 unfolding flatten
 flatten-words [] = refl
 flatten-words (t ∷ m) = omega (arith, flatten-words m)
 
-pub length-file : (limit split : ℕ) (m : Mesh) → length (fileOf limit split m) ≡ 20 + 36 * length m
+pub length-file : (limit split : ℕ) (m : Mesh) → length (fileOf limit split m) ≡ 20 + rowBytes * length m
 unfolding fileOf
 length-file limit split m =
-    omega (arith, length-wordBytes ((20 + 36 * length m) ∷ length m ∷ 20 ∷ limit ∷ split ∷ flatten (map triangleWords m)), flatten-words m)
+    omega (arith, length-wordBytes ((20 + rowBytes * length m) ∷ length m ∷ 20 ∷ limit ∷ split ∷ flatten (map triangleWords m)), flatten-words m)
 
 module _ {text old words : List ℕ} {r : Reading} (g : Gathered text old words r) (z : r .wrong ≡ 0) where
   -- the gathered words are there
-  pub gathered-room : length old ≡ gatherRoom → 9 * (r .count - 1) + 2 ≤ length words
+  pub gathered-room : length old ≡ gatherRoom → rowWidth * (r .count - 1) + 2 ≤ length words
   gathered-room e = omega (arith, g .few z, g .as-many)
 
-  pub gathered-length : length old ≡ gatherRoom → length (take (9 * (r .count - 1) + 2) words) ≡ 9 * (r .count - 1) + 2
-  gathered-length e = length-take-le (9 * (r .count - 1) + 2) words (gathered-room e)
+  pub gathered-length : length old ≡ gatherRoom → length (take (rowWidth * (r .count - 1) + 2) words) ≡ rowWidth * (r .count - 1) + 2
+  gathered-length e = length-take-le (rowWidth * (r .count - 1) + 2) words (gathered-room e)
 
   many : r .count - 1 ≡ length (trianglesOf text)
   many = omega (arith, length-mesh text, g .lines z)
 
-  file-words : wordBytes ((20 + 36 * (r .count - 1)) ∷ (r .count - 1) ∷ 20 ∷ take (9 * (r .count - 1) + 2) words) ≡ fileOfText text
+  file-words : wordBytes ((20 + rowBytes * (r .count - 1)) ∷ (r .count - 1) ∷ 20 ∷ take (rowWidth * (r .count - 1) + 2) words) ≡ fileOfText text
   unfolding fileOf
   file-words =
-      let n : 9 * (r .count - 1) + 2 ≡ 9 * r .count - 7 = omega (arith, g .some z) in
+      let n : rowWidth * (r .count - 1) + 2 ≡ rowWidth * r .count - fewer = omega (arith, g .some z) in
       let w = ap (λ k. take k words) n ∙ g .words z ∙ words-all (linesOf text) (omega (arith, g .some z, g .lines z)) in
-      λ i. wordBytes ((20 + 36 * many i) ∷ many i ∷ 20 ∷ w i)
+      λ i. wordBytes ((20 + rowBytes * many i) ∷ many i ∷ 20 ∷ w i)
 
 -- ---- the answer
 
@@ -136,13 +137,13 @@ module _ (text out : List ℕ) where
           rw (le-ltb maxText (length text) h, ne-eqb (wrongLine text) 0 n),
         )
 
-    pub converted-text : r .wrong ≡ 0 → {m : ℕ} {b : List ℕ} → m ≡ 20 + 36 * (r .count - 1)
-        → b ≡ overlay (wordBytes ((20 + 36 * (r .count - 1)) ∷ (r .count - 1) ∷ 20 ∷ take (9 * (r .count - 1) + 2) words)) out
+    pub converted-text : r .wrong ≡ 0 → {m : ℕ} {b : List ℕ} → m ≡ 20 + rowBytes * (r .count - 1)
+        → b ≡ overlay (wordBytes ((20 + rowBytes * (r .count - 1)) ∷ (r .count - 1) ∷ 20 ∷ take (rowWidth * (r .count - 1) + 2) words)) out
         → (converted.Written m ≡ conversion text) × (b ≡ bytesConverted text out)
     unfolding conversion bytesConverted
     converted-text z e q =
         let n : wrongLine text ≡ 0 = sym (g .judged) ∙ z in
-        let s = e ∙ ap (λ k. 20 + 36 * k) (many g z) ∙ sym (length-file _ _ (trianglesOf text)) in (
+        let s = e ∙ ap (λ k. 20 + rowBytes * k) (many g z) ∙ sym (length-file _ _ (trianglesOf text)) in (
           rw (le-ltb maxText (length text) h, eq-eqb (wrongLine text) 0 n) (ap converted.Written s),
           rw (le-ltb maxText (length text) h, eq-eqb (wrongLine text) 0 n) (q ∙ ap (λ f. overlay f out) (file-words g z)),
         )

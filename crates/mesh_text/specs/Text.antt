@@ -7,6 +7,7 @@ use lib.Dec.{eqb, ltb}
 use lib.ListN.{length, getD, drop}
 use Rattle.mesh.specs.Mesh.{Mesh, maxTriangles}
 use Rattle.table.specs.Stored.{wordBytes}
+use Rattle.mesh.specs.Rows.{rowBytes}
 use Rattle.fields.specs.Fields.{linesOf, fieldOf}
 use Rattle.field_numbers.specs.Numbers.{valueOf}
 use Rattle.mesh_fields.specs.Entries.{splitOf}
@@ -58,11 +59,11 @@ trianglesOf text = map triangleOf (drop 1 (telling (linesOf text)))
 
 -- the bytes of the longest file, a header and the records
 abbrev pub fileRoom : ℕ
-fileRoom = 20 + 36 * maxWritten
+fileRoom = 20 + rowBytes * maxWritten
 
 -- "a header of five little-endian u32 (total bytes, triangle count, offset of records, corner limit, split ..), then records of six i32 .. and three u32"
 unfoldable pub fileOf : ℕ → ℕ → Mesh → List ℕ
-fileOf limit split mesh = wordBytes ((20 + 36 * length mesh) ∷ length mesh ∷ 20 ∷ limit ∷ split ∷ flatten (map triangleWords mesh))
+fileOf limit split mesh = wordBytes ((20 + rowBytes * length mesh) ∷ length mesh ∷ 20 ∷ limit ∷ split ∷ flatten (map triangleWords mesh))
 
 abbrev pub fileOfText : List ℕ → List ℕ
 fileOfText text = fileOf (limitOf text) (splitNumberOf text) (trianglesOf text)

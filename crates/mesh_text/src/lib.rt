@@ -10,12 +10,15 @@ ghost use Rattle.integers.specs.Lists.{overlay};
 ghost use Rattle.io.specs.Counts.{Counts};
 ghost use Rattle.table.specs.Stored.{wordBytes};
 ghost use Rattle.text.specs.Put.{PutText};
+ghost use Rattle.mesh.specs.Rows.{rowWidth, rowBytes};
 ghost use Rattle.mesh_fields.specs.Put.{Put};
 ghost use Rattle.mesh_text.specs.Text.{maxWritten, maxTelling, fileRoom, fits, lineWords};
-ghost use Rattle.mesh_text.specs.Gathering.{gatherRoom, Taken, Gathered};
+ghost use Rattle.mesh_text.specs.Gathering.{gatherRoom, fewer, Taken, Gathered};
 ghost use Rattle.mesh_text.specs.Conversion.{maxText, conversion, bytesConverted};
 ghost use Rattle.mesh_text.specs.Told.{toldRoom, wrongTold, toldOf};
 use fields::Run;
+use mesh::ROW;
+use mesh::ROW_BYTES;
 
 // The longest text that is read: the most triangles, written with no byte to spare, take less than half of it.
 pub const MAX_TEXT: usize = 262144;
@@ -23,15 +26,16 @@ pub const MAX_TEXT: usize = 262144;
 // One triangle more than a mesh may have, so that fault 1 can be written.
 const MAX_WRITTEN: usize = mesh::MAX_TRIANGLES + 1;
 
-// The bytes of the header, behind which the records begin, and of a record (document 01).
+// The bytes of the header, behind which the records begin (document 01).
 const HEADER: usize = 20;
 
-const RECORD: usize = 36;
+// The bytes of the longest file, and the words of it that are gathered: two of the first line, and each triangle's.
+pub const FILE_ROOM: usize = HEADER + ROW_BYTES * MAX_WRITTEN;
 
-// The bytes of the longest file, and the words of it that are gathered: two of the first line, nine of each triangle.
-pub const FILE_ROOM: usize = HEADER + RECORD * MAX_WRITTEN;
+const GATHER_ROOM: usize = ROW * MAX_WRITTEN + 2;
 
-const GATHER_ROOM: usize = 9 * MAX_WRITTEN + 2;
+// How many words fewer the first line gives than a triangle's.
+const FEWER: usize = ROW - 2;
 
 // The bytes of the longest that is told of a text; a line's number has at most 20 digits.
 pub const TOLD_ROOM: usize = 172;
@@ -58,7 +62,8 @@ pub struct Reading {
 // Puts the words of line number `count` of those that say something: the first line's, or a triangle's.
 fn put_line(line: &[u8], count: usize, words: &mut [u32]) -> bool
     requires { ⌜ gatherRoom ≤ length (now words) ⌝ }
-    ensures { λ r. ⌜ Put (fits count (now (line .entry))) (lineWords count (now (line .entry))) (9 * count - 7) (now (words .entry)) (now (words .exit)) r ⌝ }
+    ensures { λ r. ⌜ Put (fits count (now (line .entry))) (lineWords count (now (line .entry))) (rowWidth * count - fewer) (now (words .entry))
+        (now (words .exit)) r ⌝ }
 {
     if count == 0 {
         return mesh_lines::put_head(line, words);
@@ -66,7 +71,7 @@ fn put_line(line: &[u8], count: usize, words: &mut [u32]) -> bool
     if count > MAX_WRITTEN {
         return false;
     }
-    mesh_lines::put_triangle(line, 9 * count - 7, words)
+    mesh_lines::put_triangle(line, ROW * count - FEWER, words)
 }
 
 // Takes a line, behind `count` that say something.
@@ -128,11 +133,11 @@ fn gather(text: &[u8], words: &mut [u32]) -> Reading
 
 // Writes the file of so many triangles whose words from the corner limit on are gathered; answers how many bytes it has.
 fn write_file(count: usize, gathered: &[u32], out: &mut [u8]) -> usize
-    requires { ⌜ (count ≤ maxWritten) × (length (now gathered) ≡ 9 * count + 2) × (fileRoom ≤ length (now out)) ⌝ }
-    ensures told { λ r. ⌜ r ≡ 20 + 36 * count ⌝ }
-    ensures bytes { λ r. ⌜ now (out .exit) ≡ overlay (wordBytes ((20 + 36 * count) ∷ count ∷ 20 ∷ now (gathered .entry))) (now (out .entry)) ⌝ }
+    requires { ⌜ (count ≤ maxWritten) × (length (now gathered) ≡ rowWidth * count + 2) × (fileRoom ≤ length (now out)) ⌝ }
+    ensures told { λ r. ⌜ r ≡ 20 + rowBytes * count ⌝ }
+    ensures bytes { λ r. ⌜ now (out .exit) ≡ overlay (wordBytes ((20 + rowBytes * count) ∷ count ∷ 20 ∷ now (gathered .entry))) (now (out .entry)) ⌝ }
 {
-    let total = HEADER + RECORD * count;
+    let total = HEADER + ROW_BYTES * count;
     table_words::put_word(out, 0, total as u32);
     table_words::put_word(out, 1, count as u32);
     table_words::put_word(out, 2, HEADER as u32);
@@ -154,7 +159,7 @@ pub fn to_mesh_file(text: &[u8], out: &mut [u8; FILE_ROOM]) -> Converted
         return Converted::Wrong(read.wrong);
     }
     let count = read.count - 1;
-    let size = 9 * count + 2;
+    let size = ROW * count + 2;
     Converted::Written(write_file(count, &words[..size], out))
 }
 

@@ -7,6 +7,7 @@ use lib.IntN.{ℤ, pos}
 use lib.ListN.{length, take, drop, replicate}
 use Rattle.integers.specs.Lists.{overlay, upTo}
 use Rattle.table.specs.Stored.{wordsOf, signed}
+use Rattle.mesh.specs.Rows.{rowWidth}
 
 -- n counts places at the start of l. The second part follows from the first; both are what lending those places asks, as io's `Counts` has them of bytes
 abbrev pub Counted : {A : Type 0} → ℕ → List A → Type 0
@@ -31,9 +32,9 @@ pub record Readable (r : List ℕ) (k n told : ℕ) : Type 0 where
   pub few : told ≤ n
   pub there : 0 < told → 4 * (k + told) ≤ length r
 
--- row k after the head, of nine numbers; 0 past the record's end. And the first n rows
+-- row k after the head; 0 past the record's end. And the first n rows
 unfoldable pub rowIn : List ℕ → ℕ → List ℤ
-rowIn r k = overlay (numbersIn r (8 + 9 * k) 9) (replicate 9 (pos 0))
+rowIn r k = overlay (numbersIn r (8 + rowWidth * k) rowWidth) (replicate rowWidth (pos 0))
 
 unfoldable pub rowsIn : List ℕ → ℕ → List (List ℤ)
 rowsIn r n = map (rowIn r) (upTo n)

@@ -1,6 +1,6 @@
 // Stored samples, read: records of standard input, one after another, each as long as its first word says, and the words, lists and rows that one
 // holds, as the programs that replay samples take them. What the input holds is its own; a record that is not whole is none. Of any bytes each reader
-// answers what specs/Record.antt says, so that a program which reads by them needs no proof but for its loop. Leans on table_words and io.
+// answers what specs/Record.antt says, so that a program which reads by them needs no proof but for its loop. Leans on mesh, table_words and io.
 ghost use mathlib.Core.Path.{_≡_};
 ghost use Prim.Native.Nat.{_≤_, _<_, min};
 ghost use lib.ListN.{length};
@@ -11,8 +11,8 @@ use table_words::WORD;
 // The bytes of a record's head, which every record has.
 pub const HEAD: usize = 32;
 
-// The numbers of a triangle's row.
-const ROW: usize = 9;
+// The numbers of a triangle's row, as a count of words.
+const NUMBERS: u32 = mesh::ROW as u32;
 
 // A proved loop has to end: so many records that no input has more.
 pub const MOST: u64 = 1099511627776;
@@ -94,17 +94,17 @@ pub fn numbers(bytes: &[u8], k: usize, n: u32, to: &mut [i32]) -> usize
 }
 
 // Row k after the head, 0 past the record's end.
-fn row(bytes: &[u8], k: usize) -> [i32; 9]
+fn row(bytes: &[u8], k: usize) -> mesh::Row
     requires { ⌜ k < 4294967296 ⌝ }
     ensures { λ r. ⌜ r ≡ rowIn (now (bytes .entry)) k ⌝ }
 {
-    let mut row = [0i32; ROW];
-    numbers(bytes, HEAD / WORD + ROW * k, 9, &mut row);
+    let mut row = [0i32; mesh::ROW];
+    numbers(bytes, HEAD / WORD + mesh::ROW * k, NUMBERS, &mut row);
     row
 }
 
 // Reads the first n rows after the head, as many as `to` has places, and answers how many.
-pub fn rows(bytes: &[u8], n: u32, to: &mut [[i32; 9]]) -> usize
+pub fn rows(bytes: &[u8], n: u32, to: &mut [mesh::Row]) -> usize
     ensures { λ r. ⌜ Listed (rowsIn (now (bytes .entry)) (min n (length (now (to .entry))))) (now (to .entry)) r (now (to .exit)) ⌝ }
 {
     let count = least(n as usize, to.len());

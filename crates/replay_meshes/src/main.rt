@@ -1,6 +1,7 @@
 // Replays a stored sample of joining, from standard input to its end: asks each case again and prints a line with what was answered and what the
 // lent places hold then. What it prints is its file `stdout`, which the oracle wrote with the answers of the Rust and of the judge
 // (vectors/README.md). Leans on convex_join, records, part_lines and lines.
+use mesh::Row;
 use records::HEAD;
 
 // As many triangles, lent starts and lent numbers as a record may have.
@@ -11,10 +12,10 @@ const STARTS: usize = 32;
 const NUMBERS: usize = 160;
 
 // The bytes of the longest record.
-const RECORD: usize = HEAD + 36 * TRIANGLES + 4 * STARTS + 4 * NUMBERS;
+const RECORD: usize = HEAD + mesh::ROW_BYTES * TRIANGLES + 4 * STARTS + 4 * NUMBERS;
 
 // Joins the rows into the lent places, and writes the case's line.
-fn print_joined(k: u64, rows: &[[i32; 9]], starts: &mut [u32], corners: &mut [i32]) {
+fn print_joined(k: u64, rows: &[Row], starts: &mut [u32], corners: &mut [i32]) {
     let counts = convex_join::to_convex_polygons(rows, starts, corners);
     lines::print(b"case ", k, b": ");
     part_lines::print_lent(counts, starts, corners);
@@ -22,11 +23,11 @@ fn print_joined(k: u64, rows: &[[i32; 9]], starts: &mut [u32], corners: &mut [i3
 
 // Takes the case out of its record and asks it.
 fn print_case(k: u64, record: &[u8]) {
-    let mut rows = [[0i32; 9]; TRIANGLES];
+    let mut rows = [[0i32; mesh::ROW]; TRIANGLES];
     let mut starts = [0u32; STARTS];
     let mut corners = [0i32; NUMBERS];
     let n = records::rows(record, records::word(record, 1), &mut rows);
-    let at = HEAD / 4 + 9 * n;
+    let at = HEAD / 4 + mesh::ROW * n;
     let s = records::words(record, at, records::word(record, 2), &mut starts);
     let m = records::numbers(record, at + s, records::word(record, 3), &mut corners);
     print_joined(k, &rows[..n], &mut starts[..s], &mut corners[..m]);

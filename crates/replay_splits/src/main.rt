@@ -1,6 +1,7 @@
 // Replays a stored sample of splitting, from standard input to its end: asks each case again and prints a line with what was answered and what the
 // lent places hold then. What it prints is its file `stdout`, which the oracle wrote with the answers of the Rust and of the judge
 // (vectors/README.md). Leans on boundary_split, records, part_lines and lines.
+use mesh::Row;
 use records::HEAD;
 
 // As many triangles, lent starts and lent numbers as a record may have: one triangle more than a mesh, for fault 1.
@@ -11,12 +12,12 @@ const STARTS: usize = 64;
 const NUMBERS: usize = 320;
 
 // The bytes of the longest record.
-const RECORD: usize = HEAD + 36 * TRIANGLES + 4 * STARTS + 4 * NUMBERS;
+const RECORD: usize = HEAD + mesh::ROW_BYTES * TRIANGLES + 4 * STARTS + 4 * NUMBERS;
 
 // Splits the rows' parts into the lent places, and writes the case's line.
 fn print_split(
     k: u64,
-    rows: &[[i32; 9]],
+    rows: &[Row],
     limit: u32,
     split: u32,
     starts: &mut [u32],
@@ -37,11 +38,11 @@ fn print_split(
 
 // Takes the case out of its record and asks it.
 fn print_case(k: u64, record: &[u8]) {
-    let mut rows = [[0i32; 9]; TRIANGLES];
+    let mut rows = [[0i32; mesh::ROW]; TRIANGLES];
     let mut starts = [0u32; STARTS];
     let mut corners = [0i32; NUMBERS];
     let n = records::rows(record, records::word(record, 1), &mut rows);
-    let at = HEAD / 4 + 9 * n;
+    let at = HEAD / 4 + mesh::ROW * n;
     let s = records::words(record, at, records::word(record, 2), &mut starts);
     let m = records::numbers(record, at + s, records::word(record, 3), &mut corners);
     print_split(

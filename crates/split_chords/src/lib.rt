@@ -86,8 +86,10 @@ fn append_fan_part(
     points: &mut [[i32; 2]],
     t: Tally,
 ) -> Tally
-    requires { ⌜ (start + size < length (now contour)) × RoomFor (now starts) (now points) t ((cornerAt (now contour) 0 ∷ runOf (now contour) start (size + 1)) ∷ []) ⌝ }
-    ensures { λ r. ⌜ PartsAppended ((cornerAt (now (contour .entry)) 0 ∷ runOf (now (contour .entry)) start (size + 1)) ∷ []) (now (starts .entry)) (now (points .entry)) t (now (starts .exit)) (now (points .exit)) r ⌝ }
+    requires { ⌜ (start + size < length (now contour))
+        × RoomFor (now starts) (now points) t ((cornerAt (now contour) 0 ∷ runOf (now contour) start (size + 1)) ∷ []) ⌝ }
+    ensures { λ r. ⌜ PartsAppended ((cornerAt (now (contour .entry)) 0 ∷ runOf (now (contour .entry)) start (size + 1)) ∷ []) (now (starts .entry))
+        (now (points .entry)) t (now (starts .exit)) (now (points .exit)) r ⌝ }
 {
     let first = append_point(contour, 0, points, t.corners);
     let count = append_run(contour, start, size + 1, points, first);
@@ -102,8 +104,12 @@ pub fn append_fan_parts(
     points: &mut [[i32; 2]],
     t: Tally,
 ) -> Tally
-    requires { ⌜ (3 ≤ limit) × (limit < length (now contour)) × (length (now contour) ≤ maxContour) × RoomFor (now starts) (now points) t (fanParts limit (cornersIn (now contour))) ⌝ }
-    ensures { λ r. ⌜ PartsAppended (fanParts limit (cornersIn (now (contour .entry)))) (now (starts .entry)) (now (points .entry)) t (now (starts .exit)) (now (points .exit)) r ⌝ }
+    requires { ⌜ (3 ≤ limit)
+        × (limit < length (now contour))
+        × (length (now contour) ≤ maxContour)
+        × RoomFor (now starts) (now points) t (fanParts limit (cornersIn (now contour))) ⌝ }
+    ensures { λ r. ⌜ PartsAppended (fanParts limit (cornersIn (now (contour .entry)))) (now (starts .entry)) (now (points .entry)) t (now (starts .exit))
+        (now (points .exit)) r ⌝ }
 {
     let triangles = contour.len() - 2;
     let part_count = ceil_div(triangles, limit - 2);

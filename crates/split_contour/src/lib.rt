@@ -18,8 +18,12 @@ fn append_centroid_parts(
     points: &mut [[i32; 2]],
     t: Tally,
 ) -> Tally
-    requires { ⌜ (3 ≤ limit) × (limit < length (now contour)) × Summable (cornersIn (now contour)) × RoomFor (now starts) (now points) t (centredParts limit (cornersIn (now contour))) ⌝ }
-    ensures { λ r. ⌜ PartsAppended (centredParts limit (cornersIn (now (contour .entry)))) (now (starts .entry)) (now (points .entry)) t (now (starts .exit)) (now (points .exit)) r ⌝ }
+    requires { ⌜ (3 ≤ limit)
+        × (limit < length (now contour))
+        × Summable (cornersIn (now contour))
+        × RoomFor (now starts) (now points) t (centredParts limit (cornersIn (now contour))) ⌝ }
+    ensures { λ r. ⌜ PartsAppended (centredParts limit (cornersIn (now (contour .entry)))) (now (starts .entry)) (now (points .entry)) t
+        (now (starts .exit)) (now (points .exit)) r ⌝ }
 {
     let found = split_centre::centre_of(contour);
     match found {
@@ -38,7 +42,8 @@ fn append_whole(
     t: Tally,
 ) -> Tally
     requires { ⌜ RoomFor (now starts) (now points) t (cornersIn (now contour) ∷ []) ⌝ }
-    ensures { λ r. ⌜ PartsAppended (cornersIn (now (contour .entry)) ∷ []) (now (starts .entry)) (now (points .entry)) t (now (starts .exit)) (now (points .exit)) r ⌝ }
+    ensures { λ r. ⌜ PartsAppended (cornersIn (now (contour .entry)) ∷ []) (now (starts .entry)) (now (points .entry)) t (now (starts .exit))
+        (now (points .exit)) r ⌝ }
 {
     let count = split_chords::append_run(contour, 0, contour.len(), points, t.corners);
     split_chords::end_part(starts, t, count)
@@ -53,8 +58,11 @@ pub fn append_split(
     points: &mut [[i32; 2]],
     t: Tally,
 ) -> Tally
-    requires { ⌜ (3 ≤ limit) × Summable (cornersIn (now contour)) × RoomFor (now starts) (now points) t (splitContour strategy limit (cornersIn (now contour))) ⌝ }
-    ensures { λ r. ⌜ PartsAppended (splitContour strategy limit (cornersIn (now (contour .entry)))) (now (starts .entry)) (now (points .entry)) t (now (starts .exit)) (now (points .exit)) r ⌝ }
+    requires { ⌜ (3 ≤ limit)
+        × Summable (cornersIn (now contour))
+        × RoomFor (now starts) (now points) t (splitContour strategy limit (cornersIn (now contour))) ⌝ }
+    ensures { λ r. ⌜ PartsAppended (splitContour strategy limit (cornersIn (now (contour .entry)))) (now (starts .entry)) (now (points .entry)) t
+        (now (starts .exit)) (now (points .exit)) r ⌝ }
 {
     if contour.len() <= limit {
         return append_whole(contour, starts, points, t);

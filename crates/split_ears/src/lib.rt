@@ -54,7 +54,9 @@ fn append_after(
     count: usize,
 ) -> usize
     requires { ⌜ (start < length (now contour)) × Ring (now ring) (length (now contour)) × (count + n ≤ length (now points)) ⌝ }
-    ensures { λ r. ⌜ (r ≡ stepped (now (ring .entry)) start n) × (r < length (now (contour .entry))) × Appended (cornersAfter (now (contour .entry)) (now (ring .entry)) start n) (now (points .entry)) count (now (points .exit)) (count + n) ⌝ }
+    ensures { λ r. ⌜ (r ≡ stepped (now (ring .entry)) start n)
+        × (r < length (now (contour .entry)))
+        × Appended (cornersAfter (now (contour .entry)) (now (ring .entry)) start n) (now (points .entry)) count (now (points .exit)) (count + n) ⌝ }
 {
     let mut end = start;
     let mut k: usize = 0;
@@ -76,8 +78,13 @@ fn append_ear(
     points: &mut [[i32; 2]],
     t: Tally,
 ) -> Tally
-    requires { ⌜ (start < length (now contour)) × (length (now contour) ≤ maxContour) × Ring (now ring) (length (now contour)) × RoomFor (now starts) (now points) t ((cornerAt (now contour) start ∷ cornersAfter (now contour) (now ring) start (size + 1)) ∷ []) ⌝ }
-    ensures { λ r. ⌜ (now (ring .exit) ≡ set (now (ring .entry)) start (stepped (now (ring .entry)) start (size + 1))) × PartsAppended ((cornerAt (now (contour .entry)) start ∷ cornersAfter (now (contour .entry)) (now (ring .entry)) start (size + 1)) ∷ []) (now (starts .entry)) (now (points .entry)) t (now (starts .exit)) (now (points .exit)) r ⌝ }
+    requires { ⌜ (start < length (now contour))
+        × (length (now contour) ≤ maxContour)
+        × Ring (now ring) (length (now contour))
+        × RoomFor (now starts) (now points) t ((cornerAt (now contour) start ∷ cornersAfter (now contour) (now ring) start (size + 1)) ∷ []) ⌝ }
+    ensures { λ r. ⌜ (now (ring .exit) ≡ set (now (ring .entry)) start (stepped (now (ring .entry)) start (size + 1)))
+        × PartsAppended ((cornerAt (now (contour .entry)) start ∷ cornersAfter (now (contour .entry)) (now (ring .entry)) start (size + 1)) ∷ [])
+        (now (starts .entry)) (now (points .entry)) t (now (starts .exit)) (now (points .exit)) r ⌝ }
 {
     let first = split_chords::append_point(contour, start, points, t.corners);
     let n = size + 1;
@@ -95,8 +102,13 @@ fn append_ears(
     points: &mut [[i32; 2]],
     t: Tally,
 ) -> Tally
-    requires { ⌜ (3 ≤ limit) × (limit < length (now contour)) × (length (now contour) ≤ maxContour) × Fresh (now ring) (length (now contour)) × RoomFor (now starts) (now points) t (earParts limit (cornersIn (now contour))) ⌝ }
-    ensures { λ r. ⌜ PartsAppended (earParts limit (cornersIn (now (contour .entry)))) (now (starts .entry)) (now (points .entry)) t (now (starts .exit)) (now (points .exit)) r ⌝ }
+    requires { ⌜ (3 ≤ limit)
+        × (limit < length (now contour))
+        × (length (now contour) ≤ maxContour)
+        × Fresh (now ring) (length (now contour))
+        × RoomFor (now starts) (now points) t (earParts limit (cornersIn (now contour))) ⌝ }
+    ensures { λ r. ⌜ PartsAppended (earParts limit (cornersIn (now (contour .entry)))) (now (starts .entry)) (now (points .entry)) t (now (starts .exit))
+        (now (points .exit)) r ⌝ }
 {
     let triangles = contour.len() - 2;
     let part_count = split_chords::ceil_div(triangles, limit - 2);
@@ -122,8 +134,12 @@ pub fn append_ear_clipping_parts(
     points: &mut [[i32; 2]],
     t: Tally,
 ) -> Tally
-    requires { ⌜ (3 ≤ limit) × (limit < length (now contour)) × (length (now contour) ≤ maxContour) × RoomFor (now starts) (now points) t (earParts limit (cornersIn (now contour))) ⌝ }
-    ensures { λ r. ⌜ PartsAppended (earParts limit (cornersIn (now (contour .entry)))) (now (starts .entry)) (now (points .entry)) t (now (starts .exit)) (now (points .exit)) r ⌝ }
+    requires { ⌜ (3 ≤ limit)
+        × (limit < length (now contour))
+        × (length (now contour) ≤ maxContour)
+        × RoomFor (now starts) (now points) t (earParts limit (cornersIn (now contour))) ⌝ }
+    ensures { λ r. ⌜ PartsAppended (earParts limit (cornersIn (now (contour .entry)))) (now (starts .entry)) (now (points .entry)) t (now (starts .exit))
+        (now (points .exit)) r ⌝ }
 {
     let mut ring = [0u32; MAX_CONTOUR];
     fill_ring(&mut ring, contour.len());

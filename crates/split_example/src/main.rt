@@ -1,10 +1,11 @@
 // The README's example of splitting: document 01's square past a limit of three corners by each split; the unit square by centroid, whose rounded
 // centre is a corner, so that the fan is used; and a refusal, for want of a place for the last start. What it prints is its file `stdout`. Leans
 // on split_parts and part_lines.
+use mesh::Row;
 use split::ConvexSplitStrategy;
 
 // Splits the mesh into places for four triangles and writes what the call answered.
-fn print_split(mesh: &[[i32; 9]], strategy: ConvexSplitStrategy) {
+fn print_split(mesh: &[Row], strategy: ConvexSplitStrategy) {
     let mut starts = [0u32; 5];
     let mut corners = [0i32; 24];
     let counts = split_parts::to_convex_polygons_with_max_vertices(

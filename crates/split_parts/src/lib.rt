@@ -10,13 +10,14 @@ ghost use Rattle.integers.specs.Faults.{firstFault};
 ghost use Rattle.mesh.specs.Mesh.{maxTriangles, meshKinds};
 ghost use Rattle.mesh.specs.Rows.{rowsMesh};
 ghost use Rattle.convex_regions.specs.Parts.{tiny, small, medium};
-ghost use Rattle.split.specs.Splitting.{splitContour, splitCounts, splitStarts, splitCorners};
+ghost use Rattle.split.specs.Splitting.{splitContour, SplitAnswered, splitCounts, splitStarts, splitCorners};
 ghost use Rattle.convex_gather.specs.Gather.{Gathered, RoomFor, PartsAppended};
 ghost use Rattle.split_parts.specs.Parts.{partsIn, Splittable, splitEach, WorkRoom};
 use convex_gather::Tally;
 use convex_regions::MEDIUM;
 use convex_regions::SMALL;
 use convex_regions::TINY;
+use mesh::Row;
 use split::ConvexSplitStrategy;
 use table::Counts;
 
@@ -32,8 +33,12 @@ fn append_part(
     points: &mut [[i32; 2]],
     t: Tally,
 ) -> Tally
-    requires { ⌜ Splittable (now begins) (now joined) u × (k < u .parts) × (3 ≤ limit) × RoomFor (now starts) (now points) t (splitContour strategy limit (getD (partsIn (now begins) (now joined) u) k [])) ⌝ }
-    ensures { λ r. ⌜ PartsAppended (splitContour strategy limit (getD (partsIn (now (begins .entry)) (now (joined .entry)) u) k [])) (now (starts .entry)) (now (points .entry)) t (now (starts .exit)) (now (points .exit)) r ⌝ }
+    requires { ⌜ Splittable (now begins) (now joined) u
+        × (k < u .parts)
+        × (3 ≤ limit)
+        × RoomFor (now starts) (now points) t (splitContour strategy limit (getD (partsIn (now begins) (now joined) u) k [])) ⌝ }
+    ensures { λ r. ⌜ PartsAppended (splitContour strategy limit (getD (partsIn (now (begins .entry)) (now (joined .entry)) u) k [])) (now (starts .entry))
+        (now (points .entry)) t (now (starts .exit)) (now (points .exit)) r ⌝ }
 {
     let from = begins[k] as usize;
     let to = begins[k + 1] as usize;
@@ -50,7 +55,9 @@ fn split_all(
     starts: &mut [u32],
     points: &mut [[i32; 2]],
 ) -> Tally
-    requires { ⌜ Splittable (now begins) (now joined) u × (3 ≤ limit) × RoomFor (now starts) (now points) (record { parts = 0; corners = 0 }) (splitEach strategy limit (partsIn (now begins) (now joined) u)) ⌝ }
+    requires { ⌜ Splittable (now begins) (now joined) u
+        × (3 ≤ limit)
+        × RoomFor (now starts) (now points) (record { parts = 0; corners = 0 }) (splitEach strategy limit (partsIn (now begins) (now joined) u)) ⌝ }
     ensures { λ r. ⌜ Gathered (now (starts .exit)) (now (points .exit)) r (splitEach strategy limit (partsIn (now (begins .entry)) (now (joined .entry)) u)) ⌝ }
 {
     convex_gather::put_start(starts, 0, 0);
@@ -68,7 +75,7 @@ fn split_all(
 
 // The parts of an accepted mesh, by way of lent work arrays that hold those of any mesh of so many triangles.
 fn split_within(
-    mesh: &[[i32; 9]],
+    mesh: &[Row],
     limit: u32,
     strategy: ConvexSplitStrategy,
     begins: &mut [u32],
@@ -78,10 +85,10 @@ fn split_within(
     starts: &mut [u32],
     corners: &mut [i32],
 ) -> Counts
-    requires { ⌜ (firstFault (meshKinds (rowsMesh (now mesh))) ≡ 0) × WorkRoom (length (now mesh)) (length (now begins)) (length (now joined)) (length (now «split_begins»)) (length (now points)) ⌝ }
-    ensures counts { λ r. ⌜ r ≡ splitCounts strategy limit (rowsMesh (now (mesh .entry))) (now (starts .entry)) (now (corners .entry)) ⌝ }
-    ensures starts { λ r. ⌜ now (starts .exit) ≡ splitStarts strategy limit (rowsMesh (now (mesh .entry))) (now (starts .entry)) (now (corners .entry)) ⌝ }
-    ensures corners { λ r. ⌜ now (corners .exit) ≡ splitCorners strategy limit (rowsMesh (now (mesh .entry))) (now (starts .entry)) (now (corners .entry)) ⌝ }
+    requires { ⌜ (firstFault (meshKinds (rowsMesh (now mesh))) ≡ 0)
+        × WorkRoom (length (now mesh)) (length (now begins)) (length (now joined)) (length (now «split_begins»)) (length (now points)) ⌝ }
+    ensures { λ r. ⌜ SplitAnswered strategy limit (rowsMesh (now (mesh .entry))) (now (starts .entry)) (now (corners .entry))
+        r (now (starts .exit)) (now (corners .exit)) ⌝ }
 {
     let u = convex_regions::gather(mesh, begins, joined);
     let most = split::raised(limit);
@@ -91,16 +98,15 @@ fn split_within(
 
 // The parts of a tiny mesh that is accepted.
 fn split_tiny(
-    mesh: &[[i32; 9]],
+    mesh: &[Row],
     limit: u32,
     strategy: ConvexSplitStrategy,
     starts: &mut [u32],
     corners: &mut [i32],
 ) -> Counts
     requires { ⌜ (length (now mesh) ≤ tiny) × (firstFault (meshKinds (rowsMesh (now mesh))) ≡ 0) ⌝ }
-    ensures counts { λ r. ⌜ r ≡ splitCounts strategy limit (rowsMesh (now (mesh .entry))) (now (starts .entry)) (now (corners .entry)) ⌝ }
-    ensures starts { λ r. ⌜ now (starts .exit) ≡ splitStarts strategy limit (rowsMesh (now (mesh .entry))) (now (starts .entry)) (now (corners .entry)) ⌝ }
-    ensures corners { λ r. ⌜ now (corners .exit) ≡ splitCorners strategy limit (rowsMesh (now (mesh .entry))) (now (starts .entry)) (now (corners .entry)) ⌝ }
+    ensures { λ r. ⌜ SplitAnswered strategy limit (rowsMesh (now (mesh .entry))) (now (starts .entry)) (now (corners .entry))
+        r (now (starts .exit)) (now (corners .exit)) ⌝ }
 {
     let mut begins = [0u32; TINY + 1];
     let mut joined = [[0i32; 2]; 3 * TINY];
@@ -121,16 +127,15 @@ fn split_tiny(
 
 // The parts of a small mesh that is accepted.
 fn split_small(
-    mesh: &[[i32; 9]],
+    mesh: &[Row],
     limit: u32,
     strategy: ConvexSplitStrategy,
     starts: &mut [u32],
     corners: &mut [i32],
 ) -> Counts
     requires { ⌜ (length (now mesh) ≤ small) × (firstFault (meshKinds (rowsMesh (now mesh))) ≡ 0) ⌝ }
-    ensures counts { λ r. ⌜ r ≡ splitCounts strategy limit (rowsMesh (now (mesh .entry))) (now (starts .entry)) (now (corners .entry)) ⌝ }
-    ensures starts { λ r. ⌜ now (starts .exit) ≡ splitStarts strategy limit (rowsMesh (now (mesh .entry))) (now (starts .entry)) (now (corners .entry)) ⌝ }
-    ensures corners { λ r. ⌜ now (corners .exit) ≡ splitCorners strategy limit (rowsMesh (now (mesh .entry))) (now (starts .entry)) (now (corners .entry)) ⌝ }
+    ensures { λ r. ⌜ SplitAnswered strategy limit (rowsMesh (now (mesh .entry))) (now (starts .entry)) (now (corners .entry))
+        r (now (starts .exit)) (now (corners .exit)) ⌝ }
 {
     let mut begins = [0u32; SMALL + 1];
     let mut joined = [[0i32; 2]; 3 * SMALL];
@@ -151,16 +156,15 @@ fn split_small(
 
 // The parts of a medium mesh that is accepted.
 fn split_medium(
-    mesh: &[[i32; 9]],
+    mesh: &[Row],
     limit: u32,
     strategy: ConvexSplitStrategy,
     starts: &mut [u32],
     corners: &mut [i32],
 ) -> Counts
     requires { ⌜ (length (now mesh) ≤ medium) × (firstFault (meshKinds (rowsMesh (now mesh))) ≡ 0) ⌝ }
-    ensures counts { λ r. ⌜ r ≡ splitCounts strategy limit (rowsMesh (now (mesh .entry))) (now (starts .entry)) (now (corners .entry)) ⌝ }
-    ensures starts { λ r. ⌜ now (starts .exit) ≡ splitStarts strategy limit (rowsMesh (now (mesh .entry))) (now (starts .entry)) (now (corners .entry)) ⌝ }
-    ensures corners { λ r. ⌜ now (corners .exit) ≡ splitCorners strategy limit (rowsMesh (now (mesh .entry))) (now (starts .entry)) (now (corners .entry)) ⌝ }
+    ensures { λ r. ⌜ SplitAnswered strategy limit (rowsMesh (now (mesh .entry))) (now (starts .entry)) (now (corners .entry))
+        r (now (starts .exit)) (now (corners .exit)) ⌝ }
 {
     let mut begins = [0u32; MEDIUM + 1];
     let mut joined = [[0i32; 2]; 3 * MEDIUM];
@@ -181,16 +185,15 @@ fn split_medium(
 
 // The parts of any mesh that is accepted.
 fn split_large(
-    mesh: &[[i32; 9]],
+    mesh: &[Row],
     limit: u32,
     strategy: ConvexSplitStrategy,
     starts: &mut [u32],
     corners: &mut [i32],
 ) -> Counts
     requires { ⌜ (length (now mesh) ≤ maxTriangles) × (firstFault (meshKinds (rowsMesh (now mesh))) ≡ 0) ⌝ }
-    ensures counts { λ r. ⌜ r ≡ splitCounts strategy limit (rowsMesh (now (mesh .entry))) (now (starts .entry)) (now (corners .entry)) ⌝ }
-    ensures starts { λ r. ⌜ now (starts .exit) ≡ splitStarts strategy limit (rowsMesh (now (mesh .entry))) (now (starts .entry)) (now (corners .entry)) ⌝ }
-    ensures corners { λ r. ⌜ now (corners .exit) ≡ splitCorners strategy limit (rowsMesh (now (mesh .entry))) (now (starts .entry)) (now (corners .entry)) ⌝ }
+    ensures { λ r. ⌜ SplitAnswered strategy limit (rowsMesh (now (mesh .entry))) (now (starts .entry)) (now (corners .entry))
+        r (now (starts .exit)) (now (corners .exit)) ⌝ }
 {
     let mut begins = [0u32; mesh::MAX_TRIANGLES + 1];
     let mut joined = [[0i32; 2]; 3 * mesh::MAX_TRIANGLES];
@@ -211,16 +214,15 @@ fn split_large(
 
 // The parts of an accepted mesh, in arrays of the sizes past tiny.
 fn split_more(
-    mesh: &[[i32; 9]],
+    mesh: &[Row],
     limit: u32,
     strategy: ConvexSplitStrategy,
     starts: &mut [u32],
     corners: &mut [i32],
 ) -> Counts
     requires { ⌜ firstFault (meshKinds (rowsMesh (now mesh))) ≡ 0 ⌝ }
-    ensures counts { λ r. ⌜ r ≡ splitCounts strategy limit (rowsMesh (now (mesh .entry))) (now (starts .entry)) (now (corners .entry)) ⌝ }
-    ensures starts { λ r. ⌜ now (starts .exit) ≡ splitStarts strategy limit (rowsMesh (now (mesh .entry))) (now (starts .entry)) (now (corners .entry)) ⌝ }
-    ensures corners { λ r. ⌜ now (corners .exit) ≡ splitCorners strategy limit (rowsMesh (now (mesh .entry))) (now (starts .entry)) (now (corners .entry)) ⌝ }
+    ensures { λ r. ⌜ SplitAnswered strategy limit (rowsMesh (now (mesh .entry))) (now (starts .entry)) (now (corners .entry))
+        r (now (starts .exit)) (now (corners .exit)) ⌝ }
 {
     let n = mesh.len();
     if n <= SMALL {
@@ -236,7 +238,7 @@ fn split_more(
 // (1, 2, 3, 4, 5, 6, 11, 22 or 21) gives zero counts and changes nothing. `split_more` has two callers here so that it stays a function of its own: with its arrays
 // in this frame, the stack is touched page by page, 86 KB of it, before one triangle is looked at.
 pub fn to_convex_polygons_with_max_vertices(
-    mesh: &[[i32; 9]],
+    mesh: &[Row],
     limit: u32,
     strategy: ConvexSplitStrategy,
     starts: &mut [u32],

@@ -84,8 +84,11 @@ fn append_sector(
     points: &mut [[i32; 2]],
     t: Tally,
 ) -> Tally
-    requires { ⌜ (start < length (now contour)) × (start + n ≤ length (now contour)) × RoomFor (now starts) (now points) t ((point centre ∷ arcOf (now contour) start (n + 1)) ∷ []) ⌝ }
-    ensures { λ r. ⌜ PartsAppended ((point centre ∷ arcOf (now (contour .entry)) start (n + 1)) ∷ []) (now (starts .entry)) (now (points .entry)) t (now (starts .exit)) (now (points .exit)) r ⌝ }
+    requires { ⌜ (start < length (now contour))
+        × (start + n ≤ length (now contour))
+        × RoomFor (now starts) (now points) t ((point centre ∷ arcOf (now contour) start (n + 1)) ∷ []) ⌝ }
+    ensures { λ r. ⌜ PartsAppended ((point centre ∷ arcOf (now (contour .entry)) start (n + 1)) ∷ []) (now (starts .entry)) (now (points .entry)) t
+        (now (starts .exit)) (now (points .exit)) r ⌝ }
 {
     let count = t.corners;
     convex_ring::put_corner(points, count, centre);
@@ -103,8 +106,13 @@ fn append_group(
     points: &mut [[i32; 2]],
     t: Tally,
 ) -> Tally
-    requires { ⌜ (start ≤ target) × (target ≤ length (now contour)) × Grid (now contour) × OnGrid centre × RoomFor (now starts) (now points) t (groupParts (target - start) (point centre) (target - start) (drop start (closedOf (now contour)))) ⌝ }
-    ensures { λ r. ⌜ PartsAppended (groupParts (target - start) (point centre) (target - start) (drop start (closedOf (now (contour .entry))))) (now (starts .entry)) (now (points .entry)) t (now (starts .exit)) (now (points .exit)) r ⌝ }
+    requires { ⌜ (start ≤ target)
+        × (target ≤ length (now contour))
+        × Grid (now contour)
+        × OnGrid centre
+        × RoomFor (now starts) (now points) t (groupParts (target - start) (point centre) (target - start) (drop start (closedOf (now contour)))) ⌝ }
+    ensures { λ r. ⌜ PartsAppended (groupParts (target - start) (point centre) (target - start) (drop start (closedOf (now (contour .entry)))))
+        (now (starts .entry)) (now (points .entry)) t (now (starts .exit)) (now (points .exit)) r ⌝ }
 {
     let mut tally = t;
     let mut at = start;
@@ -125,8 +133,14 @@ pub fn append_sectors(
     points: &mut [[i32; 2]],
     t: Tally,
 ) -> Tally
-    requires { ⌜ (3 ≤ limit) × (limit < length (now contour)) × (length (now contour) ≤ maxContour) × Grid (now contour) × OnGrid centre × RoomFor (now starts) (now points) t (centroidParts limit (point centre) (cornerAt (now contour) 0) (cornersIn (now contour))) ⌝ }
-    ensures { λ r. ⌜ PartsAppended (centroidParts limit (point centre) (cornerAt (now (contour .entry)) 0) (cornersIn (now (contour .entry)))) (now (starts .entry)) (now (points .entry)) t (now (starts .exit)) (now (points .exit)) r ⌝ }
+    requires { ⌜ (3 ≤ limit)
+        × (limit < length (now contour))
+        × (length (now contour) ≤ maxContour)
+        × Grid (now contour)
+        × OnGrid centre
+        × RoomFor (now starts) (now points) t (centroidParts limit (point centre) (cornerAt (now contour) 0) (cornersIn (now contour))) ⌝ }
+    ensures { λ r. ⌜ PartsAppended (centroidParts limit (point centre) (cornerAt (now (contour .entry)) 0) (cornersIn (now (contour .entry))))
+        (now (starts .entry)) (now (points .entry)) t (now (starts .exit)) (now (points .exit)) r ⌝ }
 {
     let edges = contour.len();
     let part_count = split_chords::ceil_div(edges, limit - 2);

@@ -1,5 +1,6 @@
 -- The part table (document 01, "Tables the desks exchange"): "a list of starts and a list of corners (x, y in turn)", its rules, limits and
 -- bounds; parts to table and back. Assumes nothing.
+use mathlib.Core.Path.{_≡_}
 use mathlib.Core.Bool.{Bool, true, false, not, cond}
 use mathlib.Core.List.{List, [], _∷_, flatten}
 use Prim.Native.Nat.{ℕ, _+_, _*_, _-_, _/_, _%_}
@@ -123,3 +124,9 @@ countsOf f ps = cond (eqb f 0) (record { fault = 0; parts = length ps; corners =
 -- "changes no buffer"; "On success places past the answer keep what they held."
 abbrev pub written : {A : Type 0} → ℕ → List A → List A → List A
 written f answer old = cond (eqb f 0) (overlay answer old) old
+
+-- what such a call with the fault number f answers, and leaves in the lent starts and corners, which held s and c
+pub record Answered (f : ℕ) (ps : List (List Pt)) (s : List ℕ) (c : List ℤ) (r : Counts) (s′ : List ℕ) (c′ : List ℤ) : Type 0 where
+  pub counts : r ≡ countsOf f ps
+  pub starts : s′ ≡ written f (startsOf ps) s
+  pub corners : c′ ≡ written f (cornersOf ps) c

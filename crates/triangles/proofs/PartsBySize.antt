@@ -1,5 +1,5 @@
 -- An entry point that answers the parts of a lent slice of triangle structs, into lent starts and corners: by the mesh's size it reads the rows into a local array and hands them on, with starts and corners; past the
--- last size it refuses. `triangles_join` and `triangles_split` have one each; what differs is the function that the rows are handed to, and what the parts are.
+-- last size it refuses. Said over the function that the rows are handed to, and over what the parts are; `triangles_join` has the one entry point.
 --     OfSize, OfAll   the locals of one size, and those of all sizes
 --     Before          what is had between the tests
 --     Frees           what is left to show once an answer is returned

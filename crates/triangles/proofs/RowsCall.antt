@@ -31,19 +31,20 @@ use denote.Triple.Spec.{tripleOf}
 use denote.Triple.Walked.{says}
 use denote.Triple.Clauses.{Ended, Clauses, closing, ensured, lasts}
 use denote.Exit.{yes}
+use Rattle.mesh.specs.Rows.{rowWidth}
 use Rattle.triangles.specs.declared.IntTriangle.{IntTriangle}
 use Rattle.triangles.specs.Triangles.{AreRead}
 use Rattle.triangles.proofs.IntTriangle as T
 
 -- ---- the types
 abbrev pub R : RattleType
-R = Array i32 9
+R = Array i32 rowWidth
 
 abbrev pub Big : ℕ → RattleType
 Big size = Array R size
 
 abbrev pub arr : Ty
-arr = tyArray (tyInt w32) 9
+arr = tyArray (tyInt w32) rowWidth
 
 abbrev pub big : ℕ → Ty
 big size = tyArray arr size
@@ -54,7 +55,7 @@ sl = sliceTy (tyRef (named 0) imm (pointee (T.the-row .written)))
 -- ---- the contract
 abbrev pub ended : ℕ → Ended
 ended size = record {
-  signature = record { lifetimes = 1; outlives = []; params = SliceRefOf (0 ∷ []) tt (plain (λ _. T.the-row)) (λ _. tt) ∷ []; result = ArrayOf (ArrayOf (plain (λ _. i32)) (λ _. tt) 9) (λ _. tt) size };
+  signature = record { lifetimes = 1; outlives = []; params = SliceRefOf (0 ∷ []) tt (plain (λ _. T.the-row)) (λ _. tt) ∷ []; result = ArrayOf (ArrayOf (plain (λ _. i32)) (λ _. tt) rowWidth) (λ _. tt) size };
   kept = (yes, tt);
 }
 
@@ -71,7 +72,7 @@ module _ {M : Type 1} (𝓤 : URA M) where
 
 module _ {M : Type 1} (𝓤 : URA M) (H : Heap 𝓤) (A : Atoms 𝓤) (W : Given 𝓤 H A) (size : ℕ) where
   pub big-lawful : Lawful 𝓤 H A (Big size)
-  big-lawful = array-lawful 𝓤 H A W R (array-lawful 𝓤 H A W i32 (sint-lawful 𝓤 H A W w32) 9) size
+  big-lawful = array-lawful 𝓤 H A W R (array-lawful 𝓤 H A W i32 (sint-lawful 𝓤 H A W w32) rowWidth) size
 
 -- ---- the call
 abbrev pub lent : RefT (List IntTriangle) → Val

@@ -49,7 +49,7 @@ use denote.Triple.Spec.{Meets, tripleOf}
 use denote.Triple.Walked.{says, needs, Stays, stay-none-slice, walkOf, Walks, ends-at, walked, goes-none-slice, walk-meets}
 use denote.Triple.Clauses.{Ended, Clauses, closing, ensured, lasts}
 use denote.Exit.{yes}
-use Rattle.mesh.specs.Rows.{rowTriangle, rowsMesh}
+use Rattle.mesh.specs.Rows.{rowTriangle, rowsMesh, rowWidth, rowBytes}
 use Rattle.triangles.specs.declared.IntTriangle.{IntTriangle}
 use Rattle.triangles.specs.Triangles.{noStruct, structTriangle, trianglesMesh}
 use Rattle.triangles.proofs.Local.{apart, gathered}
@@ -87,18 +87,18 @@ module _ (size : ℕ) (#blank : Name) where
   vals = array-vals (sint-vals w32)
 
   tells : Tells R (Is R) vals
-  tells = array-tells i32 (sint-vals w32) (sint-tells w32) 9
+  tells = array-tells i32 (sint-vals w32) (sint-tells w32) rowWidth
 
   -- ---- the contract, and the code
   abbrev pub blank-ended : Ended
-  blank-ended = record { signature = record { lifetimes = 0; outlives = []; params = []; result = ArrayOf (ArrayOf (plain (λ _. i32)) (λ _. tt) 9) (λ _. tt) size }; kept = tt }
+  blank-ended = record { signature = record { lifetimes = 0; outlives = []; params = []; result = ArrayOf (ArrayOf (plain (λ _. i32)) (λ _. tt) rowWidth) (λ _. tt) size }; kept = tt }
 
   -- one turn: k < mesh.len(), t = triangle_at(mesh, k), rows[k] = row_of(t), k += 1
   abbrev turn : Body
   turn =
       seq (assign (place 6 []) (rvOpd (copy (place 1 (field 1 ∷ []))))) (seq (assign (place 7 []) (op2 (lt unsigned) (copy (place 3 [])) (copy (place 6 [])))) (seq (cond (copy (place 7 [])) skip (exit 1))
       (seq (call #get (copy (place 1 []) ∷ copy (place 3 []) ∷ []) (place 4 [])) (seq (call #step (copy (place 4 []) ∷ []) (place 8 []))
-      (seq (assign (place 6 []) (op2 (mul unsigned) (copy (place 3 [])) (int w64 36))) (seq (assign (place 9 []) (addrOf (place 2 []))) (seq (assign (place 10 []) (op2 offset (copy (place 9 [])) (copy (place 6 []))))
+      (seq (assign (place 6 []) (op2 (mul unsigned) (copy (place 3 [])) (int w64 rowBytes))) (seq (assign (place 9 []) (addrOf (place 2 []))) (seq (assign (place 10 []) (op2 offset (copy (place 9 [])) (copy (place 6 []))))
       (seq (assign (place 10 (deref arr ∷ [])) (rvOpd (copy (place 8 [])))) (assign (place 3 []) (op2 (add unsigned) (copy (place 3 [])) (int w64 1)))))))))))
 
   -- after the loop: the array is returned
@@ -158,7 +158,7 @@ module _ (size : ℕ) (#blank : Name) where
     fits-len = gn .0
 
     R-lawful : Lawful 𝓤 H A R
-    R-lawful = array-lawful 𝓤 H A W i32 (sint-lawful 𝓤 H A W w32) 9
+    R-lawful = array-lawful 𝓤 H A W i32 (sint-lawful 𝓤 H A W w32) rowWidth
 
     Big-lawful : Lawful 𝓤 H A Array′
     Big-lawful = big-lawful 𝓤 H A W size
@@ -246,7 +246,7 @@ module _ (size : ℕ) (#blank : Name) where
           assigns ! (bin ! (load ! (from ! (stop !)) (look ! 18 refl)) (lit ! tt) (scaled-fits (a .i) (length ys) 36 less (gn .1))) (from ! (stop !)) (store ! 12 refl (tt, scaled-fits (a .i) (length ys) 36 less (gn .1))) $
           assigns ! (addr ! (from ! (stop !))) (from ! (stop !)) (init ! 6 refl (tt, tt)) $
           assigns ! (bin ! (load ! (from ! (stop !)) (look ! 6 refl)) (load ! (from ! (stop !)) (look ! 12 refl)) tt) (from ! (stop !)) (init ! 4 refl (tt, tt)) $
-          rewrite ! 4 (λ (o : ℕ). ‵ (fat fullShare tyPtr l₁₀ 0 (vptr l₂ o))) (sym (place-is 36 0 (a .i))) refl $
+          rewrite ! 4 (λ (o : ℕ). ‵ (fat fullShare tyPtr l₁₀ 0 (vptr l₂ o))) (sym (place-is rowBytes 0 (a .i))) refl $
           move ! (3 ∷ []) $ elem-out ! R (Is R) (shows 𝓤 H A R) vals tells fullShare (a .rows) (a .i) [] l₂ 0 in-rows (λ _.
           -- [rows[k]; what it owns; the others; what the new row owns; the token; what mesh owns; _10; …; _9; …; _8; …]
           assigns ! (of-opd ! (load ! (from ! (stop !)) (look ! 10 refl))) (from ! (hop ! (look ! 6 refl) (stop !))) (store-raw ! 0 refl (R-lawful .typed t _ is′ .0)) $

@@ -10,6 +10,7 @@ ghost use Rattle.convex_regions.specs.Parts.{tiny, small};
 ghost use Rattle.triangles.specs.Triangles.{noStruct, structTriangle, AreRead};
 use convex_regions::SMALL;
 use convex_regions::TINY;
+use mesh::Row;
 use plane::IntPoint;
 
 // A triangle: its three points, and the three neighbours across from them. None is 4,294,967,295.
@@ -20,7 +21,7 @@ pub struct IntTriangle {
 }
 
 // The row of a triangle.
-pub fn row_of(t: IntTriangle) -> [i32; 9]
+pub fn row_of(t: IntTriangle) -> Row
     ensures { λ r. ⌜ rowTriangle r ≡ structTriangle t ⌝ }
 {
     let a = t.vertices[0];
@@ -48,12 +49,12 @@ pub fn triangle_at(mesh: &[IntTriangle], k: usize) -> IntTriangle
 }
 
 // Rows for a tiny mesh, before they are read.
-fn blank_tiny() -> [[i32; 9]; TINY] {
-    [[0i32; 9]; TINY]
+fn blank_tiny() -> [Row; TINY] {
+    [[0i32; mesh::ROW]; TINY]
 }
 
 // The rows of a tiny mesh, on the front of the array.
-pub fn rows_tiny(mesh: &[IntTriangle]) -> [[i32; 9]; TINY]
+pub fn rows_tiny(mesh: &[IntTriangle]) -> [Row; TINY]
     requires { ⌜ length (now mesh) ≤ tiny ⌝ }
     ensures { λ r. ⌜ AreRead (now (mesh .entry)) r ⌝ }
 {
@@ -68,12 +69,12 @@ pub fn rows_tiny(mesh: &[IntTriangle]) -> [[i32; 9]; TINY]
 }
 
 // Rows for a small mesh, before they are read.
-fn blank_small() -> [[i32; 9]; SMALL] {
-    [[0i32; 9]; SMALL]
+fn blank_small() -> [Row; SMALL] {
+    [[0i32; mesh::ROW]; SMALL]
 }
 
 // The rows of a small mesh, on the front of the array.
-pub fn rows_small(mesh: &[IntTriangle]) -> [[i32; 9]; SMALL]
+pub fn rows_small(mesh: &[IntTriangle]) -> [Row; SMALL]
     requires { ⌜ length (now mesh) ≤ small ⌝ }
     ensures { λ r. ⌜ AreRead (now (mesh .entry)) r ⌝ }
 {
@@ -88,12 +89,12 @@ pub fn rows_small(mesh: &[IntTriangle]) -> [[i32; 9]; SMALL]
 }
 
 // Rows for any mesh, before they are read.
-fn blank_large() -> [[i32; 9]; mesh::MAX_TRIANGLES] {
-    [[0i32; 9]; mesh::MAX_TRIANGLES]
+fn blank_large() -> [Row; mesh::MAX_TRIANGLES] {
+    [[0i32; mesh::ROW]; mesh::MAX_TRIANGLES]
 }
 
 // The rows of any mesh, on the front of the array.
-pub fn rows_large(mesh: &[IntTriangle]) -> [[i32; 9]; mesh::MAX_TRIANGLES]
+pub fn rows_large(mesh: &[IntTriangle]) -> [Row; mesh::MAX_TRIANGLES]
     requires { ⌜ length (now mesh) ≤ maxTriangles ⌝ }
     ensures { λ r. ⌜ AreRead (now (mesh .entry)) r ⌝ }
 {

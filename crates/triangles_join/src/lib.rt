@@ -7,46 +7,48 @@ ghost use lib.ListN.{length, take};
 ghost use Rattle.mesh.specs.Mesh.{maxTriangles};
 ghost use Rattle.mesh.specs.Rows.{rowsMesh};
 ghost use Rattle.convex_regions.specs.Parts.{tiny, small};
-ghost use Rattle.convex.specs.Joining.{partsCounts, partsStarts, partsCorners};
+ghost use Rattle.convex.specs.Joining.{PartsAnswered};
 ghost use Rattle.triangles.specs.Triangles.{trianglesMesh};
 use convex_regions::SMALL;
 use convex_regions::TINY;
+use mesh::Row;
 use table::Counts;
 use triangles::IntTriangle;
 
 // The parts of the mesh on the front of the rows.
-fn join_front(rows: &[[i32; 9]], n: usize, starts: &mut [u32], corners: &mut [i32]) -> Counts
+fn join_front(rows: &[Row], n: usize, starts: &mut [u32], corners: &mut [i32]) -> Counts
     requires { ⌜ n ≤ length (now rows) ⌝ }
-    ensures { λ r. ⌜ (r ≡ partsCounts (rowsMesh (take n (now (rows .entry)))) (now (starts .entry)) (now (corners .entry))) × (now (starts .exit) ≡ partsStarts (rowsMesh (take n (now (rows .entry)))) (now (starts .entry)) (now (corners .entry))) × (now (corners .exit) ≡ partsCorners (rowsMesh (take n (now (rows .entry)))) (now (starts .entry)) (now (corners .entry))) ⌝ }
+    ensures { λ r. ⌜ PartsAnswered (rowsMesh (take n (now (rows .entry))))
+        (now (starts .entry)) (now (corners .entry)) r (now (starts .exit)) (now (corners .exit)) ⌝ }
 {
     convex_join::to_convex_polygons(&rows[..n], starts, corners)
 }
 
 // The same of the rows of a tiny mesh.
-fn join_tiny(rows: [[i32; 9]; TINY], n: usize, starts: &mut [u32], corners: &mut [i32]) -> Counts
+fn join_tiny(rows: [Row; TINY], n: usize, starts: &mut [u32], corners: &mut [i32]) -> Counts
     requires { ⌜ n ≤ tiny ⌝ }
-    ensures { λ r. ⌜ (r ≡ partsCounts (rowsMesh (take n rows)) (now (starts .entry)) (now (corners .entry))) × (now (starts .exit) ≡ partsStarts (rowsMesh (take n rows)) (now (starts .entry)) (now (corners .entry))) × (now (corners .exit) ≡ partsCorners (rowsMesh (take n rows)) (now (starts .entry)) (now (corners .entry))) ⌝ }
+    ensures { λ r. ⌜ PartsAnswered (rowsMesh (take n rows)) (now (starts .entry)) (now (corners .entry)) r (now (starts .exit)) (now (corners .exit)) ⌝ }
 {
     join_front(&rows, n, starts, corners)
 }
 
 // The same of the rows of a small mesh.
-fn join_small(rows: [[i32; 9]; SMALL], n: usize, starts: &mut [u32], corners: &mut [i32]) -> Counts
+fn join_small(rows: [Row; SMALL], n: usize, starts: &mut [u32], corners: &mut [i32]) -> Counts
     requires { ⌜ n ≤ small ⌝ }
-    ensures { λ r. ⌜ (r ≡ partsCounts (rowsMesh (take n rows)) (now (starts .entry)) (now (corners .entry))) × (now (starts .exit) ≡ partsStarts (rowsMesh (take n rows)) (now (starts .entry)) (now (corners .entry))) × (now (corners .exit) ≡ partsCorners (rowsMesh (take n rows)) (now (starts .entry)) (now (corners .entry))) ⌝ }
+    ensures { λ r. ⌜ PartsAnswered (rowsMesh (take n rows)) (now (starts .entry)) (now (corners .entry)) r (now (starts .exit)) (now (corners .exit)) ⌝ }
 {
     join_front(&rows, n, starts, corners)
 }
 
 // The same of the rows of any mesh.
 fn join_large(
-    rows: [[i32; 9]; mesh::MAX_TRIANGLES],
+    rows: [Row; mesh::MAX_TRIANGLES],
     n: usize,
     starts: &mut [u32],
     corners: &mut [i32],
 ) -> Counts
     requires { ⌜ n ≤ maxTriangles ⌝ }
-    ensures { λ r. ⌜ (r ≡ partsCounts (rowsMesh (take n rows)) (now (starts .entry)) (now (corners .entry))) × (now (starts .exit) ≡ partsStarts (rowsMesh (take n rows)) (now (starts .entry)) (now (corners .entry))) × (now (corners .exit) ≡ partsCorners (rowsMesh (take n rows)) (now (starts .entry)) (now (corners .entry))) ⌝ }
+    ensures { λ r. ⌜ PartsAnswered (rowsMesh (take n rows)) (now (starts .entry)) (now (corners .entry)) r (now (starts .exit)) (now (corners .exit)) ⌝ }
 {
     join_front(&rows, n, starts, corners)
 }
@@ -59,7 +61,8 @@ pub extern "C" fn to_convex_polygons(
     starts: &mut [u32],
     corners: &mut [i32],
 ) -> Counts
-    ensures { λ r. ⌜ (r ≡ partsCounts (trianglesMesh (now (mesh .entry))) (now (starts .entry)) (now (corners .entry))) × (now (starts .exit) ≡ partsStarts (trianglesMesh (now (mesh .entry))) (now (starts .entry)) (now (corners .entry))) × (now (corners .exit) ≡ partsCorners (trianglesMesh (now (mesh .entry))) (now (starts .entry)) (now (corners .entry))) ⌝ }
+    ensures { λ r. ⌜ PartsAnswered (trianglesMesh (now (mesh .entry))) (now (starts .entry)) (now (corners .entry))
+        r (now (starts .exit)) (now (corners .exit)) ⌝ }
 {
     let n = mesh.len();
     if n <= TINY {

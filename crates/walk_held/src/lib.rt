@@ -1,7 +1,8 @@
 // A walk that holds its contour (document 01: "Walk holds a contour slice, index, direction and remaining steps; thin point, edge and advance over
 // covered functions"). Each call takes the struct apart and hands its contour and its place to the covered function that answers: it takes any walk,
 // also one that a caller made up, and refuses as walk_step does. `begin` and `advance` return the walk and tell the fault number, 0 for none, in a
-// lent number; a refused step returns it as it came. Leans on walk_step and walk_begin.
+// lent number; a refused step returns it as it came. The four are proved by walks of their MIR, by hand; `begun` and `advanced`, which compute the places, are not,
+// and are exported to C for the runs beside the Rust alone. Leans on walk_step and walk_begin.
 ghost use mathlib.Core.Path.{_≡_};
 ghost use Rattle.walk.specs.Calls.{stepFault};
 ghost use Rattle.walk.specs.Contracts.{PointedBy, EdgedBy, MovedBy};
@@ -20,7 +21,8 @@ pub struct Walk<'a> {
 }
 
 // Where a walk begins, nowhere where it is refused, and the fault number in `fault`.
-fn begun(contour: &[i32], reflected: bool, fault: &mut u32) -> Place
+#[no_mangle]
+pub extern "C" fn begun(contour: &[i32], reflected: bool, fault: &mut u32) -> Place
     ensures { λ r. ⌜ BegunPlace (now (contour .entry)) reflected (now (fault .exit)) r ⌝ }
 {
     let start = walk_begin::begin(contour, reflected);
@@ -70,7 +72,8 @@ pub fn edge<'a>(w: Walk<'a>) -> Edged
 }
 
 // Where a walk stands one step on, or as it came where it is refused, and the fault number in `fault`.
-fn advanced(contour: &[i32], place: Place, fault: &mut u32) -> Place
+#[no_mangle]
+pub extern "C" fn advanced(contour: &[i32], place: Place, fault: &mut u32) -> Place
     ensures { λ r. ⌜ (now (fault .exit) ≡ stepFault (now (contour .entry)) place) × MovedBy (now (contour .entry)) place r ⌝ }
 {
     let step = walk_step::advance(contour, place);

@@ -22,24 +22,7 @@ use judge::pairs::Operation;
 use judge::shown::Side;
 use judge::Point;
 
-/// A walk that holds its contour, as it passes to C.
-#[repr(C)]
-pub struct Walk {
-    contour: *const i32,
-    length: usize,
-    place: Place,
-}
-
-/// What `point`, `edge` and `advance` of one answer.
-#[repr(C)]
-pub struct Called {
-    point: ToldPoint,
-    edge: ToldEdge,
-    place: Place,
-}
-
 mod archive {
-    use super::{Called, Walk};
     use super::{Bounds, Counts, Place, Places, Row, Told, ToldLength, ToldPairs, ToldPart};
     use super::{ToldEdge, ToldNext, ToldPair, ToldPlace, ToldPlacement, ToldPoint, ToldStep};
     use crate::listing::TEXT;
@@ -85,8 +68,7 @@ mod archive {
             corners: *mut i32,
             corners_lent: usize,
         ) -> Counts;
-        // of libforms.a: over slices of triangle structs, each as many bytes as a row
-        pub fn mesh_fault(mesh: *const Row, triangles: usize) -> u32;
+        // of libforms.a: over a slice of triangle structs, each as many bytes as a row
         pub fn to_convex_polygons(
             mesh: *const Row,
             triangles: usize,
@@ -95,24 +77,10 @@ mod archive {
             corners: *mut i32,
             corners_lent: usize,
         ) -> Counts;
-        pub fn split_triangles(
-            mesh: *const Row,
-            triangles: usize,
-            limit: u32,
-            split: u32,
-            starts: *mut u32,
-            starts_lent: usize,
-            corners: *mut i32,
-            corners_lent: usize,
-        ) -> Counts;
-        // of libforms.a too: a walk that holds its contour
-        pub fn held_begin(
-            contour: *const i32,
-            length: usize,
-            reflected: bool,
-            fault: *mut u32,
-        ) -> Place;
-        pub fn held_calls(walk: Walk, fault: *mut u32) -> Called;
+        // of libforms.a too: where a walk that holds its contour begins and goes
+        pub fn begun(contour: *const i32, length: usize, reflected: bool, fault: *mut u32)
+            -> Place;
+        pub fn advanced(contour: *const i32, length: usize, at: Place, fault: *mut u32) -> Place;
         pub fn bezinkwolu_read_table(
             bytes: *const u8,
             bytes_length: usize,
@@ -236,19 +204,9 @@ pub const ENTRY_POINTS: &[Named] = &[
         let entry = with_max_vertices_beside(to_convex_polygons_with_max_vertices);
         run(&entry, s, n)
     }),
-    ("mesh_fault of structs", |s, n| {
-        let mut entry = mesh_fault_beside(structs_fault);
-        entry.name = "mesh_fault of structs";
-        run(&entry, s, n)
-    }),
     ("to_convex_polygons of structs", |s, n| {
         let mut entry = to_convex_polygons_beside(structs_joined);
         entry.name = "to_convex_polygons of structs";
-        run(&entry, s, n)
-    }),
-    ("to_convex_polygons_with_max_vertices of structs", |s, n| {
-        let mut entry = with_max_vertices_beside(structs_split);
-        entry.name = "to_convex_polygons_with_max_vertices of structs";
         run(&entry, s, n)
     }),
     ("read_table", |s, n| {
@@ -270,25 +228,12 @@ pub const ENTRY_POINTS: &[Named] = &[
     }),
     ("walk next", |s, n| run(&walk::next_beside(walk_next), s, n)),
     ("walk begin, held", |s, n| {
-        let mut entry = walk::begin_beside(held_begin);
+        let mut entry = walk::begin_beside(held_begun);
         entry.name = "walk begin, held";
         run(&entry, s, n)
     }),
-    ("walk point, held", |s, n| {
-        let mut entry = walk::point_beside(|contour, at| held_calls(contour, at).1.point);
-        entry.name = "walk point, held";
-        run(&entry, s, n)
-    }),
-    ("walk edge, held", |s, n| {
-        let mut entry = walk::edge_beside(|contour, at| held_calls(contour, at).1.edge);
-        entry.name = "walk edge, held";
-        run(&entry, s, n)
-    }),
     ("walk advance, held", |s, n| {
-        let mut entry = walk::advance_beside(|contour, at| {
-            let (fault, Called { place, .. }) = held_calls(contour, at);
-            ToldPlace { fault, place }
-        });
+        let mut entry = walk::advance_beside(held_advanced);
         entry.name = "walk advance, held";
         run(&entry, s, n)
     }),
@@ -378,38 +323,13 @@ pub fn to_convex_polygons_with_max_vertices(
     }
 }
 
-/// The three over triangle structs: a row's nine numbers are x and y of a struct's three
+/// Joining over triangle structs: a row's nine numbers are x and y of a struct's three
 /// points and its three neighbours, at the same places.
-pub fn structs_fault(mesh: Handed<Row>) -> u32 {
-    unsafe { archive::mesh_fault(mesh.at, mesh.length) }
-}
-
 pub fn structs_joined(mesh: Handed<Row>, starts: Handed<u32>, corners: Handed<i32>) -> Counts {
     unsafe {
         archive::to_convex_polygons(
             mesh.at,
             mesh.length,
-            starts.at,
-            starts.length,
-            corners.at,
-            corners.length,
-        )
-    }
-}
-
-pub fn structs_split(
-    mesh: Handed<Row>,
-    limit: u32,
-    split: u32,
-    starts: Handed<u32>,
-    corners: Handed<i32>,
-) -> Counts {
-    unsafe {
-        archive::split_triangles(
-            mesh.at,
-            mesh.length,
-            limit,
-            split,
             starts.at,
             starts.length,
             corners.at,
@@ -491,20 +411,16 @@ fn numbered<T>(call: impl FnOnce(*mut u32) -> T) -> (u32, T) {
     (if kept { number } else { u32::MAX }, told)
 }
 
-fn held_begin(contour: Handed<i32>, reflected: bool) -> ToldPlace {
-    let (fault, place) = numbered(|fault| unsafe {
-        archive::held_begin(contour.at, contour.length, reflected, fault)
-    });
+fn held_begun(contour: Handed<i32>, reflected: bool) -> ToldPlace {
+    let (fault, place) =
+        numbered(|fault| unsafe { archive::begun(contour.at, contour.length, reflected, fault) });
     ToldPlace { fault, place }
 }
 
-fn held_calls(contour: Handed<i32>, place: Place) -> (u32, Called) {
-    let walk = Walk {
-        contour: contour.at,
-        length: contour.length,
-        place,
-    };
-    numbered(|fault| unsafe { archive::held_calls(walk, fault) })
+fn held_advanced(contour: Handed<i32>, at: Place) -> ToldPlace {
+    let (fault, place) =
+        numbered(|fault| unsafe { archive::advanced(contour.at, contour.length, at, fault) });
+    ToldPlace { fault, place }
 }
 
 fn pair_new(left: Handed<i32>, right: Handed<i32>) -> ToldPair {
@@ -633,14 +549,7 @@ fn difference_parts(
 pub fn placement(contours: HandedTable, (x, y): Point) -> ToldPlacement {
     let HandedTable { starts, corners } = contours;
     unsafe {
-        archive::bezinkwolu_placement(
-            starts.at,
-            starts.length,
-            corners.at,
-            corners.length,
-            x,
-            y,
-        )
+        archive::bezinkwolu_placement(starts.at, starts.length, corners.at, corners.length, x, y)
     }
 }
 

@@ -39,8 +39,7 @@ pub fn mesh_fault_beside<F>(rattle: F) -> MeshFault<F>
 where
     F: Fn(Handed<Row>) -> u32,
 {
-    let name = "mesh_fault";
-    MeshFault { name, rattle }
+    MeshFault { rattle }
 }
 
 pub fn to_convex_polygons_beside<F>(rattle: F) -> ToConvexPolygons<F>
@@ -93,8 +92,6 @@ pub(crate) fn any(rng: &mut Rng) -> (Mesh, Vec<Fault>) {
 // ---- the fault alone
 
 pub struct MeshFault<F> {
-    /// What it is called: rows and structs are asked alike.
-    pub name: &'static str,
     rattle: F,
 }
 
@@ -103,7 +100,7 @@ impl<F: Fn(Handed<Row>) -> u32> EntryPoint for MeshFault<F> {
     type Answer = Kept<u32>;
 
     fn name(&self) -> &'static str {
-        self.name
+        "mesh_fault"
     }
 
     fn faults(&self) -> &'static [u32] {
@@ -163,6 +160,7 @@ pub fn size(mesh: &Mesh) -> Size {
 }
 
 pub struct ToConvexPolygons<F> {
+    /// What it is called: rows and structs are asked alike.
     pub name: &'static str,
     rattle: F,
 }

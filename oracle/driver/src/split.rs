@@ -22,7 +22,6 @@ where
     F: Fn(Handed<Row>, u32, u32, Handed<u32>, Handed<i32>) -> Counts,
 {
     WithMaxVertices {
-        name: "to_convex_polygons_with_max_vertices",
         rattle,
         small: || Box::new(fixed()),
     }
@@ -164,8 +163,6 @@ fn any_call(rng: &mut Rng) -> Call {
 // ---- the entry point
 
 pub struct WithMaxVertices<F> {
-    /// What it is called: rows and structs are asked alike.
-    pub name: &'static str,
     rattle: F,
     /// The small meshes that it is asked.
     small: fn() -> Box<dyn Iterator<Item = Mesh>>,
@@ -179,7 +176,7 @@ where
     type Answer = Kept<Written>;
 
     fn name(&self) -> &'static str {
-        self.name
+        "to_convex_polygons_with_max_vertices"
     }
 
     fn faults(&self) -> &'static [u32] {
@@ -262,7 +259,6 @@ mod tests {
     /// With one small mesh in so many, to be quick.
     fn beside(rattle: WritesSplit) -> impl EntryPoint {
         WithMaxVertices {
-            name: "to_convex_polygons_with_max_vertices",
             rattle: asked(rattle),
             small: || Box::new(fixed().step_by(37)),
         }

@@ -9,8 +9,7 @@ use Rattle.boundary_split.proofs.bezinkwolu_to_convex_polygons_with_max
 returns : tie.Need-returns
 returns c =
     let s = c .before .before in
-    let a = no-split (s .args .split) (s .args .limit) (rowsMesh (s .args .mesh .now)) (s .args .starts .now) (s .args .corners .now) (c .if1 .taken) in
-    (a .counts, (a .starts, a .corners))
+    no-split (s .args .split) (s .args .limit) (rowsMesh (s .args .mesh .now)) (s .args .starts .now) (s .args .corners .now) (c .if1 .taken)
 
 strategy-requires : tie.Need-strategy-requires
 strategy-requires c κs = search needs
@@ -31,8 +30,7 @@ returns-2 c =
     let t = d .before .before .before in
     let s = t .before .before .before in
     let e = d .to-convex-polygons-with-max-vertices .ensures in
-    let a = by-split (s .args .split) (s .args .limit) (rowsMesh (s .args .mesh .now)) (s .args .starts .now) (s .args .corners .now) (t .before .if1 .left) _ (t .strategy .ensures) (e .0) (e .1 .0) (e .1 .1) in
-    (a .counts, (a .starts, a .corners))
+    by-split (s .args .split) (s .args .limit) (rowsMesh (s .args .mesh .now)) (s .args .starts .now) (s .args .corners .now) (t .before .if1 .left) _ (t .strategy .ensures) (record { counts = e .0; starts = e .1 .0; corners = e .1 .1 })
 
 pub bezinkwolu-to-convex-polygons-with-max-vertices-spec : {M : Type 1} → statement M
 bezinkwolu-to-convex-polygons-with-max-vertices-spec =

@@ -19,8 +19,7 @@ unfolding partsFault
 returns c =
     let s = c .before .before .before .before in
     let m = rowsMesh (s .args .mesh .now) in
-    let a = mesh-refused m (parts m) (s .args .starts .now) (s .args .corners .now) (c .before .before .mesh-fault .ensures) (c .before .if1 .taken) (c .refusal .ensures) in
-    (a .counts, (a .starts, a .corners))
+    mesh-refused m (parts m) (s .args .starts .now) (s .args .corners .now) (c .before .before .mesh-fault .ensures) (c .before .if1 .taken) (c .refusal .ensures)
 
 join-tiny-requires : tie.Need-join-tiny-requires
 join-tiny-requires c κs = search needs

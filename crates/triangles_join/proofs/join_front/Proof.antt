@@ -1,11 +1,12 @@
 -- `triangles_join::join_front` meets its contract. Assumes nothing.
+use mathlib.Core.Path.{sym}
+use lib.Seq.{length-take-le}
 use borrow.Author.Needs.{needs}
-use Rattle.triangles_faults.proofs.Front.{front}
 use Rattle.triangles_join.proofs.join_front.Statement.{statement}
 use Rattle.triangles_join.proofs.join_front.Tie as tie
 
 slice-aggregate-to-convex-polygons : tie.Need-slice-aggregate-to-convex-polygons
-slice-aggregate-to-convex-polygons c = front _ _ (search needs)
+slice-aggregate-to-convex-polygons c = sym (length-take-le _ _ (search needs))
 
 to-convex-polygons-requires : tie.Need-to-convex-polygons-requires
 to-convex-polygons-requires c κs = search needs

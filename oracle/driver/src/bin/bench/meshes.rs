@@ -5,8 +5,8 @@
 //! again, and for another mesh each time.
 
 use crate::timing::{median, timed};
+use driver::boundary::structs_joined;
 use driver::boundary::{mesh_fault, to_convex_polygons, to_convex_polygons_with_max_vertices};
-use driver::boundary::{structs_fault, structs_joined, structs_split};
 use driver::mesh::{rows, Row};
 use driver::told::Counts;
 use i_triangle::advanced::convex::ConvexSplitStrategy::{self, Centroid, EarClipping, Fan};
@@ -40,18 +40,18 @@ pub fn joining(rounds: usize) {
     println!("1,024 triangles, with the checks: median {middle:4.2}, greatest {greatest:4.2}");
 }
 
-/// The calls over triangle structs, which copy them into rows first, over the same calls
-/// over rows: the copy's share. Another mesh each time.
+/// Joining over triangle structs, which copies them into rows first, over joining over
+/// rows: the copy's share. Another mesh each time.
 pub fn structs(rounds: usize) {
-    println!("over structs / over rows: the checks, joining, splitting past 3 as a fan");
+    println!("joining over structs / over rows");
     for &(name, kind, sizes) in STRUCT_KINDS {
         for &triangles in sizes {
             let mut rng = Rng::new(1);
             let all: Vec<Vec<Row>> = (0..MESHES)
                 .map(|_| rows(&kind(&mut rng, triangles)))
                 .collect();
-            let [checks, joined, split] = struct_ratios(&all, rounds);
-            println!("{checks:4.2} {joined:4.2} {split:4.2}    {triangles} triangles: {name}");
+            let joined = struct_ratio(&all, rounds);
+            println!("{joined:4.2}    {triangles} triangles: {name}");
         }
     }
 }
@@ -69,38 +69,28 @@ const STRUCT_KINDS: &[(&str, Kind, &[usize])] = &[
     ),
 ];
 
-fn struct_ratios(all: &[Vec<Row>], rounds: usize) -> [f64; 3] {
-    let mut starts = vec![0u32; 2 * TRIANGLES + 1];
-    let mut corners = vec![0i32; 12 * TRIANGLES];
+fn struct_ratio(all: &[Vec<Row>], rounds: usize) -> f64 {
+    let mut starts = vec![0u32; TRIANGLES + 1];
+    let mut corners = vec![0i32; 6 * TRIANGLES];
     let times = (TRIANGLES / all[0].len()).min(MESHES);
-    let mut taken = [const { Vec::new() }; 6];
+    let mut taken = [const { Vec::new() }; 2];
     for round in 0..rounds {
         let at = |shift: usize| black_box(&all[(round + shift) % all.len()][..]);
         let mut lent = || {
             let (starts, corners) = (black_box(&mut starts[..]), black_box(&mut corners[..]));
             (starts.into(), corners.into())
         };
-        taken[0].push(timed(times, |k| mesh_fault(at(k).into())));
-        taken[1].push(timed(times, |k| structs_fault(at(k + 10).into())));
-        taken[2].push(timed(times, |k| {
+        taken[0].push(timed(times, |k| {
             let (starts, corners) = lent();
-            to_convex_polygons(at(k + 20).into(), starts, corners)
+            to_convex_polygons(at(k).into(), starts, corners)
         }));
-        taken[3].push(timed(times, |k| {
+        taken[1].push(timed(times, |k| {
             let (starts, corners) = lent();
-            structs_joined(at(k + 30).into(), starts, corners)
-        }));
-        taken[4].push(timed(times, |k| {
-            let (starts, corners) = lent();
-            to_convex_polygons_with_max_vertices(at(k + 40).into(), 3, 1, starts, corners)
-        }));
-        taken[5].push(timed(times, |k| {
-            let (starts, corners) = lent();
-            structs_split(at(k + 50).into(), 3, 1, starts, corners)
+            structs_joined(at(k + 10).into(), starts, corners)
         }));
     }
-    let [a, b, c, d, e, f] = taken.map(median);
-    [b / a, d / c, f / e]
+    let [rows, structs] = taken.map(median);
+    structs / rows
 }
 
 /// Each split, past two limits.
