@@ -40,18 +40,18 @@ module _ (bytes s : List ℕ) (c : List ℤ) {told : Counts} {s′ : List ℕ} {
   pub refused-room : (told .fault ≡ 0 → ⊥) → length (refusal (told .fault)) ≤ listingRoom
   refused-room h = omega (arith, listing-fits bytes, ap length (told-refused h))
 
-  module _ (ls : length s ≡ 2049) (lc : length c ≡ 12288) (z : told .fault ≡ 0) where
+  module _ (z : told .fault ≡ 0) where
     none : fileFault bytes ≡ 0
     none = sym (fault-is bytes s c left) ∙ z
 
     pub parts-listed : listingOf (tableParts (take (told .parts + 1) s′) (take (2 * told .corners) c′)) ≡ areasOf bytes
     parts-listed =
-        (λ t. listingOf (tableParts (starts-taken bytes s c left ls lc z t) (corners-taken bytes s c left ls lc z t))) ∙ ap listingOf (parts-table (fileParts bytes)) ∙ sym (file-listed bytes none)
+        (λ t. listingOf (tableParts (starts-taken bytes s c left z t) (corners-taken bytes s c left z t))) ∙ ap listingOf (parts-table (fileParts bytes)) ∙ sym (file-listed bytes none)
 
     pub parts-listable : Listable (take (told .parts + 1) s′) (take (2 * told .corners) c′)
     parts-listable =
-        subst (λ u. Listable u (take (2 * told .corners) c′)) (sym (starts-taken bytes s c left ls lc z))
-        (subst (Listable (startsOf (fileParts bytes))) (sym (corners-taken bytes s c left ls lc z)) (file-listable bytes none .listable))
+        subst (λ u. Listable u (take (2 * told .corners) c′)) (sym (starts-taken bytes s c left z))
+        (subst (Listable (startsOf (fileParts bytes))) (sym (corners-taken bytes s c left z)) (file-listable bytes none .listable))
 
     pub listed-room : length (listingOf (tableParts (take (told .parts + 1) s′) (take (2 * told .corners) c′))) ≤ listingRoom
     listed-room = omega (arith, listing-fits bytes, ap length parts-listed)

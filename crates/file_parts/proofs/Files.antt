@@ -29,7 +29,7 @@ use Rattle.split.proofs.Sizes.{split-table}
 use Rattle.listing.specs.File.{triangleCount, cornerLimit, splitNumber, strategyOf, recordsOf, meshOf, headerKinds, fileFault, fileParts}
 use Rattle.listing.proofs.File.{header-told, mesh-told, accepted-mesh, sound}
 use Rattle.mesh_file.proofs.Records.{mesh-records}
-use Rattle.file_parts.specs.Room.{FileRoom}
+use Rattle.file_parts.specs.Room.{FileRoom, Within}
 
 -- ---- where there is room for any parts, the mesh alone decides
 
@@ -68,10 +68,52 @@ module _ (bytes : List ℕ) (rows : List (List ℤ)) (h : firstFault (headerKind
       let d : length (drop 20 bytes) ≡ length bytes - 20 = length-drop 20 bytes in
       e ∙ (λ t. recordsOf (n t) (wordsOf ((ap (λ k. take k (drop 20 bytes)) (sym d) ∙ take-length (drop 20 bytes)) t))) ∙ sym (mesh-records bytes)
 
+-- the fault that counts tell
+pub told-fault : (f : ℕ) (ps : List (List Pt)) → countsOf f ps .fault ≡ f
+told-fault zero ps = refl
+told-fault (suc f) ps = ap (λ r. r .fault) (refused-counts (suc f) (λ z. omega (arith, z)) ps)
+
+-- ---- what stands on the front of the arrays after success
+
+module _ (bytes s : List ℕ) (c : List ℤ) {r : Counts} {s′ : List ℕ} {c′ : List ℤ}
+    (counts : r ≡ countsOf (fileFault bytes) (fileParts bytes)) (starts : s′ ≡ written (fileFault bytes) (startsOf (fileParts bytes)) s) (corners : c′ ≡ written (fileFault bytes) (cornersOf (fileParts bytes)) c) where
+  fault-told : r .fault ≡ fileFault bytes
+  fault-told = ap (λ x. x .fault) counts ∙ told-fault (fileFault bytes) (fileParts bytes)
+
+  module _ (z : r .fault ≡ 0) where
+    none : fileFault bytes ≡ 0
+    none = sym fault-told ∙ z
+
+    parts-told : r .parts + 1 ≡ length (startsOf (fileParts bytes))
+    parts-told = ap (λ x. x .parts + 1) (counts ∙ accepted-counts _ none (fileParts bytes)) ∙ sym (length-starts (fileParts bytes) ∙ sym (add-one (length (fileParts bytes))))
+
+    corners-told : 2 * r .corners ≡ length (cornersOf (fileParts bytes))
+    unfolding cornersOf
+    corners-told = ap (λ x. 2 * x .corners) (counts ∙ accepted-counts _ none (fileParts bytes)) ∙ sym (length-numbers (flatten (fileParts bytes)))
+
+    starts-there : s′ ≡ overlay (startsOf (fileParts bytes)) s
+    starts-there = starts ∙ accepted-buffer _ none (startsOf (fileParts bytes)) s
+
+    corners-there : c′ ≡ overlay (cornersOf (fileParts bytes)) c
+    corners-there = corners ∙ accepted-buffer _ none (cornersOf (fileParts bytes)) c
+
+    starts-few : length s ≡ 2049 → length (startsOf (fileParts bytes)) ≤ length s
+    starts-few ls = omega (arith, length-starts (fileParts bytes), split-table (strategyOf (splitNumber bytes)) (cornerLimit bytes) (meshOf bytes) (accepted-mesh bytes none) .few-parts)
+
+    corners-few : length c ≡ 12288 → length (cornersOf (fileParts bytes)) ≤ length c
+    unfolding cornersOf
+    corners-few lc = omega (arith, length-numbers (flatten (fileParts bytes)), split-table (strategyOf (splitNumber bytes)) (cornerLimit bytes) (meshOf bytes) (accepted-mesh bytes none) .few-corners)
+
+    all-within : length s ≡ 2049 → length c ≡ 12288 → Within r s′ c′
+    all-within ls lc = record {
+      starts-in = omega (arith, parts-told, starts-few ls, ap length starts-there, length-overlay (startsOf (fileParts bytes)) s (starts-few ls));
+      corners-in = omega (arith, corners-told, corners-few lc, ap length corners-there, length-overlay (cornersOf (fileParts bytes)) c (corners-few lc));
+    }
+
 -- what a call answers and leaves for a file, in starts and corners that held s and c
 abbrev pub Left : List ℕ → List ℕ → List ℤ → Counts → List ℕ → List ℤ → Type 0
 Left bytes s c r s′ c′ =
-    (r ≡ countsOf (fileFault bytes) (fileParts bytes)) × ((s′ ≡ written (fileFault bytes) (startsOf (fileParts bytes)) s) × (c′ ≡ written (fileFault bytes) (cornersOf (fileParts bytes)) c))
+    (r ≡ countsOf (fileFault bytes) (fileParts bytes)) × ((s′ ≡ written (fileFault bytes) (startsOf (fileParts bytes)) s) × ((c′ ≡ written (fileFault bytes) (cornersOf (fileParts bytes)) c) × (r .fault ≡ 0 → Within r s′ c′)))
 
 module _ (bytes : List ℕ) (rows : List (List ℤ)) (s : List ℕ) (c : List ℤ) (room : FileRoom bytes rows s c)
     {how : ConvexSplitStrategy} {m : ℕ} (p : how ≡ strategyOf (splitNumber bytes)) (q : m ≡ cornerLimit bytes) (rows′ : List (List ℤ))
@@ -86,10 +128,12 @@ module _ (bytes : List ℕ) (rows : List (List ℤ)) (s : List ℕ) (c : List �
 
   pub sound-left : {r : Counts} {s′ : List ℕ} {c′ : List ℤ} → r ≡ splitCounts how m (rowsMesh rows′) s c → s′ ≡ splitStarts how m (rowsMesh rows′) s c → c′ ≡ splitCorners how m (rowsMesh rows′) s c
       → Left bytes s c r s′ c′
-  sound-left er es ec = (
-    er ∙ (λ t. countsOf (fault-of t) (parts-of t)),
-    (es ∙ (λ t. written (fault-of t) (startsOf (parts-of t)) s), ec ∙ (λ t. written (fault-of t) (cornersOf (parts-of t)) c)),
-  )
+  sound-left {r} {s′} {c′} er es ec =
+      let starts-are : s′ ≡ written (fileFault bytes) (startsOf (fileParts bytes)) s = es ∙ (λ t. written (fault-of t) (startsOf (parts-of t)) s) in
+      let corners-are : c′ ≡ written (fileFault bytes) (cornersOf (fileParts bytes)) c = ec ∙ (λ t. written (fault-of t) (cornersOf (parts-of t)) c) in (
+        er ∙ (λ t. countsOf (fault-of t) (parts-of t)),
+        (starts-are, (corners-are, λ z. all-within bytes s c (er ∙ (λ t. countsOf (fault-of t) (parts-of t))) starts-are corners-are z (room .for-starts) (room .for-corners))),
+      )
 
 -- ---- any file
 
@@ -101,50 +145,21 @@ pub header-left : (bytes s : List ℕ) (c : List ℤ) {f : ℕ} → f ≡ firstF
 header-left bytes s c {f} e h er =
     let q : fileFault bytes ≡ f = header-told bytes (λ z. h (e ∙ z)) ∙ sym e in
     let n : fileFault bytes ≡ 0 → ⊥ = λ z. h (sym q ∙ z) in
-    (er ∙ (λ t. record { fault = sym q t; parts = 0; corners = 0 }) ∙ sym (refused-counts (fileFault bytes) n (fileParts bytes)), (sym (refused-buffer (fileFault bytes) n _ s), sym (refused-buffer (fileFault bytes) n _ c)))
-
--- the fault that counts tell
-pub told-fault : (f : ℕ) (ps : List (List Pt)) → countsOf f ps .fault ≡ f
-told-fault zero ps = refl
-told-fault (suc f) ps = ap (λ r. r .fault) (refused-counts (suc f) (λ z. omega (arith, z)) ps)
+    (er ∙ (λ t. record { fault = sym q t; parts = 0; corners = 0 }) ∙ sym (refused-counts (fileFault bytes) n (fileParts bytes)), (sym (refused-buffer (fileFault bytes) n _ s), (sym (refused-buffer (fileFault bytes) n _ c), λ z. absurd (h (sym (ap (λ x. x .fault) er) ∙ z)))))
 
 module _ (bytes s : List ℕ) (c : List ℤ) {r : Counts} {s′ : List ℕ} {c′ : List ℤ} (left : Left bytes s c r s′ c′) where
   pub fault-is : r .fault ≡ fileFault bytes
-  fault-is = ap (λ x. x .fault) (left .0) ∙ told-fault (fileFault bytes) (fileParts bytes)
+  fault-is = fault-told bytes s c (left .0) (left .1 .0) (left .1 .1 .0)
 
-  module _ (ls : length s ≡ 2049) (lc : length c ≡ 12288) (z : r .fault ≡ 0) where
-    none : fileFault bytes ≡ 0
-    none = sym fault-is ∙ z
+  pub starts-in : r .fault ≡ 0 → r .parts + 1 ≤ length s′
+  starts-in z = left .1 .1 .1 z .starts-in
 
-    pub parts-told : r .parts + 1 ≡ length (startsOf (fileParts bytes))
-    parts-told = ap (λ x. x .parts + 1) (left .0 ∙ accepted-counts _ none (fileParts bytes)) ∙ sym (length-starts (fileParts bytes) ∙ sym (add-one (length (fileParts bytes))))
+  pub corners-in : r .fault ≡ 0 → 2 * r .corners ≤ length c′
+  corners-in z = left .1 .1 .1 z .corners-in
 
-    pub corners-told : 2 * r .corners ≡ length (cornersOf (fileParts bytes))
-    unfolding cornersOf
-    corners-told = ap (λ x. 2 * x .corners) (left .0 ∙ accepted-counts _ none (fileParts bytes)) ∙ sym (length-numbers (flatten (fileParts bytes)))
+  -- what the counts tell of stands on the front
+  pub starts-taken : r .fault ≡ 0 → take (r .parts + 1) s′ ≡ startsOf (fileParts bytes)
+  starts-taken z = (λ t. take (parts-told bytes s c (left .0) (left .1 .0) (left .1 .1 .0) z t) (starts-there bytes s c (left .0) (left .1 .0) (left .1 .1 .0) z t)) ∙ take-overlay (startsOf (fileParts bytes)) s
 
-    starts-there : s′ ≡ overlay (startsOf (fileParts bytes)) s
-    starts-there = left .1 .0 ∙ accepted-buffer _ none (startsOf (fileParts bytes)) s
-
-    corners-there : c′ ≡ overlay (cornersOf (fileParts bytes)) c
-    corners-there = left .1 .1 ∙ accepted-buffer _ none (cornersOf (fileParts bytes)) c
-
-    starts-few : length (startsOf (fileParts bytes)) ≤ length s
-    starts-few = omega (arith, length-starts (fileParts bytes), split-table (strategyOf (splitNumber bytes)) (cornerLimit bytes) (meshOf bytes) (accepted-mesh bytes none) .few-parts, ls)
-
-    corners-few : length (cornersOf (fileParts bytes)) ≤ length c
-    unfolding cornersOf
-    corners-few = omega (arith, length-numbers (flatten (fileParts bytes)), split-table (strategyOf (splitNumber bytes)) (cornerLimit bytes) (meshOf bytes) (accepted-mesh bytes none) .few-corners, lc)
-
-    pub starts-in : r .parts + 1 ≤ length s′
-    starts-in = omega (arith, parts-told, starts-few, ap length starts-there, length-overlay (startsOf (fileParts bytes)) s starts-few)
-
-    pub corners-in : 2 * r .corners ≤ length c′
-    corners-in = omega (arith, corners-told, corners-few, ap length corners-there, length-overlay (cornersOf (fileParts bytes)) c corners-few)
-
-    -- what the counts tell of stands on the front
-    pub starts-taken : take (r .parts + 1) s′ ≡ startsOf (fileParts bytes)
-    starts-taken = (λ t. take (parts-told t) (starts-there t)) ∙ take-overlay (startsOf (fileParts bytes)) s
-
-    pub corners-taken : take (2 * r .corners) c′ ≡ cornersOf (fileParts bytes)
-    corners-taken = (λ t. take (corners-told t) (corners-there t)) ∙ take-overlay (cornersOf (fileParts bytes)) c
+  pub corners-taken : r .fault ≡ 0 → take (2 * r .corners) c′ ≡ cornersOf (fileParts bytes)
+  corners-taken z = (λ t. take (corners-told bytes s c (left .0) (left .1 .0) (left .1 .1 .0) z t) (corners-there bytes s c (left .0) (left .1 .0) (left .1 .1 .0) z t)) ∙ take-overlay (cornersOf (fileParts bytes)) c

@@ -4,7 +4,7 @@
 ghost use mathlib.Core.Path.{_≡_};
 ghost use Rattle.table.specs.Table.{startsOf, cornersOf, countsOf, written};
 ghost use Rattle.listing.specs.File.{fileFault, fileParts};
-ghost use Rattle.file_parts.specs.Room.{FileRoom};
+ghost use Rattle.file_parts.specs.Room.{FileRoom, Within};
 use table::Counts;
 
 // As many starts and corners' numbers as the split parts of any mesh have: at most six corners of two numbers for each triangle.
@@ -23,6 +23,7 @@ fn split_sound(
     ensures counts { λ r. ⌜ r ≡ countsOf (fileFault (now (bytes .entry))) (fileParts (now (bytes .entry))) ⌝ }
     ensures starts { λ _. ⌜ now (starts .exit) ≡ written (fileFault (now (bytes .entry))) (startsOf (fileParts (now (bytes .entry)))) (now (starts .entry)) ⌝ }
     ensures corners { λ _. ⌜ now (corners .exit) ≡ written (fileFault (now (bytes .entry))) (cornersOf (fileParts (now (bytes .entry)))) (now (corners .entry)) ⌝ }
+    ensures within { λ r. ⌜ (r .fault ≡ 0 → Within r (now (starts .exit)) (now (corners .exit))) ⌝ }
 {
     mesh_file::read_rows(&bytes[mesh_file::HEADER..], rows);
     let limit = mesh_file::corner_limit(bytes);
@@ -30,11 +31,13 @@ fn split_sound(
     split_parts::to_convex_polygons_with_max_vertices(rows, limit, strategy, starts, corners)
 }
 
-// The split parts of a mesh file, on the front of the lent starts and corners. A refusal (13, 1, 2, 3, 4, 5, 6 or 11) gives zero counts and changes nothing.
+// The split parts of a mesh file, on the front of the lent starts and corners. A refusal (13, 1, 2, 3, 4, 5, 6 or 11) gives zero counts and changes nothing. The last
+// clause says that what the counts tell of is there, for a caller that takes it from the arrays.
 pub fn split_file(bytes: &[u8], starts: &mut [u32; STARTS], corners: &mut [i32; NUMBERS]) -> Counts
     ensures counts { λ r. ⌜ r ≡ countsOf (fileFault (now (bytes .entry))) (fileParts (now (bytes .entry))) ⌝ }
     ensures starts { λ _. ⌜ now (starts .exit) ≡ written (fileFault (now (bytes .entry))) (startsOf (fileParts (now (bytes .entry)))) (now (starts .entry)) ⌝ }
     ensures corners { λ _. ⌜ now (corners .exit) ≡ written (fileFault (now (bytes .entry))) (cornersOf (fileParts (now (bytes .entry)))) (now (corners .entry)) ⌝ }
+    ensures within { λ r. ⌜ (r .fault ≡ 0 → Within r (now (starts .exit)) (now (corners .exit))) ⌝ }
 {
     let fault = mesh_file::header_fault(bytes);
     if fault != 0 {

@@ -1,5 +1,5 @@
 -- `area_listing::listing` meets its contract: a file's refusal, or the listing of its parts; any answer fits. Assumes nothing.
-use mathlib.Core.Path.{refl, sym}
+use mathlib.Core.Path.{sym}
 use native.Mathlib.Omega.{arith}
 use lib.Seq.{length-take-le}
 use Rattle.text.proofs.Puts.{put-as}
@@ -28,27 +28,27 @@ add-starts : tie.Need-add-starts
 add-starts c = search needs
 
 array-share-prefix-starts : tie.Need-array-share-prefix-starts
-array-share-prefix-starts c = starts-in (c .before .before .before .before .before .before .before .before .args .bytes .now) _ _ (c .before .before .before .before .split-file .ensures) refl refl (c .before .before .if1 .left)
+array-share-prefix-starts c = starts-in (c .before .before .before .before .before .before .before .before .args .bytes .now) _ _ (c .before .before .before .before .split-file .ensures) (c .before .before .if1 .left)
 
 slice-aggregate-put-listing : tie.Need-slice-aggregate-put-listing
-slice-aggregate-put-listing c = sym (length-take-le _ _ (starts-in (c .before .before .before .before .before .before .before .before .before .args .bytes .now) _ _ (c .before .before .before .before .before .split-file .ensures) refl refl (c .before .before .before .if1 .left)))
+slice-aggregate-put-listing c = sym (length-take-le _ _ (starts-in (c .before .before .before .before .before .before .before .before .before .args .bytes .now) _ _ (c .before .before .before .before .before .split-file .ensures) (c .before .before .before .if1 .left)))
 
 mul-corners : tie.Need-mul-corners
 mul-corners c = search needs
 
 array-share-prefix-corners : tie.Need-array-share-prefix-corners
-array-share-prefix-corners c = corners-in (c .before .before .before .before .before .before .before .before .before .args .bytes .now) _ _ (c .before .before .before .before .before .split-file .ensures) refl refl (c .before .before .before .if1 .left)
+array-share-prefix-corners c = corners-in (c .before .before .before .before .before .before .before .before .before .args .bytes .now) _ _ (c .before .before .before .before .before .split-file .ensures) (c .before .before .before .if1 .left)
 
 slice-aggregate-put-listing-2 : tie.Need-slice-aggregate-put-listing-2
-slice-aggregate-put-listing-2 c = sym (length-take-le _ _ (corners-in (c .before .before .before .before .before .before .before .before .before .before .args .bytes .now) _ _ (c .before .before .before .before .before .before .split-file .ensures) refl refl (c .before .before .before .before .if1 .left)))
+slice-aggregate-put-listing-2 c = sym (length-take-le _ _ (corners-in (c .before .before .before .before .before .before .before .before .before .before .args .bytes .now) _ _ (c .before .before .before .before .before .before .split-file .ensures) (c .before .before .before .before .if1 .left)))
 
 put-listing-requires : tie.Need-put-listing-requires
 put-listing-requires c κs =
     let e = c .before .before .before .before .before .before .before .split-file .ensures in
-    (parts-listable (c .before .before .before .before .before .before .before .before .before .before .before .args .bytes .now) _ _ e refl refl (c .before .before .before .before .before .if1 .left), omega (arith, listed-room (c .before .before .before .before .before .before .before .before .before .before .before .args .bytes .now) _ _ e refl refl (c .before .before .before .before .before .if1 .left)))
+    (parts-listable (c .before .before .before .before .before .before .before .before .before .before .before .args .bytes .now) _ _ e (c .before .before .before .before .before .if1 .left), omega (arith, listed-room (c .before .before .before .before .before .before .before .before .before .before .before .args .bytes .now) _ _ e (c .before .before .before .before .before .if1 .left)))
 
 returns-2 : tie.Need-returns-2
-returns-2 c = answered (put-as (parts-listed (c .before .before .before .before .before .before .before .before .before .before .before .before .args .bytes .now) _ _ (c .before .before .before .before .before .before .before .before .split-file .ensures) refl refl (c .before .before .before .before .before .before .if1 .left)) (c .put-listing .ensures))
+returns-2 c = answered (put-as (parts-listed (c .before .before .before .before .before .before .before .before .before .before .before .before .args .bytes .now) _ _ (c .before .before .before .before .before .before .before .before .split-file .ensures) (c .before .before .before .before .before .before .if1 .left)) (c .put-listing .ensures))
 
 pub listing-spec : {M : Type 1} → statement M
 listing-spec =
