@@ -1,3 +1,2 @@
--- What is printed for a mesh; that more input than the longest good file changes nothing.
-pub mod Printed
+-- That more input than the longest good file changes nothing.
 pub mod MoreInput

@@ -11,6 +11,7 @@ use Rattle.mesh.specs.Mesh.{Triangle, Mesh, meshKinds, maxTriangles}
 use Rattle.table.specs.Stored.{wordsOf, wordAt, signed}
 use Rattle.split.specs.declared.ConvexSplitStrategy.{ConvexSplitStrategy}
 use Rattle.split.specs.declared.ConvexSplitStrategy.the-variants.{EarClipping, Fan, Centroid}
+use Rattle.split.specs.Splitting.{splitParts}
 
 -- ---- the header
 
@@ -51,6 +52,10 @@ recordsOf (suc n) ws = recordOf ws ∷ recordsOf n (drop 9 ws)
 
 unfoldable pub meshOf : List ℕ → Mesh
 meshOf bytes = recordsOf (triangleCount bytes) (drop 5 (wordsOf bytes))
+
+-- its split parts, by its own limit and split
+abbrev pub fileParts : List ℕ → List (List Pt)
+fileParts bytes = splitParts (strategyOf (splitNumber bytes)) (cornerLimit bytes) (meshOf bytes)
 
 -- ---- its faults
 

@@ -8,8 +8,7 @@ use lib.IntN.{natAbs}
 use Rattle.plane.specs.Plane.{Pt}
 use Rattle.plane.specs.Contour.{contourArea}
 use Rattle.text.specs.Text.{decimal, space, newline, cornersWord, cornersText, refusal}
-use Rattle.split.specs.Splitting.{splitParts}
-use Rattle.listing.specs.File.{fileFault, meshOf, cornerLimit, splitNumber, strategyOf}
+use Rattle.listing.specs.File.{fileFault, fileParts}
 
 -- ---- words of the listing
 
@@ -56,7 +55,4 @@ listingOf ps = headLine ps ++ partLines (totalArea ps) 0 ps
 
 -- what the area program prints for a file
 unfoldable pub areasOf : List ℕ → List ℕ
-areasOf bytes =
-    cond (eqb (fileFault bytes) 0)
-    (listingOf (splitParts (strategyOf (splitNumber bytes)) (cornerLimit bytes) (meshOf bytes)))
-    (refusal (fileFault bytes))
+areasOf bytes = cond (eqb (fileFault bytes) 0) (listingOf (fileParts bytes)) (refusal (fileFault bytes))

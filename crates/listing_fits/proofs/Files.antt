@@ -1,4 +1,4 @@
--- Any file: an accepted one's mesh is accepted (`accepted-mesh`), its parts can be listed (`file-listable`), and what is printed fits (`listing-fits`).
+-- Any file: an accepted one's parts can be listed (`file-listable`), and what is printed fits (`listing-fits`).
 -- Assumes nothing.
 use mathlib.Core.Path.{_≡_, refl, sym, _∙_, ap, subst}
 use mathlib.Core.Bool.{true, false}
@@ -16,7 +16,6 @@ use Rattle.integers.proofs.Order.{zarith, by-test}
 use Rattle.integers.proofs.Sizes.{abs-parts}
 use Rattle.integers.proofs.Tests.{<-ltZ}
 use Rattle.integers.proofs.Elements.{all-map, all-map2, all-flatten}
-use Rattle.integers.proofs.Faults.{first-none}
 use Rattle.plane.specs.Plane.{Pt, onGrid}
 use Rattle.plane.specs.Contour.{contourArea}
 use Rattle.plane.proofs.Size.{coordinate-fits, on-grid-both}
@@ -28,21 +27,16 @@ use Rattle.text.proofs.Sizes.{Word32s}
 use Rattle.split.specs.declared.ConvexSplitStrategy.{ConvexSplitStrategy}
 use Rattle.split.specs.Splitting.{splitParts}
 use Rattle.split.proofs.Sizes.{split-table}
-use Rattle.listing.specs.File.{fileFault, meshOf, cornerLimit, splitNumber, strategyOf}
+use Rattle.listing.specs.File.{fileFault, meshOf, cornerLimit, splitNumber, strategyOf, fileParts}
+use Rattle.listing.proofs.File.{accepted-mesh}
 use Rattle.listing.specs.Listing.{totalArea, listingOf, areasOf}
 use Rattle.convex_pairs.proofs.Convexity.{polygon-area}
 use Rattle.split_pairs.proofs.Theorem.{split-polygons, split-on-grid}
 use Rattle.split_operand.proofs.Operand.{numbers-range}
 use Rattle.split_operand.proofs.Total.{listing-total}
 use Rattle.listing_areas.specs.Areas.{Listable}
-use Rattle.listing_fits.specs.Fits.{listingRoom, ListingFits, FileListable, fileParts}
+use Rattle.listing_fits.specs.Fits.{listingRoom, ListingFits, FileListable}
 use Rattle.listing_fits.proofs.Sizes.{Plain, refusal-size, listing-size}
-
--- ---- the mesh of an accepted file
-
-pub accepted-mesh : (bytes : List ℕ) → fileFault bytes ≡ 0 → firstFault (meshKinds (meshOf bytes)) ≡ 0
-unfolding fileFault
-accepted-mesh bytes e = first-none 13 _ _ (omega arith) (first-none 1 _ _ (omega arith) (first-none 13 _ _ (omega arith) e .1) .1) .1
 
 -- ---- its parts
 

@@ -3,11 +3,9 @@ use mathlib.Core.Path.{_≡_}
 use mathlib.Core.List.{List}
 use Prim.Native.Nat.{ℕ, _+_, _*_, _≤_}
 use lib.ListN.{length}
-use Rattle.plane.specs.Plane.{Pt}
 use Rattle.mesh.specs.Mesh.{maxTriangles}
 use Rattle.table.specs.Table.{maxParts, startsOf, cornersOf, tableParts}
-use Rattle.split.specs.Splitting.{splitParts}
-use Rattle.listing.specs.File.{fileFault, meshOf, cornerLimit, splitNumber, strategyOf}
+use Rattle.listing.specs.File.{fileFault, fileParts}
 use Rattle.listing.specs.Listing.{listingOf, areasOf}
 use Rattle.listing_areas.specs.Areas.{Listable}
 
@@ -18,11 +16,7 @@ listingRoom = 50 + 36 * maxParts + 26 * (6 * maxTriangles)
 abbrev pub ListingFits : Type 0
 ListingFits = (bytes : List ℕ) → length (areasOf bytes) ≤ listingRoom
 
--- the split parts of a file
-abbrev pub fileParts : List ℕ → List (List Pt)
-fileParts bytes = splitParts (strategyOf (splitNumber bytes)) (cornerLimit bytes) (meshOf bytes)
-
--- their table can be listed, and its listing is what the program prints
+-- the table of a file's split parts can be listed, and its listing is what the program prints
 pub record FileListed (bytes : List ℕ) : Type 0 where
   pub listable : Listable (startsOf (fileParts bytes)) (cornersOf (fileParts bytes))
   pub text : areasOf bytes ≡ listingOf (tableParts (startsOf (fileParts bytes)) (cornersOf (fileParts bytes)))

@@ -1,6 +1,7 @@
 -- Where the centre lies. In order: the moment of edges between bounds is between twice the bounds by the doubled area (`moment-least`, `moment-most`), which
 -- is at least 0 (`area-least`); seen from another point the doubled area is the same (`area-seen`); how large a moment is (`moment-size`); where the
--- first corner's offset to the centre lies (`offset-between`); the centre is on the grid (`centre-on-grid`). Assumes nothing.
+-- first corner's offset to the centre lies (`offset-between`); the centre is within any bounds of the corners (`centre-least`, `centre-most`, by coordinate
+-- `centre-within`) and on the grid (`centre-on-grid`). Assumes nothing.
 use mathlib.Core.Path.{_≡_, refl}
 use mathlib.Core.Bool.{true}
 use mathlib.Core.List.{List, [], _∷_, map}
@@ -148,6 +149,9 @@ from-offset : (z r : ℤ) → low z ≤ℤ r → r ≤ℤ high z → inRange (z 
 from-offset z r h k =
     in-range (z +ℤ r) (omega (zarith, add-parts z r, sub-parts (negsuc 1073741822) z)) (omega (zarith, add-parts z r, sub-parts (pos 1073741823) z))
 
+less-both : (a b s : ℤ) → a ≤ℤ b → (a -ℤ s) ≤ℤ (b -ℤ s)
+less-both a b s h = omega (zarith, sub-parts a s, sub-parts b s)
+
 -- ---- a coordinate of the centre
 
 -- f is a coordinate, c the first corner, A the doubled area and M the moment of the edges seen from it
@@ -183,6 +187,29 @@ module _ (f : Pt → ℤ) (minus : (a b : Pt) → f (a -ᵖ b) ≡ f a -ℤ f b)
             (third-most (high (f c)) (areaOf seen) (momentOf f seen) (high-above (f c) k) area-above (moment-between .1)),
       )
 
+  -- where a coordinate of every corner is at least a, the centre's is; where at most, too
+  pub centre-least : (a : ℤ) → All (λ p. a ≤ℤ f p) (c ∷ l) → a ≤ℤ (f c +ℤ rounded (momentOf f seen) (3 * natAbs (areaOf seen)))
+  centre-least a g =
+      let k : ℤ = a -ℤ f c in
+      let r : ℤ = rounded (momentOf f seen) (3 * natAbs (areaOf seen)) in
+      let d : 0 < 3 * natAbs (areaOf seen) = omega (zarith, area-above, abs-parts (areaOf seen)) in
+      let e : All (λ p. k ≤ℤ f p) (seenFrom c (c ∷ l)) = all-image (λ p. k ≤ℤ f p) (λ p. p -ᵖ c) (c ∷ l) .1 (all-map (c ∷ l) (λ p q. rw (minus p c) (less-both a (f p) (f c) q)) g) in
+      let b : k ≤ℤ r =
+      rounded-least (momentOf f seen) k (3 * natAbs (areaOf seen)) d
+      (third-least k (areaOf seen) (momentOf f seen) (omega (zarith, sub-parts a (f c), g .0)) area-above (moment-least f k seen (h .wedges) (all-neighbours (λ p. k ≤ℤ f p) (seenFrom c (c ∷ l)) e))) in
+      omega (zarith, b, sub-parts a (f c), add-parts (f c) r)
+
+  pub centre-most : (a : ℤ) → All (λ p. f p ≤ℤ a) (c ∷ l) → (f c +ℤ rounded (momentOf f seen) (3 * natAbs (areaOf seen))) ≤ℤ a
+  centre-most a g =
+      let k : ℤ = a -ℤ f c in
+      let r : ℤ = rounded (momentOf f seen) (3 * natAbs (areaOf seen)) in
+      let d : 0 < 3 * natAbs (areaOf seen) = omega (zarith, area-above, abs-parts (areaOf seen)) in
+      let e : All (λ p. f p ≤ℤ k) (seenFrom c (c ∷ l)) = all-image (λ p. f p ≤ℤ k) (λ p. p -ᵖ c) (c ∷ l) .1 (all-map (c ∷ l) (λ p q. rw (minus p c) (less-both (f p) a (f c) q)) g) in
+      let b : r ≤ℤ k =
+      rounded-most (momentOf f seen) k (3 * natAbs (areaOf seen)) d
+      (third-most k (areaOf seen) (momentOf f seen) (omega (zarith, sub-parts a (f c), g .0)) area-above (moment-most f k seen (h .wedges) (all-neighbours (λ p. f p ≤ℤ k) (seenFrom c (c ∷ l)) e))) in
+      omega (zarith, b, sub-parts a (f c), add-parts (f c) r)
+
   pub coordinate-in-range : inRange (f c +ℤ rounded (momentOf f seen) (3 * natAbs (areaOf seen))) ≡ true
   coordinate-in-range = from-offset (f c) (rounded (momentOf f seen) (3 * natAbs (areaOf seen))) (offset-between .0) (offset-between .1)
 
@@ -190,3 +217,18 @@ pub centre-on-grid : (c : Pt) (l : List Pt) → Summable (c ∷ l) → onGrid (c
 unfolding onGrid centreOf momentX momentY contourArea
 centre-on-grid c l h =
     rw (coordinate-in-range (λ p. p .x) (λ a b. refl) (λ p g. on-grid-both p g .0) c l h) (coordinate-in-range (λ p. p .y) (λ a b. refl) (λ p g. on-grid-both p g .1) c l h)
+
+-- the centre is within any bounds of the corners
+pub centre-within : (c : Pt) (l : List Pt) → Summable (c ∷ l) → (a b d e : ℤ) → All (λ p. ((a ≤ℤ p .x) × (p .x ≤ℤ b)) × ((d ≤ℤ p .y) × (p .y ≤ℤ e))) (c ∷ l)
+    → ((a ≤ℤ centreOf c (c ∷ l) .x) × (centreOf c (c ∷ l) .x ≤ℤ b)) × ((d ≤ℤ centreOf c (c ∷ l) .y) × (centreOf c (c ∷ l) .y ≤ℤ e))
+unfolding centreOf momentX momentY contourArea
+centre-within c l h a b d e g = (
+  (
+    centre-least (λ p. p .x) (λ u v. refl) (λ p k. on-grid-both p k .0) c l h a (all-map (c ∷ l) (λ p q. q .0 .0) g),
+    centre-most (λ p. p .x) (λ u v. refl) (λ p k. on-grid-both p k .0) c l h b (all-map (c ∷ l) (λ p q. q .0 .1) g),
+  ),
+  (
+    centre-least (λ p. p .y) (λ u v. refl) (λ p k. on-grid-both p k .1) c l h d (all-map (c ∷ l) (λ p q. q .1 .0) g),
+    centre-most (λ p. p .y) (λ u v. refl) (λ p k. on-grid-both p k .1) c l h e (all-map (c ∷ l) (λ p q. q .1 .1) g),
+  ),
+)

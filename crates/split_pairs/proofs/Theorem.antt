@@ -55,7 +55,7 @@ contour-polygons how m l h p = by-test (leb (length l) m) (λ e. rw e (p, tt)) (
 -- ---- all
 
 -- what holds of the parts of each contour
-all-split : (P Q : List Pt → Type 0) (how : ConvexSplitStrategy) (m : ℕ) (mesh : Mesh) → ((l : List Pt) → P l → All Q (splitContour how (raised m) l)) → All P (parts mesh) → All Q (splitParts how m mesh)
+pub all-split : (P Q : List Pt → Type 0) (how : ConvexSplitStrategy) (m : ℕ) (mesh : Mesh) → ((l : List Pt) → P l → All Q (splitContour how (raised m) l)) → All P (parts mesh) → All Q (splitParts how m mesh)
 unfolding splitParts
 all-split P Q how m mesh f h =
     all-flatten Q (map (splitContour how (raised m)) (parts mesh)) .1 (all-image (All Q) (splitContour how (raised m)) (parts mesh) .1 (all-map (parts mesh) f h))

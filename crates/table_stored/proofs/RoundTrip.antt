@@ -40,7 +40,7 @@ module _ (s : List ℕ) (c : List ℤ) (old : List ℕ) (e : faultWritten s c ol
   bytes-left : bytesWritten s c old ≡ overlay (storedOf s c) old
   bytes-left = accepted-buffer _ e (storedOf s c) old
 
-  bytes-told : bytesTold s c old ≡ storedOf s c
+  pub bytes-told : bytesTold s c old ≡ storedOf s c
   bytes-told = (λ i. take (length-told i) (bytes-left i)) ∙ take-overlay (storedOf s c) old
 
   past-told : drop (answerWritten s c old .length) (bytesWritten s c old) ≡ drop (answerWritten s c old .length) old

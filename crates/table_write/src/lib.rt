@@ -49,7 +49,7 @@ pub fn write_words(words: &[u32], from: usize, bytes: &mut [u8])
 }
 
 // Writes the corners' numbers as words from word `from` on.
-fn write_corners(corners: &[i32], from: usize, bytes: &mut [u8])
+pub fn write_corners(corners: &[i32], from: usize, bytes: &mut [u8])
     requires { ⌜ 4 * (from + length (now corners)) ≤ length (now bytes) ⌝ }
     ensures { λ _. ⌜ now (bytes .exit) ≡ putWords from (map unsigned (now (corners .entry))) (now (bytes .entry)) ⌝ }
 {

@@ -1,0 +1,2 @@
+-- What reading a file with a sound header asks.
+pub mod Room

@@ -1,0 +1,2 @@
+-- Laws of the mesh file.
+pub mod File

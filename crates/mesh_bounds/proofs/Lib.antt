@@ -1,0 +1,3 @@
+-- Laws of a mesh's bounds.
+pub mod Widening
+pub mod Bounded

@@ -1,0 +1,2 @@
+-- The bounds of a mesh.
+pub mod Bounds

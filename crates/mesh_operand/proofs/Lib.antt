@@ -1,0 +1,4 @@
+-- Why an accepted file is an operand without faults of its own.
+pub mod Within
+pub mod Operand
+pub mod Taking

@@ -1,0 +1,2 @@
+-- A mesh file as an operand.
+pub mod Operand

@@ -1,0 +1,2 @@
+-- Laws of two files.
+pub mod Files

@@ -1,0 +1,2 @@
+-- Two mesh files one after the other.
+pub mod Files

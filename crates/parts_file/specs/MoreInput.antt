@@ -1,0 +1,10 @@
+-- Why the program `parts` reads no more than one byte past the longest good file, 20 + 36 · 1,024 = 36,884 bytes: the fault of more is the same. Assumes nothing.
+use mathlib.Core.Path.{_≡_}
+use mathlib.Core.List.{List, _++_}
+use Prim.Native.Nat.{ℕ, _+_, _*_}
+use lib.ListN.{length}
+use Rattle.mesh.specs.Mesh.{maxTriangles}
+use Rattle.parts_file.specs.Parts.{partsAnswer}
+
+abbrev pub MoreInput : Type 0
+MoreInput = (bytes more : List ℕ) → length bytes ≡ 20 + 36 * maxTriangles + 1 → partsAnswer (bytes ++ more) ≡ partsAnswer bytes
