@@ -64,13 +64,17 @@ module _ (f e : ℕ) (bytes : List ℕ) (c : Cuts f e bytes) where
   rising g d h =
       omega (arith, ascend (startsAt bytes 5) (table-sound .rises) d g (omega (arith, many)), start-word bytes g (omega arith), start-word bytes (g + d) h)
 
+  -- no start is past the corner count
+  pub each-bounded : (k : ℕ) → k ≤ wordAt bytes 5 → startAt bytes k ≤ wordAt bytes 6
+  each-bounded k h =
+      let s = shaped bytes (cuttable bytes (c .fault) .shape) in
+      omega (arith, table-sound .bounded k (omega (arith, many)), count-numbers bytes 5 (left-inside bytes (s .right-length)), start-word bytes k h)
+
   pub known : Known f e bytes
   known =
       let s = shaped bytes (cuttable bytes (c .fault) .shape) in
       let n = sized bytes (s .right-length) in
       let z : f + (e - f) ≡ e = omega (arith, c .parts) in
-      let b = table-sound .bounded e (omega (arith, c .past, many)) in
-      let m = count-numbers bytes 5 (left-inside bytes (s .right-length)) in
       record {
         inside = omega (arith, n, place bytes);
         outside = omega (arith, n, place bytes, s .right-parts, s .right-corners);
@@ -79,7 +83,7 @@ module _ (f e : ℕ) (bytes : List ℕ) (c : Cuts f e bytes) where
         order = c .parts;
         past = c .past;
         rises = subst (λ k. startAt bytes f ≤ startAt bytes k) z (rising f (e - f) (omega (arith, c .parts, c .past)));
-        bounded = omega (arith, b, m, start-word bytes e (c .past));
+        bounded = each-bounded e (c .past);
       }
 
   -- no start is below the first
