@@ -33,7 +33,7 @@ least-of a b =
 
 -- ---- the left table's starts
 
-start-word : (bytes : List ℕ) (k : ℕ) → k ≤ wordAt bytes 5 → getD (startsAt bytes 5) k 0 ≡ startAt bytes k
+pub start-word : (bytes : List ℕ) (k : ℕ) → k ≤ wordAt bytes 5 → getD (startsAt bytes 5) k 0 ≡ startAt bytes k
 start-word bytes k h = getD-take (wordAt bytes 5 + 1) (drop 7 (wordsOf bytes)) k 0 (omega arith) ∙ getD-drop 7 (wordsOf bytes) k 0
 
 -- starts rise
@@ -54,13 +54,13 @@ pub record Known (f e : ℕ) (bytes : List ℕ) : Type 0 where
   pub bounded : startAt bytes e ≤ wordAt bytes 6
 
 module _ (f e : ℕ) (bytes : List ℕ) (c : Cuts f e bytes) where
-  table-sound : Sound (startsAt bytes 5) (cornersAt bytes 5)
+  pub table-sound : Sound (startsAt bytes 5) (cornersAt bytes 5)
   table-sound = sound _ _ (cuttable bytes (c .fault) .rules)
 
-  many : length (startsAt bytes 5) ≡ wordAt bytes 5 + 1
+  pub many : length (startsAt bytes 5) ≡ wordAt bytes 5 + 1
   many = count-starts bytes 5 (left-inside bytes (shaped bytes (cuttable bytes (c .fault) .shape) .right-length))
 
-  rising : (g d : ℕ) → g + d ≤ wordAt bytes 5 → startAt bytes g ≤ startAt bytes (g + d)
+  pub rising : (g d : ℕ) → g + d ≤ wordAt bytes 5 → startAt bytes g ≤ startAt bytes (g + d)
   rising g d h =
       omega (arith, ascend (startsAt bytes 5) (table-sound .rises) d g (omega (arith, many)), start-word bytes g (omega arith), start-word bytes (g + d) h)
 

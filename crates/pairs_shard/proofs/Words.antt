@@ -140,8 +140,8 @@ module _ (f e : ℕ) (bytes : List ℕ) (c : Cuts f e bytes) where
           omega arith,
           getD-all Word (shardStarts f e bytes) 0
               (λ i h. let z : 7 + f + i ≡ 7 + (f + i) = omega arith in
-              omega (arith, less-at (startAt bytes f) (7 + f) (e - f + 1) bytes i (omega arith) refl, ap (wordAt bytes) z, each-bounded f e bytes c (f + i) (omega arith)))
-        )
+              omega (arith, less-at (startAt bytes f) (7 + f) (e - f + 1) bytes i (omega arith) refl, ap (wordAt bytes) z, each-bounded f e bytes c (f + i) (omega arith))),
+        ),
       )
 
   pub length-starts : length (shardStarts f e bytes) ≡ e - f + 1
