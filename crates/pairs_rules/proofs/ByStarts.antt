@@ -2,7 +2,7 @@
 use mathlib.Core.Path.{_≡_, sym, _∙_, ap}
 use mathlib.Core.Bool.{false}
 use mathlib.Core.List.{List}
-use Prim.Native.Nat.{ℕ, _+_, _*_, _-_, _/_, _%_, _≤_}
+use Prim.Native.Nat.{ℕ, _+_, _*_, _/_, _%_, _≤_}
 use native.Mathlib.Omega.{arith}
 use borrow.Author.Tests.{ltb-false, le-ltb, eq-eqb}
 use lib.Dec.{ltb}
@@ -22,7 +22,7 @@ within bytes k e =
     let f = either-false (ltb maxParts (wordAt bytes k)) _ e in
     (ltb-false maxParts _ (f .0), ltb-false maxCorners _ (f .1))
 
-rules : (s : List ℕ) (c : List ℤ) (n : ℕ) → length c ≡ 2 * n → partCount s ≤ maxParts → n ≤ maxCorners → startsBroken maxContour n s ≡ tableBroken s c
+pub rules : (s : List ℕ) (c : List ℤ) (n : ℕ) → length c ≡ 2 * n → partCount s ≤ maxParts → n ≤ maxCorners → startsBroken maxContour n s ≡ tableBroken s c
 unfolding tableBroken
 rules s c n e h k =
     let half : length c / 2 ≡ n = omega arith in

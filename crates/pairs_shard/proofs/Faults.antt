@@ -1,6 +1,6 @@
 -- The fault of cutting a job, by the tests that code makes, and what no fault tells (`cuttable`); the answer. Assumes nothing.
 use mathlib.Core.Path.{_≡_, refl, sym, _∙_, ap}
-use mathlib.Core.Bool.{Bool, true, false, cond}
+use mathlib.Core.Bool.{true, false, cond}
 use mathlib.Core.List.{List}
 use Prim.Native.Nat.{ℕ}
 use native.Mathlib.Omega.{arith}
@@ -15,7 +15,6 @@ use Rattle.table.specs.Table.{maxParts, maxCorners}
 use Rattle.table.specs.Stored.{wordAt}
 use Rattle.pairs_job.specs.Job.{countsBroken, shapeFault}
 use Rattle.pairs_job.proofs.Shape.{shaped}
-use Rattle.pairs_shard.specs.declared.Shard.{Shard}
 use Rattle.pairs_shard.specs.Shard.{shardOf, leftBroken, shardFault, cutOf, bytesCut}
 
 module _ (bytes : List ℕ) where

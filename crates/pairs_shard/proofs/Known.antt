@@ -1,20 +1,19 @@
 -- What is known of a job that is cut at the parts f up to e: where its left table lies, its counts, its starts (`known`). Assumes nothing.
-use mathlib.Core.Path.{_≡_, refl, sym, _∙_, ap, subst}
-use mathlib.Core.Bool.{true, false}
+use mathlib.Core.Path.{_≡_, _∙_, ap, subst}
 use mathlib.Core.List.{List}
-use Prim.Native.Nat.{ℕ, zero, suc, _+_, _*_, _-_, _/_, _<_, _≤_}
+use Prim.Native.Nat.{ℕ, zero, suc, _+_, _*_, _-_, _<_, _≤_}
 use native.Mathlib.Omega.{arith}
 use borrow.Author.Tests.{lt-ltb, le-ltb, ltb-true, ltb-false}
 use lib.Dec.{ltb}
-use lib.ListN.{length, take, drop, getD}
+use lib.ListN.{length, drop, getD}
 use lib.Seq.{getD-take, getD-drop}
 use Rattle.integers.proofs.Order.{by-test}
 use Rattle.table.specs.Stored.{wordsOf, wordAt}
 use Rattle.table.proofs.Rules.{Sound, sound}
-use Rattle.pairs_job.specs.Job.{startsAt, cornersAt, tableWords, rightPlace}
+use Rattle.pairs_job.specs.Job.{startsAt, cornersAt, tableWords}
 use Rattle.pairs_job.proofs.Sizes.{sized, place, count-starts, count-numbers}
 use Rattle.pairs_job.proofs.Shape.{shaped, left-inside}
-use Rattle.pairs_shard.specs.Shard.{leastOf, pastPart, firstPart, startAt, shardFault, leftBroken, Cuts, AtLeast}
+use Rattle.pairs_shard.specs.Shard.{leastOf, pastPart, firstPart, startAt, shardFault, Cuts, AtLeast}
 use Rattle.pairs_shard.proofs.Faults.{cuttable}
 
 -- ---- the lesser of two numbers

@@ -7,3 +7,4 @@ pub mod Words
 pub mod Parts
 pub mod Read
 pub mod Whole
+pub mod Accepted

@@ -2,7 +2,7 @@
 -- first (`less-turn`); a part of the bytes as the machine takes it; the whole (`shard-put`). Assumes nothing.
 use mathlib.Core.Path.{_≡_, refl, sym, _∙_, ap}
 use mathlib.Core.List.{List, [], _∷_, _++_, map}
-use Prim.Native.Nat.{ℕ, zero, suc, _+_, _*_, _-_, _<_, _≤_}
+use Prim.Native.Nat.{ℕ, _+_, _*_, _-_, _<_, _≤_}
 use native.Mathlib.Omega.{arith}
 use lib.ListN.{length, take, drop, getD, length-append, length-map, length-drop, List·getD-map}
 use lib.Seq.{slice, length-take-le, take-all, getD-take, getD-drop}

@@ -1,25 +1,23 @@
 -- A shard read as a job: its operation, its left operand and its right one (`ShardIs`), by its words. Assumes nothing.
-use mathlib.Core.Path.{_≡_, refl, sym, _∙_, ap, subst}
-use mathlib.Core.List.{List, _++_, map}
-use Prim.Native.Nat.{ℕ, suc, _+_, _*_, _-_, _<_, _≤_}
+use mathlib.Core.Path.{_≡_, sym, _∙_, ap}
+use mathlib.Core.List.{List, map}
+use Prim.Native.Nat.{ℕ, suc, _+_, _*_, _-_, _<_}
 use native.Mathlib.Numerals.{add-one}
 use native.Mathlib.Omega.{arith}
 use lib.Dec.{eqb}
 use lib.ListN.{length, take, drop, getD, length-drop}
 use lib.Seq.{slice, drop-drop, take-take, getD-take, getD-drop, length-take-le}
-use lib.IntN.{ℤ}
 use Rattle.integers.proofs.Elements.{map-drop, map-take}
 use Rattle.plane.specs.Plane.{Pt}
 use Rattle.table.specs.Table.{pointsOf, partsOf, tableParts}
 use Rattle.table.specs.Stored.{wordsOf, wordAt, signed}
 use Rattle.table.proofs.Corners.{points-slice}
 use Rattle.table.proofs.Rules.{count-parts}
-use Rattle.minkowski.specs.Pairs.{Operand, operandParts}
-use Rattle.pairs_job.specs.Job.{boundsAt, startsAt, cornersAt, tableWords, operation, reflectedOf, leftOf, rightOf}
+use Rattle.pairs_job.specs.Job.{boundsAt, startsAt, cornersAt, tableWords, operation, leftOf, rightOf}
 use Rattle.pairs_shard.specs.Shard.{pastPart, firstPart, startAt, cornerPlace, shardStarts, shardBytes, shardOf, shardFault, Cuts}
-use Rattle.pairs_shard.specs.Whole.{ShardIs, ShardOperands}
+use Rattle.pairs_shard.specs.Whole.{ShardOperands}
 use Rattle.pairs_shard.proofs.Faults.{cuttable}
-use Rattle.pairs_shard.proofs.Known.{Known, known, start-word, rising, many, asked}
+use Rattle.pairs_shard.proofs.Known.{known, start-word, rising, many, asked}
 use Rattle.pairs_shard.proofs.Words.{laid-head, laid-parts, laid-corners, starts-laid, corners-laid, rest-laid, restOperand, right-from, length-starts, length-head, length-corners, shard-words}
 use Rattle.pairs_shard.proofs.Parts.{Rise, rise-by, parts-cut, take-within, slice-drop, clamped}
 

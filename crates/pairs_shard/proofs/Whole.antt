@@ -1,8 +1,8 @@
 -- The shards put together: their left parts, their contours, their lines (specs/Whole.antt). Assumes nothing.
-use mathlib.Core.Path.{_≡_, refl, sym, _∙_, ap}
+use mathlib.Core.Path.{_≡_, sym, _∙_, ap}
 use mathlib.Core.Bool.{Bool}
 use mathlib.Core.List.{List, [], _∷_, _++_, map, append-assoc}
-use Prim.Native.Nat.{ℕ, suc, _+_, _-_, _<_, _≤_}
+use Prim.Native.Nat.{ℕ, suc, _+_, _-_, _≤_}
 use native.Mathlib.Omega.{arith}
 use borrow.Author.Tests.{leb-true, leb-false}
 use lib.Dec.{leb}
@@ -11,7 +11,7 @@ use lib.Seq.{take-nil, take-all, take-add, drop-drop, length-take-le}
 use Rattle.integers.proofs.Order.{by-test}
 use Rattle.plane.specs.Plane.{Pt}
 use Rattle.table.specs.Stored.{wordAt}
-use Rattle.minkowski.specs.Pairs.{Operand, operandParts, pairsOf}
+use Rattle.minkowski.specs.Pairs.{operandParts, pairsOf}
 use Rattle.pair.specs.Pair.{pairContour}
 use Rattle.pair_lines.specs.Lines.{rowLines, pairLinesFrom}
 use Rattle.minkowski_pairs.proofs.Buffers.{pairs-shard}

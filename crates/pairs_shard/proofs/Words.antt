@@ -2,20 +2,19 @@
 -- bounds on (`right-from`); the shard's words (`shard-words`). Assumes nothing.
 use mathlib.Core.Path.{_≡_, refl, sym, _∙_, ap}
 use mathlib.Core.List.{List, [], _∷_, _++_, map, append-assoc}
-use Prim.Native.Nat.{ℕ, zero, suc, _+_, _*_, _-_, _%_, _<_, _≤_}
+use Prim.Native.Nat.{ℕ, suc, _+_, _*_, _-_, _%_, _<_}
 use native.Mathlib.Omega.{arith}
-use lib.ListN.{length, take, drop, getD, length-append, length-drop, List·getD-append}
-use lib.Seq.{slice, take-at, drop-at, drop-drop, drop-append-add, getD-append-add, getD-drop, length-take-le, length-slice}
-use lib.IntN.{ℤ}
+use lib.ListN.{length, take, drop, getD, length-append, List·getD-append}
+use lib.Seq.{slice, take-at, drop-at, drop-drop, drop-append-add, getD-drop, length-take-le, length-slice}
 use Rattle.integers.specs.Lists.{All}
 use Rattle.integers.proofs.Elements.{getD-all}
 use Rattle.table.specs.Stored.{wordOf, wordsOf, wordBytes, wordAt, signed}
 use Rattle.table.proofs.Words.{Word, length-words, length-wordBytes, words-wordBytes}
 use Rattle.minkowski.specs.Pairs.{Operand}
-use Rattle.pairs_job.specs.Job.{startsAt, cornersAt, boundsAt, tableWords, rightPlace, rightOf}
+use Rattle.pairs_job.specs.Job.{startsAt, cornersAt, tableWords, rightPlace, rightOf}
 use Rattle.pairs_job.proofs.Stored.{words-drop, words-take}
 use Rattle.pairs_shard.specs.Shard.{startAt, cornerPlace, shardStarts, shardCounts, shardBytes, Cuts}
-use Rattle.pairs_shard.proofs.Known.{Known, known, each-bounded}
+use Rattle.pairs_shard.proofs.Known.{known, each-bounded}
 use Rattle.pairs_shard.proofs.Putting.{length-less, less-at}
 
 -- ---- words laid one after another

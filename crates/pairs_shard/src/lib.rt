@@ -2,16 +2,15 @@
 // without, the second, with all right parts, the operation and all bounds. It refuses by number what is no job by its shape, or whose left table is against the rules. What it answers and leaves
 // in the lent bytes are equations with specs/Shard.antt; that the shards put together are the whole is specs/Whole.antt. Leans on pairs_job, pairs_rules, table_words and text.
 ghost use mathlib.Core.Path.{_≡_};
-ghost use mathlib.Core.List.{_++_, _∷_, [], map};
+ghost use mathlib.Core.List.{_++_, map};
 ghost use Prim.Native.Nat.{_+_, _*_, _-_, _≤_};
 ghost use lib.ListN.{length, take, drop};
 ghost use lib.Seq.{slice};
-ghost use Rattle.integers.specs.Lists.{overlay};
 ghost use Rattle.table.specs.Stored.{wordsOf, wordBytes};
 ghost use Rattle.table_words.specs.Place.{putWords};
 ghost use Rattle.text.specs.Put.{PutText};
 ghost use Rattle.pairs_job.specs.Job.{tableWords};
-ghost use Rattle.pairs_shard.specs.Shard.{leastOf, cornerPlace, shardCounts, shardBytes, shardFault, cutOf, bytesCut, Cuts, AtLeast};
+ghost use Rattle.pairs_shard.specs.Shard.{leastOf, cornerPlace, shardCounts, shardFault, cutOf, bytesCut, Cuts, AtLeast};
 use pairs_job::LEFT;
 use pairs_job::LONGEST;
 use table_words::put_word;

@@ -1,9 +1,7 @@
 -- `pairs_shard::cut` meets its contract: the fault first, then the two halves of the shard, one after another. Assumes nothing.
-use mathlib.Core.Path.{_≡_, refl, sym, _∙_, ap}
-use Prim.Native.Nat.{_+_, _*_, _-_, _≤_}
+use mathlib.Core.Path.{sym, _∙_, ap}
 use native.Mathlib.Omega.{arith}
 use borrow.Author.Needs.{needs}
-use lib.ListN.{length}
 use Rattle.pairs_shard.proofs.Faults.{refused-cut, accepted-cut}
 use Rattle.pairs_shard.specs.Shard.{leastOf}
 use Rattle.pairs_shard.proofs.Known.{known, asked, asked-as}

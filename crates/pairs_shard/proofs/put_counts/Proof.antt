@@ -1,12 +1,9 @@
 -- `pairs_shard::put_counts` meets its contract: the first five words, two counts and the starts, one after another. Assumes nothing.
-use mathlib.Core.Path.{_≡_, refl, sym, _∙_, ap}
-use Prim.Native.Nat.{_+_, _*_, _-_, _≤_}
+use mathlib.Core.Path.{refl, sym, ap}
+use Prim.Native.Nat.{_+_, _-_}
 use native.Mathlib.Omega.{arith}
 use borrow.Author.Needs.{needs}
-use lib.ListN.{length}
 use lib.Seq.{length-take-le}
-use Rattle.text.proofs.Puts.{put-length}
-use Rattle.table_write.proofs.Writing.{put-whole-length}
 use Rattle.pairs_shard.specs.Shard.{startAt}
 use Rattle.pairs_shard.proofs.Known.{known, at-least}
 use Rattle.pairs_shard.proofs.Putting.{lessWords, length-less, counts-put}
