@@ -34,7 +34,7 @@ use Rattle.pairs_shard.specs.Shard.{leastOf, pastPart, firstPart, startA
 use Rattle.pairs_shard.specs.Whole.{AcceptedCut, AcceptedShards}
 use Rattle.pairs_shard.proofs.Faults.{none-refused}
 use Rattle.pairs_shard.proofs.Known.{least-left, least-right, known, start-word, many, asked}
-use Rattle.pairs_shard.proofs.Putting.{length-counts}
+use Rattle.pairs_shard.proofs.Putting.{length-cut}
 use Rattle.pairs_shard.proofs.Words.{right-parts, right-corners, length-starts, length-corners}
 use Rattle.pairs_shard.proofs.Read.{head-word, parts-word, corners-word, starts-read, corners-read, rest-read, right-read, bounds-read, some-starts, some-numbers, parts-read}
 
@@ -199,28 +199,12 @@ module _ (f e : ℕ) (bytes : List ℕ) (c : Cuts f e bytes) where
         right-corners S ∙ ap (λ l. getD l 5 0) r ∙ sym (right-corners bytes),
       )
 
-  length-cut : length S ≡ 32 + 4 * (e - f) + (8 * (startAt bytes e - startAt bytes f) + (length bytes - 4 * (5 + tableWords bytes 5)))
-  unfolding shardBytes
-  length-cut =
-      let k = known f e bytes c in
-      let p = take 20 bytes ++ wordBytes (shardCounts f e bytes) in
-      let q = slice (4 * cornerPlace bytes f) (4 * cornerPlace bytes e) bytes in
-      let r = drop (4 * (5 + tableWords bytes 5)) bytes in
-      omega (
-        arith,
-        length-append p (q ++ r),
-        length-append q r,
-        length-counts f e bytes k,
-        length-slice (4 * cornerPlace bytes f) (4 * cornerPlace bytes e) bytes (omega arith),
-        length-drop (4 * (5 + tableWords bytes 5)) bytes,
-      )
-
   sized-cut : jobLengthBroken bytes ≡ false → jobLengthBroken S ≡ false
   unfolding jobLengthBroken
   sized-cut h =
       let k = known f e bytes c in
       let n : length S ≡ 4 * (rightPlace S + tableWords S (rightPlace S)) =
-      omega (arith, length-cut, sized bytes h, place bytes, place S, parts-word f e bytes c, corners-word f e bytes c, right-same .0, right-same .1) in
+      omega (arith, length-cut f e bytes k, sized bytes h, place bytes, place S, parts-word f e bytes c, corners-word f e bytes c, right-same .0, right-same .1) in
       rw (eq-eqb _ _ n)
 
   pub accepted-cut-at : jobFault bytes ≡ 0 → shapeFault bytes ≡ 0 → f < e → jobFault S ≡ 0
@@ -230,7 +214,7 @@ module _ (f e : ℕ) (bytes : List ℕ) (c : Cuts f e bytes) where
       let o = shape-passed bytes z in
       let t = ap (λ w. eqb w 1) (head-word f e bytes c 0 (omega arith)) in
       let first = first-none 7 (tableBroken (leftOf bytes .starts) (leftOf bytes .corners)) _ (omega arith) (sym o ∙ j) in
-      to-operands S (le-ltb (length S) 4 (omega (arith, length-cut))) (ap (ltb 1) (head-word f e bytes c 0 (omega arith)) ∙ le-ltb 1 (operation bytes) (s .known)) (sized-cut (s .right-length))
+      to-operands S (le-ltb (length S) 4 (omega (arith, length-cut f e bytes k))) (ap (ltb 1) (head-word f e bytes c 0 (omega arith)) ∙ le-ltb 1 (operation bytes) (s .known)) (sized-cut (s .right-length))
       ∙ (λ i. firstFault (pairKinds (t i) (leftOf S) (right-read f e bytes c i)))
       ∙ fewer-kinds (reflectedOf bytes) (leftOf bytes) (leftOf S) (rightOf bytes) (fewer (left-as bytes (first .0)) h) (sym o ∙ j)
 

@@ -2,11 +2,13 @@
 use mathlib.Core.Path.{_≡_, refl, sym, _∙_, ap}
 use mathlib.Core.Bool.{true, false, cond}
 use mathlib.Core.List.{List}
-use Prim.Native.Nat.{ℕ}
+use Prim.Native.Nat.{ℕ, _≤_}
 use native.Mathlib.Omega.{arith}
 use borrow.Author.Tests.{eqb-true, eq-eqb, ne-eqb, le-ltb}
 use lib.Dec.{eqb}
 use lib.ListN.{length}
+use lib.Seq.{length-take-le}
+use Rattle.io.specs.Counts.{Counts}
 use Rattle.integers.specs.Lists.{overlay}
 use Rattle.integers.proofs.Order.{by-test}
 use Rattle.integers.proofs.Tests.{differ}
@@ -60,6 +62,10 @@ module _ (bytes : List ℕ) where
       seven z = omega (arith, z)
 
 -- ---- the answer
+
+-- as many bytes as were told can be lent on
+pub counted : (n : ℕ) (l : List ℕ) → n ≤ length l → Counts n l
+counted n l h = (h, sym (length-take-le n l h))
 
 module _ (i j : ℕ) (bytes old : List ℕ) where
   pub refused-cut : {f : ℕ} → f ≡ shardFault bytes → (f ≡ 0 → ⊥) → (record { fault = f; size = 0 } ≡ cutOf i j bytes) × (old ≡ bytesCut i j bytes old)

@@ -5,7 +5,7 @@ use mathlib.Core.List.{List, [], _∷_, _++_, map}
 use Prim.Native.Nat.{ℕ, _+_, _*_, _-_, _<_, _≤_}
 use native.Mathlib.Omega.{arith}
 use lib.ListN.{length, take, drop, getD, length-append, length-map, length-drop, List·getD-map}
-use lib.Seq.{slice, length-take-le, take-all, getD-take, getD-drop}
+use lib.Seq.{slice, length-take-le, length-slice, take-all, getD-take, getD-drop}
 use Rattle.integers.specs.Lists.{overlay}
 use Rattle.integers.proofs.Overlay.{overlay-eq}
 use Rattle.table.specs.Stored.{wordsOf, wordBytes, wordAt}
@@ -15,8 +15,8 @@ use Rattle.table_words.proofs.Places.{put-put}
 use Rattle.text.specs.Put.{putAt, PutText}
 use Rattle.text.proofs.Puts.{put-after, put-whole, put-length}
 use Rattle.pairs_job.specs.Job.{tableWords}
-use Rattle.pairs_shard.specs.Shard.{pastPart, firstPart, startAt, cornerPlace, shardCounts, shardBytes, shardOf}
-use Rattle.pairs_shard.proofs.Known.{Known}
+use Rattle.pairs_shard.specs.Shard.{pastPart, firstPart, startAt, cornerPlace, shardCounts, shardBytes, shardOf, shardFault}
+use Rattle.pairs_shard.proofs.Known.{Known, known, asked}
 
 -- ---- words put are text put
 
@@ -85,6 +85,29 @@ length-counts f e bytes k =
       length-wordBytes (shardCounts f e bytes),
       length-less (startAt bytes f) (7 + f) (e - f + 1) bytes (omega (arith, k .inside, k .past, k .order)),
     )
+
+pub length-cut : (f e : ℕ) (bytes : List ℕ) → Known f e bytes
+    → length (shardBytes f e bytes) ≡ 32 + 4 * (e - f) + (8 * (startAt bytes e - startAt bytes f) + (length bytes - 4 * (5 + tableWords bytes 5)))
+unfolding shardBytes
+length-cut f e bytes k =
+    let p = take 20 bytes ++ wordBytes (shardCounts f e bytes) in
+    let q = slice (4 * cornerPlace bytes f) (4 * cornerPlace bytes e) bytes in
+    let r = drop (4 * (5 + tableWords bytes 5)) bytes in
+    omega (
+      arith,
+      length-append p (q ++ r),
+      length-append q r,
+      length-counts f e bytes k,
+      length-slice (4 * cornerPlace bytes f) (4 * cornerPlace bytes e) bytes (omega arith),
+      length-drop (4 * (5 + tableWords bytes 5)) bytes,
+    )
+
+-- no shard is longer than the longest good job
+pub shard-fits : (i j : ℕ) (bytes : List ℕ) → shardFault bytes ≡ 0 → length (shardOf i j bytes) ≤ 147516
+unfolding shardOf
+shard-fits i j bytes z =
+    let k = known (firstPart i j bytes) (pastPart j bytes) bytes (asked i j bytes z) in
+    omega (arith, length-cut (firstPart i j bytes) (pastPart j bytes) bytes k)
 
 shard-as : (i j : ℕ) (bytes : List ℕ) {f e : ℕ} → f ≡ firstPart i j bytes → e ≡ pastPart j bytes → shardBytes f e bytes ≡ shardOf i j bytes
 unfolding shardOf

@@ -6,6 +6,7 @@ ghost use mathlib.Core.List.{_++_, map};
 ghost use Prim.Native.Nat.{_+_, _*_, _-_, _≤_};
 ghost use lib.ListN.{length, take, drop};
 ghost use lib.Seq.{slice};
+ghost use Rattle.io.specs.Counts.{Counts};
 ghost use Rattle.table.specs.Stored.{wordsOf, wordBytes};
 ghost use Rattle.table_words.specs.Place.{putWords};
 ghost use Rattle.text.specs.Put.{PutText};
@@ -94,9 +95,11 @@ fn put_rest(bytes: &[u8], first: usize, past: usize, out: &mut [u8], at: usize) 
 }
 
 // Writes the shard of the left parts `from` up to, and without, `to` on the front of the lent bytes. Refuses with 13, 7, in this order, before the first store.
+// The last clause says again, in io's words, that they stand within the lent ones, for a caller that lends them on.
 pub fn cut(bytes: &[u8], from: usize, to: usize, out: &mut [u8; LONGEST]) -> Shard
     ensures told { λ r. ⌜ r ≡ cutOf from to (now (bytes .entry)) ⌝ }
     ensures bytes { λ r. ⌜ now (out .exit) ≡ bytesCut from to (now (bytes .entry)) (now (out .entry)) ⌝ }
+    ensures counted { λ r. ⌜ Counts (r .size) (now (out .exit)) ⌝ }
 {
     let fault = shard_fault(bytes);
     if fault != 0 {

@@ -1,11 +1,14 @@
 -- `pairs_shard::cut` meets its contract: the fault first, then the two halves of the shard, one after another. Assumes nothing.
-use mathlib.Core.Path.{sym, _∙_, ap}
+use mathlib.Core.Path.{_≡_, refl, sym, _∙_, ap}
+use Prim.Native.Nat.{_+_, _*_, _-_, _≤_}
 use native.Mathlib.Omega.{arith}
 use borrow.Author.Needs.{needs}
-use Rattle.pairs_shard.proofs.Faults.{refused-cut, accepted-cut}
-use Rattle.pairs_shard.specs.Shard.{leastOf}
+use lib.ListN.{length}
+use Rattle.integers.proofs.Overlay.{length-overlay}
+use Rattle.pairs_shard.proofs.Faults.{refused-cut, accepted-cut, counted}
+use Rattle.pairs_shard.specs.Shard.{leastOf, shardOf}
 use Rattle.pairs_shard.proofs.Known.{known, asked, asked-as}
-use Rattle.pairs_shard.proofs.Putting.{length-counts, shard-put}
+use Rattle.pairs_shard.proofs.Putting.{length-counts, shard-fits, shard-put}
 use Rattle.pairs_shard.proofs.cut.Statement.{statement}
 use Rattle.pairs_shard.proofs.cut.Tie as tie
 
@@ -13,7 +16,10 @@ shard-fault-requires : tie.Need-shard-fault-requires
 shard-fault-requires c κs = search needs
 
 returns : tie.Need-returns
-returns c = refused-cut _ _ _ _ (c .before .shard-fault .ensures) (c .if1 .taken)
+returns c =
+    let s = c .before .before .before in
+    let a = refused-cut (s .args .from) (s .args .to) (s .args .bytes .now) (s .args .out .now) (c .before .shard-fault .ensures) (c .if1 .taken) in
+    (a .0, (a .1, counted 0 (s .args .out .now) (omega arith)))
 
 word-at-requires : tie.Need-word-at-requires
 word-at-requires c κs = omega (arith, known _ _ _ (asked 0 0 _ (sym (c .before .shard-fault .ensures) ∙ c .if1 .left)) .inside)
@@ -53,7 +59,11 @@ returns-2 c =
     let p = c .before .before .before .before .before .least-of .ensures ∙ ap (leastOf (s .args .to)) (c .before .before .before .before .before .before .word-at .ensures) in
     let q = c .before .before .before .before .least-of2 .ensures ∙ ap (leastOf (s .args .from)) p in
     let w = shard-put (s .args .from) (s .args .to) B q p (c .before .before .put-counts .ensures) (c .put-rest .ensures) in
-    accepted-cut (s .args .from) (s .args .to) B (s .args .out .now) (sym (c .before .before .before .before .before .before .before .before .shard-fault .ensures) ∙ c .before .before .before .before .before .before .before .if1 .left) (w .0) (w .1)
+    let z = sym (c .before .before .before .before .before .before .before .before .shard-fault .ensures) ∙ c .before .before .before .before .before .before .before .if1 .left in
+    let a = accepted-cut (s .args .from) (s .args .to) B (s .args .out .now) z (w .0) (w .1) in
+    let fits = shard-fits (s .args .from) (s .args .to) B z in
+    let n : length (s .args .out .now) ≡ 147516 = search needs in
+    (a .0, (a .1, counted (c .put-rest .result) _ (omega (arith, w .0, fits, n, ap length (w .1), length-overlay (shardOf (s .args .from) (s .args .to) B) (s .args .out .now) (omega (arith, fits, n))))))
 
 pub cut-spec : {M : Type 1} → statement M
 cut-spec =
