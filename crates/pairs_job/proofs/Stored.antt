@@ -12,7 +12,7 @@ use Rattle.pairs_job.specs.Job.{startsAt, cornersAt, tableWords, tableBy
 four : (n : ℕ) → 4 * suc n ≡ suc (suc (suc (suc (4 * n))))
 four n = omega arith
 
-words-drop : (k : ℕ) (bs : List ℕ) → wordsOf (drop (4 * k) bs) ≡ drop k (wordsOf bs)
+pub words-drop : (k : ℕ) (bs : List ℕ) → wordsOf (drop (4 * k) bs) ≡ drop k (wordsOf bs)
 unfolding wordsOf
 words-drop zero bs = refl
 words-drop (suc k) [] = rw (four k)
@@ -21,7 +21,7 @@ words-drop (suc k) (a ∷ b ∷ []) = rw (four k)
 words-drop (suc k) (a ∷ b ∷ c ∷ []) = rw (four k)
 words-drop (suc k) (a ∷ b ∷ c ∷ d ∷ bs) = rw (four k) (words-drop k bs)
 
-words-take : (n : ℕ) (bs : List ℕ) → wordsOf (take (4 * n) bs) ≡ take n (wordsOf bs)
+pub words-take : (n : ℕ) (bs : List ℕ) → wordsOf (take (4 * n) bs) ≡ take n (wordsOf bs)
 unfolding wordsOf
 words-take zero bs = refl
 words-take (suc n) [] = rw (four n)

@@ -1,0 +1,2 @@
+-- A pair job of two stored tables.
+pub mod Tables
