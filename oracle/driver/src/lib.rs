@@ -15,6 +15,7 @@
 //! - `pairs`: `sum_parts`, `difference_parts`
 //! - `placement`: a place by contours, and by two meshes
 //! - `listing`: the text that the area program prints for a file
+//! - `programs`: the programs parts, contours, placed and pairshard, each run as a process
 //! - `sample`: what a stored sample is, and `SAMPLES`, all of them: `plane_sample`,
 //!   `table_sample`, `mesh_sample`, `split_sample`
 //! - `boundary`: the C functions of the Rattle archive and the list of entry
@@ -33,6 +34,7 @@ pub mod pairs_sample;
 pub mod placement;
 pub mod plane;
 mod plane_sample;
+pub mod programs;
 pub mod sample;
 pub mod split;
 mod split_sample;
