@@ -17,7 +17,7 @@
 //! - `listing`: the text that the area program prints for a file
 //! - `programs`: the programs parts, contours, placed and pairshard, each run as a process
 //! - `sample`: what a stored sample is, and `SAMPLES`, all of them: `plane_sample`,
-//!   `table_sample`, `mesh_sample`, `split_sample`
+//!   `table_sample`, `mesh_sample`, `split_sample`, `pairs_sample`, `program_samples`
 //! - `boundary`: the C functions of the Rattle archive and the list of entry
 //!   points, where it is linked
 //!
@@ -34,6 +34,7 @@ pub mod pairs_sample;
 pub mod placement;
 pub mod plane;
 mod plane_sample;
+mod program_samples;
 pub mod programs;
 pub mod sample;
 pub mod split;

@@ -103,6 +103,13 @@ fn misshapen_files() -> impl Iterator<Item = Vec<u8>> {
     two_files::every_length().chain(two_files::wrong_headers())
 }
 
+/// As for the listing, and each fault by name.
+fn of_parts(rng: &mut Rng, count: u64) -> Inputs<'_, Vec<u8>> {
+    let faults = two_files::FAULTS.repeat(4 * TIMES).into_iter();
+    let by_name: Vec<_> = faults.map(|f| two_files::with_fault(rng, f)).collect();
+    Box::new(by_name.into_iter().chain(listing::files(rng, count)))
+}
+
 /// Files behind a head that is refused: good ones, ones with a fault, none.
 fn behind_a_wrong_head() -> [Vec<u8>; 3] {
     let mut broken = two_files::desk();
@@ -289,7 +296,7 @@ pub const PROGRAMS: [Program; 4] = [
         name: "parts",
         writes: cli::programs::parts,
         faults: &two_files::FAULTS,
-        inputs: listing::files,
+        inputs: of_parts,
         simpler: simpler_file,
     },
     Program {
@@ -363,6 +370,7 @@ impl<F: Fn(&[u8]) -> Ran> EntryPoint for Beside<'_, F> {
 mod tests {
     use super::*;
     use crate::entry::{run, Report};
+    use cli::answers::parts_of_file;
     use judge::listing::refusal;
     use std::collections::BTreeMap;
 
@@ -402,6 +410,38 @@ mod tests {
         for told in ["apart\n", "touching\n", "overlapping\n"] {
             assert!(tally[told.as_bytes()] > 100, "{told}: {tally:?}");
         }
+    }
+
+    /// The judge asks each two triangles; the same place by the contours of the
+    /// differences of both meshes' split parts tells the same.
+    #[test]
+    fn places_by_triangles_are_places_by_contours() {
+        let mut rng = Rng::new(2);
+        let mut told = 0;
+        for bytes in of_placed(&mut rng, COUNT).filter(|bytes| bytes.len() < SHORT) {
+            let by_triangles = judge::programs::placed(&bytes);
+            if by_triangles.starts_with(b"refused ") {
+                continue;
+            }
+            let files = judge::two_files::decode(&bytes[8..]).expect("accepted");
+            let [left, right] = files.map(|file| {
+                let parts = parts_of_file(&file).expect("accepted");
+                let table = Table::of(&parts);
+                let bounds = judge::two_files::bounds(&file.mesh);
+                Operand { table, bounds }
+            });
+            let contours = pair_contours(Operation::Difference, &left, &right).expect("accepted");
+            let number = |k: usize| i32::from_le_bytes(bytes[k..k + 4].try_into().unwrap());
+            let place = (number(0), number(4));
+            let by_contours = match judge::placement::placement(&Table::of(&contours), place) {
+                0 => "apart\n",
+                1 => "touching\n",
+                _ => "overlapping\n",
+            };
+            assert_eq!(by_triangles, by_contours.as_bytes(), "{}", shown(&bytes));
+            told += 1;
+        }
+        assert!(told > 150, "{told}");
     }
 
     /// The smallest input by which the wrong program is seen.
