@@ -15,8 +15,9 @@
 //! - `pairs`: `sum_parts`, `difference_parts`
 //! - `placement`: a place by contours, and by two meshes
 //! - `listing`: the text that the area program prints for a file
+//! - `programs`: the programs parts, contours, placed and pairshard, each run as a process
 //! - `sample`: what a stored sample is, and `SAMPLES`, all of them: `plane_sample`,
-//!   `table_sample`, `mesh_sample`, `split_sample`
+//!   `table_sample`, `mesh_sample`, `split_sample`, `pairs_sample`, `program_samples`
 //! - `boundary`: the C functions of the Rattle archive and the list of entry
 //!   points, where it is linked
 //!
@@ -33,6 +34,8 @@ pub mod pairs_sample;
 pub mod placement;
 pub mod plane;
 mod plane_sample;
+mod program_samples;
+pub mod programs;
 pub mod sample;
 pub mod split;
 mod split_sample;

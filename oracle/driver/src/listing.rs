@@ -199,6 +199,46 @@ fn any_file(rng: &mut Rng) -> Vec<u8> {
     }
 }
 
+/// All of the above, and so many random ones.
+pub(crate) fn files(rng: &mut Rng, count: u64) -> Box<dyn Iterator<Item = Vec<u8>> + '_> {
+    let random = (0..count).map(move |_| any_file(rng));
+    let fixed = every_length().chain(wrong_headers());
+    let fixed = fixed.chain(limits()).chain(contours_listed());
+    Box::new(fixed.chain(random))
+}
+
+/// Shorter files, a good one also with a record fewer and its header to match; then words
+/// that are 0.
+pub(crate) fn simpler_file(bytes: &[u8]) -> Vec<Vec<u8>> {
+    let mut out: Vec<Vec<u8>> = Vec::new();
+    if let Ok(file) = file::decode(bytes) {
+        let fewer = |mesh: Mesh| of(mesh, file.limit, file.split);
+        let halves = [file.mesh.len() / 2, file.mesh.len().saturating_sub(1)];
+        let halves = halves.into_iter().filter(|&k| k < file.mesh.len());
+        out.extend(halves.map(|k| fewer(meshes::apart(k))));
+    }
+    out.extend(simpler_bytes(bytes));
+    out
+}
+
+/// Half as many, one fewer, and with each of the first words 0.
+pub(crate) fn simpler_bytes(bytes: &[u8]) -> Vec<Vec<u8>> {
+    let n = bytes.len();
+    let lengths = [n / 2, n.saturating_sub(1)].into_iter().filter(|&k| k < n);
+    let words = (0..n.min(400) / 4).filter(|&w| bytes[4 * w..4 * w + 4] != [0; 4]);
+    lengths
+        .map(|k| bytes[..k].to_vec())
+        .chain(words.map(|word| with(bytes, word, 0)))
+        .collect()
+}
+
+pub(crate) fn shown(bytes: &[u8]) -> String {
+    match bytes.len() {
+        0..=400 => format!("{} bytes {}", bytes.len(), text::numbers(bytes)),
+        _ => format!("{} bytes {} ..", bytes.len(), text::numbers(&bytes[..400])),
+    }
+}
+
 // ---- the entry point
 
 impl<F> EntryPoint for Listing<F>
@@ -217,10 +257,7 @@ where
     }
 
     fn inputs<'a>(&self, rng: &'a mut Rng, count: u64) -> Box<dyn Iterator<Item = Vec<u8>> + 'a> {
-        let random = (0..count / SHARE / 10).map(move |_| any_file(rng));
-        let fixed = every_length().chain(wrong_headers());
-        let fixed = fixed.chain(limits()).chain(contours_listed());
-        Box::new(fixed.chain(random))
+        files(rng, count / SHARE / 10)
     }
 
     fn rattle(&self, bytes: &Vec<u8>) -> Printed {
@@ -235,33 +272,12 @@ where
         answer.fault()
     }
 
-    /// Shorter files, a good one also with a record fewer and its header to match;
-    /// then words that are 0.
     fn simpler(&self, bytes: &Vec<u8>) -> Vec<Vec<u8>> {
-        let n = bytes.len();
-        let mut out: Vec<Vec<u8>> = Vec::new();
-        if let Ok(file) = file::decode(bytes) {
-            let fewer = |mesh: Mesh| of(mesh, file.limit, file.split);
-            let halves = [file.mesh.len() / 2, file.mesh.len().saturating_sub(1)];
-            let halves = halves.into_iter().filter(|&k| k < file.mesh.len());
-            out.extend(halves.map(|k| fewer(meshes::apart(k))));
-        }
-        out.extend(
-            [n / 2, n.saturating_sub(1)]
-                .into_iter()
-                .filter(|&k| k < n)
-                .map(|k| bytes[..k].to_vec()),
-        );
-        let words = (0..n.min(400) / 4).filter(|&w| bytes[4 * w..4 * w + 4] != [0; 4]);
-        out.extend(words.map(|word| with(bytes, word, 0)));
-        out
+        simpler_file(bytes)
     }
 
     fn show(&self, bytes: &Vec<u8>) -> String {
-        match bytes.len() {
-            0..=400 => format!("{} bytes {}", bytes.len(), text::numbers(bytes)),
-            _ => format!("{} bytes {} ..", bytes.len(), text::numbers(&bytes[..400])),
-        }
+        shown(bytes)
     }
 }
 

@@ -20,7 +20,7 @@ const RANDOM: usize = 24;
 const ALONE: usize = 3;
 
 /// The jobs, in the order of the records.
-fn jobs() -> Vec<Vec<u8>> {
+pub(crate) fn jobs() -> Vec<Vec<u8>> {
     let mut rng = Rng::new(SEED);
     let mut out: Vec<Vec<u8>> = on_the_desk().iter().map(job::encode).collect();
     out.extend(operands::edges().into_iter().map(bytes));

@@ -1,17 +1,22 @@
 //! What a stored sample is (vectors/README.md has the layouts): cases, in bytes, and
 //! the lines that a program which asks them has to print.
 
+use crate::program_samples::{contours_sample, pairshard_sample, parts_sample, placed_sample};
 use crate::written::Written;
 use crate::{mesh_sample, pairs_sample, plane_sample, split_sample, table_sample};
 use std::fmt::Display;
 
 /// The stored samples by the names of their files.
-pub const SAMPLES: [(&str, fn() -> Sample); 5] = [
+pub const SAMPLES: [(&str, fn() -> Sample); 9] = [
     ("plane", plane_sample::sample),
     ("tables", table_sample::sample),
     ("meshes", mesh_sample::sample),
     ("splits", split_sample::sample),
     ("pairs", pairs_sample::sample),
+    ("parts", parts_sample),
+    ("contours", contours_sample),
+    ("placed", placed_sample),
+    ("pairshard", pairshard_sample),
 ];
 
 /// A case: its record, and its line after the case's number.

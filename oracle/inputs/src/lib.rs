@@ -13,6 +13,8 @@
 //! - `table_calls`: what is asked of the calls on tables, and the memory lent
 //! - `placements`: what is asked of `placement`, of contours and of two meshes
 //! - `stored`: stored tables and mesh files, good and damaged
+//! - `two_files`: two mesh files one behind the other; `shards`: part numbers and a pair
+//!   job, for the programs that read them
 //! - `places`: walks as a caller may make them
 //! - `walk_calls`: what is asked of the calls on walks
 //! - `rooms`: room lent for an answer
@@ -29,10 +31,12 @@ pub mod places;
 pub mod plane;
 pub mod rng;
 pub mod rooms;
+pub mod shards;
 pub mod stored;
 pub mod text;
 pub mod table_calls;
 pub mod tables;
+pub mod two_files;
 pub mod walk_calls;
 
 /// The number that these faults together give, kinds tried in this order.

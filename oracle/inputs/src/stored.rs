@@ -72,7 +72,7 @@ pub fn damage_table_bytes(rng: &mut Rng, bytes: &mut Vec<u8>, way: usize) {
     }
 }
 
-fn put(bytes: &mut [u8], word: usize, value: u32) {
+pub(crate) fn put(bytes: &mut [u8], word: usize, value: u32) {
     if let Some(place) = bytes.get_mut(4 * word..4 * word + 4) {
         place.copy_from_slice(&value.to_le_bytes());
     }

@@ -19,6 +19,11 @@
 //! - `room`: 22 and 21, once the answer's size is known
 //! - `round`: once round a convex area above zero; strictly convex
 //! - `listing`: the text of the area program
+//! - `two_files`: two mesh files one behind the other, the left's numbers and then the
+//!   right's; the bounds of a mesh
+//! - `shard`: the pair job of some of the left parts, 13 and 7
+//! - `programs`: what the programs parts, contours, placed and pairshard write (from what
+//!   is said of them, not document 01's)
 
 pub mod file;
 pub mod job;
@@ -27,12 +32,15 @@ pub mod listing;
 pub mod mesh;
 pub mod pairs;
 pub mod placement;
+pub mod programs;
 pub mod room;
 pub mod round;
+pub mod shard;
 pub mod shown;
 pub mod stored;
 pub mod table;
 pub mod triangles;
+pub mod two_files;
 pub mod walk;
 
 /// A fault's number; 0 is none.
@@ -41,6 +49,12 @@ pub type Fault = u32;
 /// A point as (x, y), and a contour as a list of them.
 pub type Point = (i32, i32);
 pub type Contour = Vec<Point>;
+
+/// A little-endian word at the front, and the bytes after it.
+pub(crate) fn word(bytes: &[u8]) -> Option<(u32, &[u8])> {
+    let (word, rest) = bytes.split_first_chunk::<4>()?;
+    Some((u32::from_le_bytes(*word), rest))
+}
 
 /// The first of the kinds whose test fails the input. The tests run in order and
 /// none runs after the first that answers yes.

@@ -30,12 +30,7 @@ pub fn fault(operation: Operation, left: &Operand, right: &Operand) -> Fault {
         (8, &|| {
             winds_too_far(left, false) || winds_too_far(right, operation == Operation::Difference)
         }),
-        (10, &|| {
-            let limit = i64::from(COORDINATE);
-            result_bounds(operation, left.bounds, right.bounds)
-                .iter()
-                .any(|&b| b <= -limit || limit <= b)
-        }),
+        (10, &|| result_leaves_range(operation, left.bounds, right.bounds)),
         (20, &|| either(&|o| o.table.parts() == 0)),
     ])
 }
@@ -48,6 +43,13 @@ pub fn result_bounds(operation: Operation, left: [i32; 4], right: [i32; 4]) -> [
         Operation::Sum => [al + cl, ag + cg, bl + dl, bg + dg],
         Operation::Difference => [al - cg, ag - cl, bl - dg, bg - dl],
     }
+}
+
+/// 10: a result bound out of range.
+pub fn result_leaves_range(operation: Operation, left: [i32; 4], right: [i32; 4]) -> bool {
+    let limit = i64::from(COORDINATE);
+    let bounds = result_bounds(operation, left, right);
+    bounds.iter().any(|&b| b <= -limit || limit <= b)
 }
 
 /// 9: a least bound above a greatest, or a corner outside its bounds.
