@@ -1,4 +1,4 @@
-// The README's example of joining: the parts of document 01's dart, two triangles that do not join, then the same mesh refused, once for want of
+// The example of joining in docs/USE.md: the parts of document 01's dart, two triangles that do not join, then the same mesh refused, once for want of
 // a place for the last start and once for a neighbour that is not there. What it prints is its file `stdout`. Leans on convex_join, part_lines and lines.
 use mesh::Row;
 

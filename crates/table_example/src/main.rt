@@ -1,4 +1,4 @@
-// The README's example of part tables: stores a table of two parts, prints its bytes, reads it back, and has it refused once a start
+// The example of part tables in docs/USE.md: stores a table of two parts, prints its bytes, reads it back, and has it refused once a start
 // falls. What it prints is its file `stdout`. Leans on table_read, table_write and lines.
 
 // Writes a byte in hexadecimal.

@@ -1,4 +1,4 @@
-// The README's example of a pair: document 01's K minus K, (0,0) (2,0) (0,2) less itself, stepped to its end, and then a step refused, for a place
+// The example of a pair in docs/USE.md: document 01's K minus K, (0,0) (2,0) (0,2) less itself, stepped to its end, and then a step refused, for a place
 // that is no corner (23). What it prints is its file `stdout`. Leans on walk_pair, walk_next and lines.
 ghost use mathlib.Core.Path.{_≡_};
 ghost use mathlib.Core.Bool.{true};
