@@ -9,9 +9,6 @@ use minkowski::Operation;
 use minkowski::PairCounts;
 use table::IntRect;
 
-// The numbers of a work buffer that holds the corners of any pair.
-const WORK: usize = 4 * table::MAX_CONTOUR;
-
 // All pairs of two operands' walks with their numbers, within `bounds`, on the front of the lent starts and corners. Refused with 22 or 21, and nothing changed, where
 // there are too few places.
 fn hand_out(
@@ -37,21 +34,7 @@ fn hand_out(
     if minkowski_chains::no_room(firsts, points, numbers, left, right, most, room) {
         return minkowski_answer::refusal(integers::fault::CORNER_ROOM);
     }
-    let mut second = [0i32; WORK];
-    let mut third = [0i32; WORK];
-    let mut fourth = [0i32; WORK];
-    let count = minkowski_chains::append_all(
-        firsts,
-        points,
-        numbers,
-        left,
-        right,
-        &mut second,
-        &mut third,
-        &mut fourth,
-        starts,
-        corners,
-    );
+    let count = minkowski_chains::append_all(firsts, points, numbers, left, right, starts, corners);
     PairCounts {
         fault: 0,
         contours: contours as u32,

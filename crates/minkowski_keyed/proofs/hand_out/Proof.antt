@@ -43,30 +43,18 @@ returns-2 c =
     corners-refused ps (g .bounds) (g .starts .now) (g .corners .now) (omega (arith, count-contours (s .pre .0), c .before .before .before .if1 .left))
     (more-corners (length (g .corners .now) / 2) (length (flatten ps)) (c .before .before .no-room .ensures) (c .before .if2 .taken)) (c .refusal2 .ensures)
 
-slice-aggregate-append-all : tie.Need-slice-aggregate-append-all
-slice-aggregate-append-all c = search needs
-
-slice-aggregate-append-all-2 : tie.Need-slice-aggregate-append-all-2
-slice-aggregate-append-all-2 c = search needs
-
-slice-aggregate-append-all-3 : tie.Need-slice-aggregate-append-all-3
-slice-aggregate-append-all-3 c = search needs
-
 append-all-requires : tie.Need-append-all-requires
 append-all-requires c κs =
-    let s = c .before .before .before .before .before .before .before .before .before .before .before in
+    let s = c .before .before .before .before .before .before .before .before in
     let g = s .args in
-    let ps = contoursIn (g .firsts .now) (g .points .now) (g .left) (g .right) in (
-      s .pre .1,
-      record { second = omega arith; third = omega arith; fourth = omega arith },
-      room-for (s .pre .0) (g .starts .now) (g .corners .now) (c .before .before .before .before .before .before .before .if1 .left) (no-more (length (g .corners .now) / 2) (length (flatten ps)) (c .before .before .before .before .before .before .no-room .ensures) (c .before .before .before .before .before .if2 .left)),
-    )
+    let ps = contoursIn (g .firsts .now) (g .points .now) (g .left) (g .right) in
+    (s .pre .1, room-for (s .pre .0) (g .starts .now) (g .corners .now) (c .before .before .before .before .if1 .left) (no-more (length (g .corners .now) / 2) (length (flatten ps)) (c .before .before .before .no-room .ensures) (c .before .before .if2 .left)))
 
-cast-t30 : tie.Need-cast-t30
-cast-t30 c = search needs
+cast-t21 : tie.Need-cast-t21
+cast-t21 c = search needs
 
-cast-t31 : tie.Need-cast-t31
-cast-t31 c = search needs
+cast-t22 : tie.Need-cast-t22
+cast-t22 c = search needs
 
 same-length : tie.Need-same-length
 same-length c = search needs
@@ -76,12 +64,12 @@ same-length-2 c = search needs
 
 returns-3 : tie.Need-returns-3
 returns-3 c =
-    let s = c .before .before .before .before .before .before .before .before .before .before .before .before .before .before .before .before .before .before in
+    let s = c .before .before .before .before .before .before .before .before .before .before .before .before in
     let g = s .args in
     let ps = contoursIn (g .firsts .now) (g .points .now) (g .left) (g .right) in
-    let a = c .before .before .before .before .before .before .append-all .ensures in
-    handed ps (g .bounds) (g .starts .now) (g .corners .now) (omega (arith, count-contours (s .pre .0), c .before .before .before .before .before .before .before .before .before .before .before .before .before .before .if1 .left))
-    (no-more (length (g .corners .now) / 2) (length (flatten ps)) (c .before .before .before .before .before .before .before .before .before .before .before .before .before .no-room .ensures) (c .before .before .before .before .before .before .before .before .before .before .before .before .if2 .left)) (sym (count-contours (s .pre .0)))
+    let a = c .before .before .before .append-all .ensures in
+    handed ps (g .bounds) (g .starts .now) (g .corners .now) (omega (arith, count-contours (s .pre .0), c .before .before .before .before .before .before .before .before .if1 .left))
+    (no-more (length (g .corners .now) / 2) (length (flatten ps)) (c .before .before .before .before .before .before .before .no-room .ensures) (c .before .before .before .before .before .before .if2 .left)) (sym (count-contours (s .pre .0)))
     (a .count) (a .starts) (a .corners)
 
 pub hand-out-spec : {M : Type 1} → statement M
@@ -95,12 +83,9 @@ hand-out-spec =
     no-room-requires
     refusal-requires-2
     returns-2
-    slice-aggregate-append-all
-    slice-aggregate-append-all-2
-    slice-aggregate-append-all-3
     append-all-requires
-    cast-t30
-    cast-t31
+    cast-t21
+    cast-t22
     same-length
     same-length-2
     returns-3)
