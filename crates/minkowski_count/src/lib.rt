@@ -1,5 +1,5 @@
 // How many corners all pairs of two operands' walks have (`count_all`), for fault 21 where the bound on corners does not tell: each pair is merged into one work
-// buffer (`merge_one`, by which a pair is printed too), by the same code that puts them into the lent one. Leans on minkowski_rows and pair_walks' definitions.
+// buffer (`merge_one`), by the same code that puts them into the lent one. Leans on minkowski_rows and pair_walks' definitions.
 ghost use mathlib.Core.Path.{_≡_};
 ghost use mathlib.Core.List.{flatten};
 ghost use Prim.Native.Nat.{_+_, _*_, _<_, _≤_, _^_};

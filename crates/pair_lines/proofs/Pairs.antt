@@ -42,7 +42,7 @@ merged-front {ps} {o} {o′} {k} p =
 sum-words : (x y : Pt) → Coordinate (x .x) × Coordinate (x .y) → Coordinate (y .x) × Coordinate (y .y) → Word32s (x +ᵖ y)
 sum-words x y a b = record { x-fits = coordinate-add-fits (a .0) (b .0); y-fits = coordinate-add-fits (a .1) (b .1) }
 
-module _ (firsts : List ℕ) (points : List (List ℤ)) (left right p q : ℕ) (work : List ℤ) (out : List ℕ) (h : Puttable firsts points left right p q work out) where
+module _ (firsts : List ℕ) (points : List (List ℤ)) (numbers : List ℕ) (left right p q : ℕ) (work : List ℤ) (out : List ℕ) (h : Puttable firsts points numbers left right p q work out) where
   abbrev a : List Pt
   a = walkIn firsts points (left + right) p
 
@@ -56,7 +56,7 @@ module _ (firsts : List ℕ) (points : List (List ℤ)) (left right p q : ℕ) (
   right-inside = omega (arith, h .q-inside)
 
   on-grid-walk : (n : ℕ) → n < left + right → All (λ x. onGrid x ≡ true) (walkIn firsts points (left + right) n)
-  on-grid-walk n k = all-getD (All (λ x. onGrid x ≡ true)) (walksIn firsts points (left + right)) [] (h .walks .grid) n (walk-inside firsts points (left + right) n (h .walks) k)
+  on-grid-walk n k = all-getD (All (λ x. onGrid x ≡ true)) (walksIn firsts points (left + right)) [] (h .keyed .walks .grid) n (walk-inside firsts points (left + right) n (h .keyed .walks) k)
 
   pub pair-words : All Word32s (pairIn firsts points left right p q)
   pair-words =
@@ -68,8 +68,8 @@ module _ (firsts : List ℕ) (points : List (List ℤ)) (left right p q : ℕ) (
       omega (
         arith,
         length-merged a b,
-        walk-short firsts points (left + right) p (h .walks) left-inside,
-        walk-short firsts points (left + right) (left + q) (h .walks) right-inside,
+        walk-short firsts points (left + right) p (h .keyed .walks) left-inside,
+        walk-short firsts points (left + right) (left + q) (h .keyed .walks) right-inside,
       )
 
   pub pair-room : length (pairLine p q (pairIn firsts points left right p q)) ≤ length out

@@ -56,7 +56,7 @@ module _ (x : Begun) (firsts : List ℕ) (points : List (List ℤ)) where
       let z : suc k - 1 ≡ k = omega arith in
       ap (lineIn x firsts points) z ∙ sym (line-at k (omega arith))
 
-  module _ {k : ℕ} {work : List ℤ} {out : List ℕ} (p : Fitting x firsts points k work out) (d : k ≡ 0 → ⊥) where
+  module _ {numbers : List ℕ} {k : ℕ} {work : List ℤ} {out : List ℕ} (p : Fitting x firsts points numbers k work out) (d : k ≡ 0 → ⊥) where
     pub some-right : 0 < x .right
     some-right = some (x .left) (x .right) (omega (arith, p .inside))
       where
@@ -69,9 +69,9 @@ module _ (x : Begun) (firsts : List ℕ) (points : List (List ℤ)) where
         by-test (eqb (x .fault) 0) (eqb-true (x .fault) 0)
         (λ t. absurd (let n = p .workable .started .refused (eqb-false (x .fault) 0 t) in omega (arith, n, p .inside, d)))
 
-    pub puttable : Puttable firsts points (x .left) (x .right) ((k - 1) / x .right) ((k - 1) % x .right) work out
+    pub puttable : Puttable firsts points numbers (x .left) (x .right) ((k - 1) / x .right) ((k - 1) % x .right) work out
     puttable = record {
-      walks = p .workable .started .walks accepted;
+      keyed = p .workable .started .keyed accepted;
       p-inside = div-lt-iff-lt-mul some-right .1 (omega (arith, p .inside, d));
       q-inside = mod-lt (k - 1) some-right;
       for-corners = p .workable .for-corners;

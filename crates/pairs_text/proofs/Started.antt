@@ -1,4 +1,4 @@
--- Of what a job answered before its lines, with the walks of both operands: it can be put (`started`), and its pieces are the job's (`pieces-in`). Assumes nothing.
+-- Of what a job answered before its lines, with the walks of both operands and their numbers: it can be put (`started`), and its pieces are the job's (`pieces-in`). Assumes nothing.
 use mathlib.Core.Path.{_≡_, refl, sym, _∙_, ap, ap₂, subst}
 use mathlib.Core.Bool.{Bool}
 use mathlib.Core.List.{List, [], _∷_, map, flatten}
@@ -50,8 +50,8 @@ module _ (bytes : List ℕ) (firsts : List ℕ) (points : List (List ℤ)) (d : 
   unfolding piecesIn firstIn piecesOf firstLine upTo
   refused-pieces = rw (ne-eqb (jobFault bytes) 0 d)
 
-  refused-started : Started (refusedBegun (jobFault bytes)) firsts points
-  refused-started = record { few = omega arith; refused = λ _. refl; walks = λ e. absurd (d e); corners = λ e. absurd (d e) }
+  refused-started : (numbers : List ℕ) → Started (refusedBegun (jobFault bytes)) firsts points numbers
+  refused-started numbers = record { few = omega arith; refused = λ _. refl; keyed = λ e. absurd (d e) }
 
 -- ---- a job without a fault
 
@@ -76,18 +76,17 @@ module _ (bytes : List ℕ) (e : jobFault bytes ≡ 0) where
   both-judged : Judged l × Judged r
   both-judged = judged l r both-passed
 
-  module _ {points : List (List ℤ)} {firsts : List ℕ} {x : Begun} (b : Begins (jobCall bytes) (jobFault bytes) points firsts x) where
+  module _ {points : List (List ℤ)} {firsts numbers : List ℕ} {x : Begun} (b : Begins (jobCall bytes) (jobFault bytes) points firsts numbers x) where
     abbrev w : Walked (jobCall bytes) points firsts
     w = b .walked e
 
-    accepted-started : Started (acceptedBegun (jobCall bytes)) firsts points
+    accepted-started : Started (acceptedBegun (jobCall bytes)) firsts points numbers
     accepted-started =
         let u = unrolleds (jobCall bytes) w both-passed refl in
         record {
           few = omega (arith, u .few-contours);
           refused = λ d. absurd (d refl);
-          walks = λ _. w .walks;
-          corners = λ _. omega (arith, u .corners, u .few-corners);
+          keyed = λ _. b .keyed e;
         }
 
     -- as many contours as pairs of parts, and as many corners as the merges of their walks have
@@ -128,7 +127,7 @@ module _ (bytes : List ℕ) (e : jobFault bytes ≡ 0) where
 
 -- ---- any job
 
-module _ (bytes : List ℕ) {points : List (List ℤ)} {firsts : List ℕ} {x : Begun} (b : Begins (jobCall bytes) (jobFault bytes) points firsts x) where
+module _ (bytes : List ℕ) {points : List (List ℤ)} {firsts numbers : List ℕ} {x : Begun} (b : Begins (jobCall bytes) (jobFault bytes) points firsts numbers x) where
   -- what holds of either answer
   by-answer : (P : Begun → Type 0) → ((d : jobFault bytes ≡ 0 → ⊥) → P (refusedBegun (jobFault bytes))) → ((e : jobFault bytes ≡ 0) → P (acceptedBegun (jobCall bytes))) → P x
   by-answer P p q =
@@ -136,8 +135,8 @@ module _ (bytes : List ℕ) {points : List (List ℤ)} {firsts : List ℕ} {x : 
       (λ h. let e = eqb-true (jobFault bytes) 0 h in subst P (sym (b .answer ∙ begun-accepted (jobCall bytes) (jobFault bytes) e)) (q e))
       (λ h. let d = eqb-false (jobFault bytes) 0 h in subst P (sym (b .answer ∙ begun-refused (jobCall bytes) (jobFault bytes) d)) (p d))
 
-  pub started : Started x firsts points
-  started = by-answer (λ y. Started y firsts points) (refused-started bytes firsts points) (λ e. accepted-started bytes e b)
+  pub started : Started x firsts points numbers
+  started = by-answer (λ y. Started y firsts points numbers) (λ d. refused-started bytes firsts points d numbers) (λ e. accepted-started bytes e b)
 
   pub pieces-in : piecesIn x firsts points ≡ piecesOf bytes
   pieces-in = by-answer (λ y. piecesIn y firsts points ≡ piecesOf bytes) (refused-pieces bytes firsts points) (λ e. accepted-pieces bytes e b)

@@ -2,14 +2,15 @@
 use mathlib.Core.Path.{_≡_}
 use mathlib.Core.Bool.{cond}
 use mathlib.Core.List.{List, _∷_, map, flatten}
-use Prim.Native.Nat.{ℕ, _+_, _*_, _/_, _%_, _<_, _≤_, _^_}
+use Prim.Native.Nat.{ℕ, _+_, _*_, _/_, _%_, _<_, _≤_}
 use lib.Dec.{eqb, ltb}
 use lib.ListN.{length, drop}
 use lib.IntN.{ℤ}
 use Rattle.integers.specs.Lists.{upTo, overlay}
 use Rattle.table.specs.Table.{maxContour}
 use Rattle.text.specs.Text.{refusal}
-use Rattle.pair_walks.specs.Walks.{Walks, contoursIn, pairIn}
+use Rattle.pair_walks.specs.Walks.{contoursIn, pairIn}
+use Rattle.pair_numbers.specs.Numbers.{Keyed}
 use Rattle.pair_lines.specs.Lines.{pairsHead, pairLine}
 use Rattle.pair_lines.specs.Putting.{lineRoom}
 use Rattle.pairs_work.specs.declared.Begun.{Begun}
@@ -36,23 +37,23 @@ module _ (x : Begun) (firsts : List ℕ) (points : List (List ℤ)) where
   unfoldable pub piecesIn : List (List ℕ)
   piecesIn = firstIn ∷ map lineIn (upTo (x .left * x .right))
 
-  -- fewer pairs than 2^32, none of a job that is refused; of another the walks of both operands, with corners few enough to be counted
-  pub record Started : Type 0 where
-    pub few : x .left * x .right < 4294967296
-    pub refused : (x .fault ≡ 0 → ⊥) → x .left * x .right ≡ 0
-    pub walks : x .fault ≡ 0 → Walks firsts points (x .left + x .right)
-    pub corners : x .fault ≡ 0 → cornersOver < 2 ^ 32
+  module _ (numbers : List ℕ) where
+    -- fewer pairs than 2^32, none of a job that is refused; of another the walks of both operands, which can be merged by their numbers
+    pub record Started : Type 0 where
+      pub few : x .left * x .right < 4294967296
+      pub refused : (x .fault ≡ 0 → ⊥) → x .left * x .right ≡ 0
+      pub keyed : x .fault ≡ 0 → Keyed firsts points numbers (x .left) (x .right)
 
-  -- with room to merge two walks
-  pub record Workable (work : List ℤ) : Type 0 where
-    pub started : Started
-    pub for-corners : 4 * maxContour ≤ length work
+    -- with room to merge two walks
+    pub record Workable (work : List ℤ) : Type 0 where
+      pub started : Started
+      pub for-corners : 4 * maxContour ≤ length work
 
-  -- and to put piece k
-  pub record Fitting (k : ℕ) (work : List ℤ) (out : List ℕ) : Type 0 where
-    pub workable : Workable work
-    pub inside : k < 1 + x .left * x .right
-    pub for-line : lineRoom ≤ length out
+    -- and to put piece k
+    pub record Fitting (k : ℕ) (work : List ℤ) (out : List ℕ) : Type 0 where
+      pub workable : Workable work
+      pub inside : k < 1 + x .left * x .right
+      pub for-line : lineRoom ≤ length out
 
 -- those of some pieces that one call puts from piece `from` on into lent bytes, which held `old`
 pub record Handed (pieces : List (List ℕ)) (from : ℕ) (old new : List ℕ) (r : Chunk) : Type 0 where

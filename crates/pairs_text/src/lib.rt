@@ -1,7 +1,7 @@
 // The text of a pair job handed over piece by piece: `next_chunk` takes any bytes and how many pieces have been handed over, and puts as many of the next ones as
 // lent bytes have room for. It keeps nothing between calls and its work arrays are its own. What the pieces are and which of them one call puts is
-// specs/Pieces.antt; that calls from 0 to the end hand over the whole text, `pairsText`, is specs/HandedOver.antt. Leans on pairs_work, pair_lines, minkowski_count
-// and text.
+// specs/Pieces.antt; that calls from 0 to the end hand over the whole text, `pairsText`, is specs/HandedOver.antt. Leans on pairs_work, pair_lines,
+// minkowski_chains and text.
 ghost use mathlib.Core.Path.{_≡_};
 ghost use mathlib.Core.List.{[], flatten};
 ghost use Prim.Native.Nat.{_≤_};
@@ -32,8 +32,14 @@ pub struct Chunk {
 }
 
 // Puts the head line, or the refusal, on the front of the lent bytes and answers how many bytes it has. Only the head line wants the corners counted.
-fn put_first(begun: Begun, firsts: &[u32], points: &[[i32; 2]], out: &mut [u8]) -> usize
-    requires { ⌜ Started begun (now firsts) (now points) × (firstRoom ≤ length (now out)) ⌝ }
+fn put_first(
+    begun: Begun,
+    firsts: &[u32],
+    points: &[[i32; 2]],
+    numbers: &[u64],
+    out: &mut [u8],
+) -> usize
+    requires { ⌜ Started begun (now firsts) (now points) (now numbers) × (firstRoom ≤ length (now out)) ⌝ }
     ensures { λ r. ⌜ PutText (firstIn begun (now (firsts .entry)) (now (points .entry))) 0 (now (out .entry)) (now (out .exit)) r ⌝ }
 {
     let fault = begun.fault;
@@ -43,7 +49,7 @@ fn put_first(begun: Begun, firsts: &[u32], points: &[[i32; 2]], out: &mut [u8]) 
     let left = begun.left;
     let right = begun.right;
     let bounds = begun.bounds;
-    let corners = minkowski_count::count_all(firsts, points, left, right);
+    let corners = minkowski_chains::count_all(firsts, points, numbers, left, right);
     pair_lines::put_head((left * right) as u64, corners as u64, bounds, out)
 }
 
@@ -52,21 +58,22 @@ fn put_piece(
     begun: Begun,
     firsts: &[u32],
     points: &[[i32; 2]],
+    numbers: &[u64],
     k: usize,
     work: &mut [i32],
     out: &mut [u8],
 ) -> usize
-    requires { ⌜ Fitting begun (now firsts) (now points) k (now work) (now out) ⌝ }
+    requires { ⌜ Fitting begun (now firsts) (now points) (now numbers) k (now work) (now out) ⌝ }
     ensures { λ r. ⌜ PutText (getD (piecesIn begun (now (firsts .entry)) (now (points .entry))) k []) 0 (now (out .entry)) (now (out .exit)) r ⌝ }
 {
     if k == 0 {
-        return put_first(begun, firsts, points, out);
+        return put_first(begun, firsts, points, numbers, out);
     }
     let left = begun.left;
     let right = begun.right;
     let p = (k - 1) / right;
     let q = (k - 1) % right;
-    pair_lines::put_line(firsts, points, left, right, p, q, work, out)
+    pair_lines::put_line(firsts, points, numbers, left, right, p, q, work, out)
 }
 
 // Puts pieces from the one at `from` on, one after another, as long as there is room for any and pieces are left.
@@ -74,11 +81,12 @@ fn put_pieces(
     begun: Begun,
     firsts: &[u32],
     points: &[[i32; 2]],
+    numbers: &[u64],
     from: usize,
     work: &mut [i32],
     out: &mut [u8],
 ) -> Chunk
-    requires { ⌜ Workable begun (now firsts) (now points) (now work) ⌝ }
+    requires { ⌜ Workable begun (now firsts) (now points) (now numbers) (now work) ⌝ }
     ensures { λ r. ⌜ Handed (piecesIn begun (now (firsts .entry)) (now (points .entry))) from (now (out .entry)) (now (out .exit)) r ⌝ }
 {
     let left = begun.left;
@@ -94,7 +102,7 @@ fn put_pieces(
                 more: true,
             };
         }
-        size += put_piece(begun, firsts, points, k, work, &mut out[size..]);
+        size += put_piece(begun, firsts, points, numbers, k, work, &mut out[size..]);
         k += 1;
     }
     Chunk {
@@ -104,19 +112,20 @@ fn put_pieces(
     }
 }
 
-// The same of a job begun, whose walks lie in places for any two operands.
+// The same of a job begun, whose walks and their numbers lie in places for any two operands.
 fn put_begun(
     begun: Begun,
     firsts: &[u32; FIRSTS],
     points: &[[i32; 2]; POINTS],
+    numbers: &[u64; POINTS],
     from: usize,
     out: &mut [u8],
 ) -> Chunk
-    requires { ⌜ Started begun (now firsts) (now points) ⌝ }
+    requires { ⌜ Started begun (now firsts) (now points) (now numbers) ⌝ }
     ensures { λ r. ⌜ Handed (piecesIn begun (now (firsts .entry)) (now (points .entry))) from (now (out .entry)) (now (out .exit)) r ⌝ }
 {
     let mut work = [0i32; WORK];
-    put_pieces(begun, firsts, points, from, &mut work, out)
+    put_pieces(begun, firsts, points, numbers, from, &mut work, out)
 }
 
 // Hands over the pieces of a job's text after the first `from`, as many as there is room for, on the front of the lent bytes; past them these keep what they held.
@@ -131,6 +140,7 @@ pub fn next_chunk(bytes: &[u8], from: usize, out: &mut [u8; ROOM]) -> Chunk
 {
     let mut points = [[0i32; 2]; POINTS];
     let mut firsts = [0u32; FIRSTS];
-    let begun = pairs_work::begin_job(bytes, &mut points, &mut firsts);
-    put_begun(begun, &firsts, &points, from, out)
+    let mut numbers = [0u64; POINTS];
+    let begun = pairs_work::begin_job(bytes, &mut points, &mut firsts, &mut numbers);
+    put_begun(begun, &firsts, &points, &numbers, from, out)
 }

@@ -81,7 +81,7 @@ right-read bytes {k} h p q t =
     λ i. record { starts = (p ∙ ap (startsAt bytes) h) i; corners = (q ∙ ap (cornersAt bytes) h) i; bounds = (t ∙ ap (boundsAt bytes) m) i }
 
 pub begun-job :
-    (bytes : List ℕ) → shapeFault bytes ≡ 0 → {t : Bool} {l r : Operand} {points : List (List ℤ)} {firsts : List ℕ} {b : Begun} → t ≡ reflectedOf bytes → l ≡ leftOf bytes → r ≡ rightOf bytes →
-    Begins (record { reflected = t; left = l; right = r }) (callFault (record { reflected = t; left = l; right = r })) points firsts b → Begins (jobCall bytes) (jobFault bytes) points firsts b
-begun-job bytes e {points = points} {firsts = firsts} {b = b} p q s h =
-    subst (λ f. Begins (jobCall bytes) f points firsts b) (sym (shape-passed bytes e)) (subst (λ x. Begins x (callFault x) points firsts b) (λ i. record { reflected = p i; left = q i; right = s i }) h)
+    (bytes : List ℕ) → shapeFault bytes ≡ 0 → {t : Bool} {l r : Operand} {points : List (List ℤ)} {firsts numbers : List ℕ} {b : Begun} → t ≡ reflectedOf bytes → l ≡ leftOf bytes → r ≡ rightOf bytes →
+    Begins (record { reflected = t; left = l; right = r }) (callFault (record { reflected = t; left = l; right = r })) points firsts numbers b → Begins (jobCall bytes) (jobFault bytes) points firsts numbers b
+begun-job bytes e {points = points} {firsts = firsts} {numbers = numbers} {b = b} p q s h =
+    subst (λ f. Begins (jobCall bytes) f points firsts numbers b) (sym (shape-passed bytes e)) (subst (λ x. Begins x (callFault x) points firsts numbers b) (λ i. record { reflected = p i; left = q i; right = s i }) h)

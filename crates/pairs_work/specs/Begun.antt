@@ -1,5 +1,5 @@
--- What a pair job answers before its lines: its fault, or how many parts its operands have and the result's bounds, with the walks of both operands in work
--- buffers for any two (`Begins`). Assumes nothing.
+-- What a pair job answers before its lines: its fault, or how many parts its operands have and the result's bounds, with the walks of both operands, and a number
+-- a point, in work buffers for any two (`Begins`). Assumes nothing.
 use mathlib.Core.Path.{_≡_}
 use mathlib.Core.Bool.{cond}
 use mathlib.Core.List.{List}
@@ -10,6 +10,7 @@ use lib.IntN.{ℤ}
 use Rattle.integers.specs.Faults.{firstFault}
 use Rattle.table.specs.Table.{partCount, maxParts, maxCorners}
 use Rattle.minkowski.specs.Pairs.{noBounds, resultBounds, pairKinds}
+use Rattle.pair_numbers.specs.Numbers.{Keyed}
 use Rattle.minkowski_work.specs.Scratch.{Call, Walked}
 use Rattle.pairs_job.specs.Job.{reflectedOf, leftOf, rightOf, shapeFault}
 use Rattle.pairs_work.specs.declared.Begun.{Begun}
@@ -18,6 +19,11 @@ use Rattle.pairs_work.specs.declared.Begun.{Begun}
 pub record Large (points : List (List ℤ)) (firsts : List ℕ) : Type 0 where
   pub for-points : length points ≡ 2 * (maxCorners + maxParts)
   pub for-firsts : length firsts ≡ 2 * (maxParts + 1)
+
+-- and a number a point
+pub record Places (points : List (List ℤ)) (firsts numbers : List ℕ) : Type 0 where
+  pub large : Large points firsts
+  pub for-numbers : length numbers ≡ length points
 
 -- a job without a fault of its shape, and places for any tables within the limits
 pub record Shapely (bytes : List ℕ) (ls : List ℕ) (lc : List ℤ) (rs : List ℕ) (rc : List ℤ) : Type 0 where
@@ -55,11 +61,12 @@ acceptedBegun x = record {
 unfoldable pub begunOf : Call → ℕ → Begun
 begunOf x f = cond (eqb f 0) (acceptedBegun x) (refusedBegun f)
 
--- that answer, and where there is no fault the walks of both operands
-pub record Begins (x : Call) (f : ℕ) (points : List (List ℤ)) (firsts : List ℕ) (b : Begun) : Type 0 where
+-- that answer, and where there is no fault the walks of both operands, which can be merged by their numbers
+pub record Begins (x : Call) (f : ℕ) (points : List (List ℤ)) (firsts numbers : List ℕ) (b : Begun) : Type 0 where
   pub answer : b ≡ begunOf x f
   pub walked : f ≡ 0 → Walked x points firsts
+  pub keyed : f ≡ 0 → Keyed firsts points numbers (partCount (x .left .starts)) (partCount (x .right .starts))
 
 -- of its own fault
-abbrev pub CallBegins : Call → List (List ℤ) → List ℕ → Begun → Type 0
-CallBegins x points firsts b = Begins x (callFault x) points firsts b
+abbrev pub CallBegins : Call → List (List ℤ) → List ℕ → List ℕ → Begun → Type 0
+CallBegins x points firsts numbers b = Begins x (callFault x) points firsts numbers b

@@ -1,10 +1,11 @@
 // A pair job before its lines: `begin_job` takes any bytes, tells the job's fault or how many parts its operands have and the result's bounds, and leaves the walks of
-// both operands in its caller's work buffers, which pair_lines puts into lines (`Begins` of specs/Begun.antt, with pairs_job's `jobFault`, `leftOf` and `rightOf`). Of a
-// job that is refused nothing is said of the buffers. Leans on pairs_job, minkowski_faults and minkowski_work.
+// both operands, with a number a point, in its caller's work buffers, which pair_lines puts into lines (`Begins` of specs/Begun.antt, with pairs_job's `jobFault`,
+// `leftOf` and `rightOf`). Of a job that is refused nothing is said of the buffers. Leans on pairs_job, minkowski_faults, minkowski_work, pair_numbers and a law of
+// minkowski_keyed.
 ghost use mathlib.Core.Path.{_≡_};
 ghost use Rattle.minkowski_work.specs.Scratch.{callOf};
 ghost use Rattle.pairs_job.specs.Job.{jobFault};
-ghost use Rattle.pairs_work.specs.Begun.{Large, Shapely, jobCall, PairsTold, refusedBegun, Begins, CallBegins};
+ghost use Rattle.pairs_work.specs.Begun.{Large, Places, Shapely, jobCall, PairsTold, refusedBegun, Begins, CallBegins};
 use minkowski::Operation;
 use pairs_job::LEFT;
 use pairs_job::LEFT_BOUNDS;
@@ -79,7 +80,7 @@ fn pairs_fault(
     )
 }
 
-// What the pairs of two operands answer before their lines.
+// What the pairs of two operands answer before their lines; where there is no fault, the points have their numbers.
 fn begin_operands(
     operation: Operation,
     left_starts: &[u32],
@@ -88,9 +89,10 @@ fn begin_operands(
     right_corners: &[i32],
     points: &mut [[i32; 2]],
     firsts: &mut [u32],
+    numbers: &mut [u64],
 ) -> Begun
-    requires { ⌜ Large (now points) (now firsts) ⌝ }
-    ensures { λ r. ⌜ CallBegins (callOf operation (now («left_starts» .entry)) (now («left_corners» .entry)) (now («right_starts» .entry)) (now («right_corners» .entry))) (now (points .exit)) (now (firsts .exit)) r ⌝ }
+    requires { ⌜ Places (now points) (now firsts) (now numbers) ⌝ }
+    ensures { λ r. ⌜ CallBegins (callOf operation (now («left_starts» .entry)) (now («left_corners» .entry)) (now («right_starts» .entry)) (now («right_corners» .entry))) (now (points .exit)) (now (firsts .exit)) (now (numbers .exit)) r ⌝ }
 {
     let fault = pairs_fault(
         operation,
@@ -106,6 +108,7 @@ fn begin_operands(
     }
     let left = left_starts.len() - 1;
     let right = right_starts.len() - 1;
+    pair_numbers::number_walks(firsts, points, left, right, numbers);
     let reflected = operation.reflected;
     let bounds = minkowski_faults::result_bounds(operation.left, operation.right, reflected);
     Begun {
@@ -125,9 +128,10 @@ fn begin_shaped(
     right_corners: &mut [i32],
     points: &mut [[i32; 2]; POINTS],
     firsts: &mut [u32; FIRSTS],
+    numbers: &mut [u64; POINTS],
 ) -> Begun
     requires { ⌜ Shapely (now bytes) (now «left_starts») (now «left_corners») (now «right_starts») (now «right_corners») ⌝ }
-    ensures { λ r. ⌜ Begins (jobCall (now (bytes .entry))) (jobFault (now (bytes .entry))) (now (points .exit)) (now (firsts .exit)) r ⌝ }
+    ensures { λ r. ⌜ Begins (jobCall (now (bytes .entry))) (jobFault (now (bytes .entry))) (now (points .exit)) (now (firsts .exit)) (now (numbers .exit)) r ⌝ }
 {
     let place = pairs_job::right_place(bytes);
     let l = word_at(bytes, LEFT) as usize;
@@ -152,12 +156,18 @@ fn begin_shaped(
         &right_corners[..2 * n],
         points,
         firsts,
+        numbers,
     )
 }
 
 // What a job answers before its lines.
-pub fn begin_job(bytes: &[u8], points: &mut [[i32; 2]; POINTS], firsts: &mut [u32; FIRSTS]) -> Begun
-    ensures { λ r. ⌜ Begins (jobCall (now (bytes .entry))) (jobFault (now (bytes .entry))) (now (points .exit)) (now (firsts .exit)) r ⌝ }
+pub fn begin_job(
+    bytes: &[u8],
+    points: &mut [[i32; 2]; POINTS],
+    firsts: &mut [u32; FIRSTS],
+    numbers: &mut [u64; POINTS],
+) -> Begun
+    ensures { λ r. ⌜ Begins (jobCall (now (bytes .entry))) (jobFault (now (bytes .entry))) (now (points .exit)) (now (firsts .exit)) (now (numbers .exit)) r ⌝ }
 {
     let fault = pairs_job::shape_fault(bytes);
     if fault != 0 {
@@ -175,5 +185,6 @@ pub fn begin_job(bytes: &[u8], points: &mut [[i32; 2]; POINTS], firsts: &mut [u3
         &mut right_corners,
         points,
         firsts,
+        numbers,
     )
 }

@@ -15,30 +15,30 @@ merge-one-requires c κs = search needs
 
 mul-put-contour : tie.Need-mul-put-contour
 mul-put-contour c =
-    let s = c .before .before .before .before .before in
+    let s = c .before .before .before .before .before .before in
     let g = s .args in
-    omega (arith, pair-count (g .firsts .now) (g .points .now) (g .left) (g .right) (g .p) (g .q) (g .work .now) (g .out .now) (s .pre) (c .before .merge-one .ensures))
+    omega (arith, pair-count (g .firsts .now) (g .points .now) (g .numbers .now) (g .left) (g .right) (g .p) (g .q) (g .work .now) (g .out .now) (s .pre) (c .before .merge-one .ensures))
 
 slice-reshare-prefix-put-contour : tie.Need-slice-reshare-prefix-put-contour
 slice-reshare-prefix-put-contour c =
-    let s = c .before .before .before .before .before in
+    let s = c .before .before .before .before .before .before in
     let g = s .args in
-    omega (arith, pair-inside (g .firsts .now) (g .points .now) (g .left) (g .right) (g .p) (g .q) (g .work .now) (g .out .now) (s .pre) (c .before .merge-one .ensures) refl)
+    omega (arith, pair-inside (g .firsts .now) (g .points .now) (g .numbers .now) (g .left) (g .right) (g .p) (g .q) (g .work .now) (g .out .now) (s .pre) (c .before .merge-one .ensures) refl)
 
 slice-aggregate-put-contour : tie.Need-slice-aggregate-put-contour
 slice-aggregate-put-contour c =
-    let s = c .before .before .before .before .before .before in
+    let s = c .before .before .before .before .before .before .before in
     let g = s .args in
-    sym (length-take-le _ _ (omega (arith, pair-inside (g .firsts .now) (g .points .now) (g .left) (g .right) (g .p) (g .q) (g .work .now) (g .out .now) (s .pre) (c .before .before .merge-one .ensures) refl)))
+    sym (length-take-le _ _ (omega (arith, pair-inside (g .firsts .now) (g .points .now) (g .numbers .now) (g .left) (g .right) (g .p) (g .q) (g .work .now) (g .out .now) (s .pre) (c .before .before .merge-one .ensures) refl)))
 
 put-contour-requires : tie.Need-put-contour-requires
 put-contour-requires c κs =
-    let s = c .before .before .before .before .before .before .before in
+    let s = c .before .before .before .before .before .before .before .before in
     let g = s .args in
     omega (
       arith,
       ap (λ ps. length (pairLine (g .p) (g .q) ps)) (merged-front (c .before .before .before .merge-one .ensures)),
-      pair-room (g .firsts .now) (g .points .now) (g .left) (g .right) (g .p) (g .q) (g .work .now) (g .out .now) (s .pre),
+      pair-room (g .firsts .now) (g .points .now) (g .numbers .now) (g .left) (g .right) (g .p) (g .q) (g .work .now) (g .out .now) (s .pre),
     )
 
 same-length : tie.Need-same-length
@@ -49,7 +49,7 @@ same-length-2 c = search needs
 
 returns : tie.Need-returns
 returns c =
-    let g = c .before .before .before .before .before .before .before .before .before .before .args in
+    let g = c .before .before .before .before .before .before .before .before .before .before .before .args in
     put-as (ap (pairLine (g .p) (g .q)) (merged-front (c .before .before .before .before .before .before .merge-one .ensures))) (c .before .before .put-contour .ensures)
 
 pub put-line-spec : {M : Type 1} → statement M

@@ -14,15 +14,15 @@ begin-job-requires c κs = search needs
 
 put-begun-requires : tie.Need-put-begun-requires
 put-begun-requires c κs =
-    let s = c .before .before .before .before .before .before .before in
-    started (s .args .bytes .now) (c .before .before .before .begin-job .ensures)
+    let s = c .before .before .before .before .before .before .before .before .before in
+    started (s .args .bytes .now) (c .before .before .before .before .begin-job .ensures)
 
 returns : tie.Need-returns
 returns c =
-    let s = c .before .before .before .before .before .before .before .before in
+    let s = c .before .before .before .before .before .before .before .before .before .before in
     let B = s .args .bytes .now in
     let room : length (s .args .out .now) ≡ chunkRoom = omega arith in
-    handed-chunk B (pieces-in B (c .before .before .before .before .begin-job .ensures)) room (c .put-begun .ensures)
+    handed-chunk B (pieces-in B (c .before .before .before .before .before .begin-job .ensures)) room (c .put-begun .ensures)
 
 pub next-chunk-spec : {M : Type 1} → statement M
 next-chunk-spec = tie.close (tie.spec begin-job-requires put-begun-requires returns)

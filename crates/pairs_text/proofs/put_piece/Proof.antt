@@ -14,7 +14,7 @@ same-length c = search needs
 
 returns : tie.Need-returns
 returns c =
-    let g = c .before .before .before .before .before .before .before .args in
+    let g = c .before .before .before .before .before .before .before .before .args in
     put-as (piece-first (g .begun) (g .firsts .now) (g .points .now) (c .before .before .before .before .if1 .taken)) (c .before .before .put-first .ensures)
 
 sub-p : tie.Need-sub-p
@@ -22,7 +22,7 @@ sub-p c = search needs
 
 div-p : tie.Need-div-p
 div-p c =
-    let s = c .before .before .before in
+    let s = c .before .before .before .before in
     let g = s .args in
     omega (arith, some-right (g .begun) (g .firsts .now) (g .points .now) (s .pre) (c .if1 .left))
 
@@ -31,13 +31,13 @@ sub-q c = search needs
 
 rem-q : tie.Need-rem-q
 rem-q c =
-    let s = c .before .before .before in
+    let s = c .before .before .before .before in
     let g = s .args in
     omega (arith, some-right (g .begun) (g .firsts .now) (g .points .now) (s .pre) (c .if1 .left))
 
 put-line-requires : tie.Need-put-line-requires
 put-line-requires c κs =
-    let s = c .before .before .before .before .before in
+    let s = c .before .before .before .before .before .before in
     let g = s .args in
     puttable (g .begun) (g .firsts .now) (g .points .now) (s .pre) (c .before .before .if1 .left)
 
@@ -49,7 +49,7 @@ same-length-3 c = search needs
 
 returns-2 : tie.Need-returns-2
 returns-2 c =
-    let s = c .before .before .before .before .before .before .before .before .before in
+    let s = c .before .before .before .before .before .before .before .before .before .before in
     let g = s .args in
     put-as (piece-line (g .begun) (g .firsts .now) (g .points .now) (g .k) (c .before .before .before .before .before .before .if1 .left) (s .pre .inside)) (c .before .before .before .put-line .ensures)
 

@@ -10,20 +10,20 @@ use Rattle.pairs_text.proofs.put_pieces.Statement.{statement}
 use Rattle.pairs_text.proofs.put_pieces.Tie as tie
 
 abbrev Inv-loop : tie.InvT-loop
-Inv-loop begun firsts points from work₀ out₀ left right pieces k₀ size₀ work out k size = (length work ≡ length work₀) × Putting (piecesIn begun firsts points) from k size out₀ out
+Inv-loop begun firsts points numbers from work₀ out₀ left right pieces k₀ size₀ work out k size = (length work ≡ length work₀) × Putting (piecesIn begun firsts points) from k size out₀ out
 
 abbrev μ-loop : tie.MeasureT-loop
-μ-loop begun firsts points from work₀ out₀ left right pieces k₀ size₀ work out k size = pieces - k
+μ-loop begun firsts points numbers from work₀ out₀ left right pieces k₀ size₀ work out k size = pieces - k
 
 mul-pieces : tie.Need-mul-pieces Inv-loop μ-loop
-mul-pieces c = omega (arith, c .before .before .pre .started .few)
+mul-pieces c = omega (arith, c .before .before .before .pre .started .few)
 
 add-pieces : tie.Need-add-pieces Inv-loop μ-loop
-add-pieces c = omega (arith, c .before .before .pre .started .few)
+add-pieces c = omega (arith, c .before .before .before .pre .started .few)
 
 loop-holds : tie.Need-loop-holds Inv-loop μ-loop
 loop-holds c =
-    let g = c .before .before .args in
+    let g = c .before .before .before .args in
     (refl, putting-none (piecesIn (g .begun) (g .firsts .now) (g .points .now)) (g .from) (g .out .now))
 
 sub-if1 : tie.Need-sub-if1 Inv-loop μ-loop
@@ -39,7 +39,7 @@ same-length-2 c = putting-length (c .before .before .loop .inv .1)
 
 returns : tie.Need-returns Inv-loop μ-loop
 returns c =
-    let g = c .before .before .before .before .before .args in
+    let g = c .before .before .before .before .before .before .args in
     let p = c .before .before .loop .inv .1 in
     handed-full p (omega (arith, c .before .loop-test .taken, count-pieces (g .begun) (g .firsts .now) (g .points .now))) (omega (arith, c .if1 .taken, putting-length p))
 
@@ -60,7 +60,7 @@ part-put-piece-end c =
 
 put-piece-requires : tie.Need-put-piece-requires Inv-loop μ-loop
 put-piece-requires c κs =
-    let s = c .before .before .before .before .before .before .before in
+    let s = c .before .before .before .before .before .before .before .before in
     let l = c .before .before .before .before .loop in
     record {
       workable = record { started = s .pre .started; for-corners = omega (arith, s .pre .for-corners, l .inv .0) };
@@ -81,7 +81,7 @@ loop-less c = omega (arith, c .before .before .before .before .before .before .b
 loop-again : tie.Need-loop-again Inv-loop μ-loop
 loop-again c =
     let l = c .before .before .before .before .before .before .before .before .loop in
-    let g = c .before .before .before .before .before .before .before .before .before .before .before .args in (
+    let g = c .before .before .before .before .before .before .before .before .before .before .before .before .args in (
       c .before .before .work .given ∙ l .inv .0,
       putting-turn (l .inv .1) (omega (arith, c .before .before .before .before .before .before .before .loop-test .taken, count-pieces (g .begun) (g .firsts .now) (g .points .now))) (c .before .before .before .before .before .before .if1 .left) (c .before .before .before .put-piece .ensures) (c .before .out .given .0),
     )
@@ -94,7 +94,7 @@ same-length-4 c = putting-length (c .before .loop .inv .1)
 
 returns-2 : tie.Need-returns-2 Inv-loop μ-loop
 returns-2 c =
-    let g = c .before .before .before .before .args in
+    let g = c .before .before .before .before .before .args in
     handed-all (c .before .loop .inv .1) (omega (arith, c .loop-test .left, count-pieces (g .begun) (g .firsts .now) (g .points .now)))
 
 pub put-pieces-spec : {M : Type 1} → statement M

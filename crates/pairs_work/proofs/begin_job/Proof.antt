@@ -19,7 +19,7 @@ returns c =
     let e = c .before .before .shape-fault .ensures in
     let d = c .before .if1 .taken in
     let t = e ∙ sym (shape-told B (λ q. d (e ∙ q))) in
-    record { answer = begun-refused (jobCall B) t d (c .refused .ensures); walked = λ q. absurd (d (t ∙ q)) }
+    record { answer = begun-refused (jobCall B) t d (c .refused .ensures); walked = λ q. absurd (d (t ∙ q)); keyed = λ q. absurd (d (t ∙ q)) }
 
 slice-aggregate-begin-shaped : tie.Need-slice-aggregate-begin-shaped
 slice-aggregate-begin-shaped c = search needs

@@ -159,39 +159,39 @@ begin-operands-requires c κs = search needs
 
 same-length : tie.Need-same-length
 same-length c =
-    c .before .before .before .before .before .before .before .before .before .before .before .before .before .before .before .before .before .before .left-starts .given
+    c .before .before .before .before .before .before .before .before .before .before .before .before .before .before .before .before .before .before .before .left-starts .given
 
 same-length-2 : tie.Need-same-length-2
 same-length-2 c =
-    c .before .before .before .before .before .before .before .before .before .before .before .before .before .before .before .before .left-corners .given
+    c .before .before .before .before .before .before .before .before .before .before .before .before .before .before .before .before .before .left-corners .given
 
 same-length-3 : tie.Need-same-length-3
-same-length-3 c = c .before .before .before .before .before .before .before .before .before .before .before .before .right-starts .given
+same-length-3 c = c .before .before .before .before .before .before .before .before .before .before .before .before .before .right-starts .given
 
 same-length-4 : tie.Need-same-length-4
 same-length-4 c = search needs
 
 returns : tie.Need-returns
 returns c =
-    let s = c .before .before .before .before .before .before .before .before .before .before .before .before .before .before .before .before .before .before .before .before .before .before .before .before .before .before .before .before .before .before in
+    let s = c .before .before .before .before .before .before .before .before .before .before .before .before .before .before .before .before .before .before .before .before .before .before .before .before .before .before .before .before .before .before .before in
     let B = s .args .bytes .now in
-    let q = c .before .before .before .before .before .before .before .before .before .before .before .before .before .before .before .before .before .before .before .before .before .before .before .before .before .before .right-place .ensures .0 in
-    let k = c .before .before .before .before .before .before .before .before .before .before .before .before .before .before .before .before .before .before .before .before .before .before .before .before .before .before .right-place .result in
+    let q = c .before .before .before .before .before .before .before .before .before .before .before .before .before .before .before .before .before .before .before .before .before .before .before .before .before .before .before .right-place .ensures .0 in
+    let k = c .before .before .before .before .before .before .before .before .before .before .before .before .before .before .before .before .before .before .before .before .before .before .before .before .before .before .before .right-place .result in
     let h = left-in B (s .pre .shape) in
     let l =
     left-read B
-    (front (startsAt B 5) (s .args .left-starts .now) (c .before .before .before .before .before .before .before .before .before .before .before .before .before .before .before .before .before .before .before .read-operand .ensures .0) (c .before .before .before .before .before .before .before .before .before .before .before .before .before .before .before .before .before .before .before .before .before .before .before .before .before .word-at .result + 1)
-    (starts-count B 5 h (c .before .before .before .before .before .before .before .before .before .before .before .before .before .before .before .before .before .before .before .before .before .before .before .before .before .word-at .ensures)))
-    (front (cornersAt B 5) (s .args .left-corners .now) (c .before .before .before .before .before .before .before .before .before .before .before .before .before .before .before .before .before .before .before .read-operand .ensures .1) (2 * c .before .before .before .before .before .before .before .before .before .before .before .before .before .before .before .before .before .before .before .before .before .before .before .before .word-at2 .result)
-    (numbers-count B 5 h (c .before .before .before .before .before .before .before .before .before .before .before .before .before .before .before .before .before .before .before .before .before .before .before .before .word-at2 .ensures))) (c .before .before .before .before .before .before .before .before .bounds-at .ensures) in
+    (front (startsAt B 5) (s .args .left-starts .now) (c .before .before .before .before .before .before .before .before .before .before .before .before .before .before .before .before .before .before .before .before .read-operand .ensures .0) (c .before .before .before .before .before .before .before .before .before .before .before .before .before .before .before .before .before .before .before .before .before .before .before .before .before .before .word-at .result + 1)
+    (starts-count B 5 h (c .before .before .before .before .before .before .before .before .before .before .before .before .before .before .before .before .before .before .before .before .before .before .before .before .before .before .word-at .ensures)))
+    (front (cornersAt B 5) (s .args .left-corners .now) (c .before .before .before .before .before .before .before .before .before .before .before .before .before .before .before .before .before .before .before .before .read-operand .ensures .1) (2 * c .before .before .before .before .before .before .before .before .before .before .before .before .before .before .before .before .before .before .before .before .before .before .before .before .before .word-at2 .result)
+    (numbers-count B 5 h (c .before .before .before .before .before .before .before .before .before .before .before .before .before .before .before .before .before .before .before .before .before .before .before .before .before .word-at2 .ensures))) (c .before .before .before .before .before .before .before .before .before .bounds-at .ensures) in
     let h = right-in B (s .pre .shape) q in
     let r =
     right-read B q
-    (front (startsAt B k) (s .args .right-starts .now) (c .before .before .before .before .before .before .before .before .before .before .before .before .before .read-operand2 .ensures .0) (c .before .before .before .before .before .before .before .before .before .before .before .before .before .before .before .before .before .before .before .before .before .before .before .word-at3 .result + 1)
-    (starts-count B k h (c .before .before .before .before .before .before .before .before .before .before .before .before .before .before .before .before .before .before .before .before .before .before .before .word-at3 .ensures)))
-    (front (cornersAt B k) (s .args .right-corners .now) (c .before .before .before .before .before .before .before .before .before .before .before .before .before .read-operand2 .ensures .1) (2 * c .before .before .before .before .before .before .before .before .before .before .before .before .before .before .before .before .before .before .before .before .before .before .word-at4 .result)
-    (numbers-count B k h (c .before .before .before .before .before .before .before .before .before .before .before .before .before .before .before .before .before .before .before .before .before .before .word-at4 .ensures))) (c .before .before .before .before .before .before .before .bounds-at2 .ensures) in
-    begun-job B (s .pre .shape) (ap (λ w. eqb w 1) (c .before .before .before .before .before .before .before .before .before .word-at5 .ensures)) l r (c .begin-operands .ensures)
+    (front (startsAt B k) (s .args .right-starts .now) (c .before .before .before .before .before .before .before .before .before .before .before .before .before .before .read-operand2 .ensures .0) (c .before .before .before .before .before .before .before .before .before .before .before .before .before .before .before .before .before .before .before .before .before .before .before .before .word-at3 .result + 1)
+    (starts-count B k h (c .before .before .before .before .before .before .before .before .before .before .before .before .before .before .before .before .before .before .before .before .before .before .before .before .word-at3 .ensures)))
+    (front (cornersAt B k) (s .args .right-corners .now) (c .before .before .before .before .before .before .before .before .before .before .before .before .before .before .read-operand2 .ensures .1) (2 * c .before .before .before .before .before .before .before .before .before .before .before .before .before .before .before .before .before .before .before .before .before .before .before .word-at4 .result)
+    (numbers-count B k h (c .before .before .before .before .before .before .before .before .before .before .before .before .before .before .before .before .before .before .before .before .before .before .before .word-at4 .ensures))) (c .before .before .before .before .before .before .before .before .bounds-at2 .ensures) in
+    begun-job B (s .pre .shape) (ap (λ w. eqb w 1) (c .before .before .before .before .before .before .before .before .before .before .word-at5 .ensures)) l r (c .begin-operands .ensures)
 
 pub begin-shaped-spec : {M : Type 1} → statement M
 begin-shaped-spec =
