@@ -2,7 +2,7 @@
  *
  * Every function here takes any input: it refuses by a number, or it finishes and its answer is complete. What each does is proved; these comments say it in words, and
  * the contracts stand in crates/boundary_.. of the repository. None of them allocates, keeps anything, or calls anything but memcpy and memset, and any
- * number of threads may call them at once. A call needs at most 256 KiB of stack (measured, not proved).
+ * number of threads may call them at once. A call needs at most 448 KiB of stack (measured, not proved).
  *
  * MEMORY is lent for one call:
  *   - a list passes as a pointer and a length, in elements and not in bytes;
