@@ -1,0 +1,4 @@
+-- Laws of the pair job of two mesh files.
+pub mod Putting
+pub mod Making
+pub mod Refused

@@ -1,0 +1,4 @@
+-- The pair job of two mesh files; what the steps of making it promise; what its operands can be refused for.
+pub mod Job
+pub mod Putting
+pub mod Refused
