@@ -47,6 +47,13 @@ pub struct Four {
     pub d: usize,
 }
 
+// A test as a number.
+fn one_if(t: bool) -> usize
+    ensures { λ r. ⌜ (r ≡ cond t 1 0) × (r ≤ 1) ⌝ }
+{
+    t as usize
+}
+
 // One turn without a corner: the walk with the lesser number steps, and both where the numbers are equal.
 fn step_on(numbers: &[u64], s: Lane) -> Lane
     requires { ⌜ (s .i < length (now numbers)) × (s .j < length (now numbers)) × (s .k + 1 < 2 ^ 64) ⌝ }
@@ -57,8 +64,8 @@ fn step_on(numbers: &[u64], s: Lane) -> Lane
     let a = numbers[i];
     let b = numbers[j];
     Lane {
-        i: i + (a <= b) as usize,
-        j: j + (b <= a) as usize,
+        i: i + one_if(a <= b),
+        j: j + one_if(b <= a),
         k: s.k + 1,
     }
 }
