@@ -26,6 +26,24 @@
 #include <stddef.h>
 #include <stdint.h>
 
+#define BEZINKWOLU_VERSION_MAJOR 0
+#define BEZINKWOLU_VERSION_MINOR 1
+#define BEZINKWOLU_VERSION_PATCH 0
+#define BEZINKWOLU_VERSION "0.1.0"
+
+/* What lets a compiler warn of a null pointer, and of memory that is written and overlaps other memory of the call. */
+#if defined(__GNUC__)
+#define BEZINKWOLU_NONNULL __attribute__((nonnull))
+#define BEZINKWOLU_RESTRICT __restrict__
+#else
+#define BEZINKWOLU_NONNULL
+#if defined(__STDC_VERSION__) && __STDC_VERSION__ >= 199901L && !defined(__cplusplus)
+#define BEZINKWOLU_RESTRICT restrict
+#else
+#define BEZINKWOLU_RESTRICT
+#endif
+#endif
+
 #ifdef __cplusplus
 extern "C" {
 #endif
@@ -79,7 +97,7 @@ typedef struct bezinkwolu_counts {
 
 /* The fault of a mesh, 0 for none. An empty mesh has none.
  * Tells, the first that holds: 1, 2, 3, 4, 5, 6, 11. Writes nothing. */
-uint32_t bezinkwolu_mesh_fault(const bezinkwolu_triangle *mesh, size_t triangles);
+uint32_t bezinkwolu_mesh_fault(const bezinkwolu_triangle *mesh, size_t triangles) BEZINKWOLU_NONNULL;
 
 /* Joins the triangles of a mesh into convex parts: iTriangle's to_convex_polygons. Parts are strictly convex and counter-clockwise, each triangle is taken
  * into exactly one, and an empty mesh has none.
@@ -88,8 +106,8 @@ uint32_t bezinkwolu_mesh_fault(const bezinkwolu_triangle *mesh, size_t triangles
  * Always enough: starts_room = triangles + 1 and corners_room = 6 * triangles, so 1,025 and 6,144 for any mesh. */
 bezinkwolu_counts bezinkwolu_to_convex_polygons(
     const bezinkwolu_triangle *mesh, size_t triangles,
-    uint32_t *starts, size_t starts_room,
-    int32_t *corners, size_t corners_room);
+    uint32_t *BEZINKWOLU_RESTRICT starts, size_t starts_room,
+    int32_t *BEZINKWOLU_RESTRICT corners, size_t corners_room) BEZINKWOLU_NONNULL;
 
 /* How a part with more corners than the limit is split. */
 enum bezinkwolu_split {
@@ -105,8 +123,8 @@ enum bezinkwolu_split {
  * Always enough: starts_room = 2 * triangles + 1 and corners_room = 12 * triangles, so 2,049 and 12,288 for any mesh. */
 bezinkwolu_counts bezinkwolu_to_convex_polygons_with_max_vertices(
     const bezinkwolu_triangle *mesh, size_t triangles, uint32_t limit, uint32_t split,
-    uint32_t *starts, size_t starts_room,
-    int32_t *corners, size_t corners_room);
+    uint32_t *BEZINKWOLU_RESTRICT starts, size_t starts_room,
+    int32_t *BEZINKWOLU_RESTRICT corners, size_t corners_room) BEZINKWOLU_NONNULL;
 
 /* ---- part tables */
 
@@ -129,8 +147,8 @@ typedef struct bezinkwolu_told_part {
  * Always enough: bytes_length / 4 for each; 2,049 starts and 16,384 numbers for any table. */
 bezinkwolu_counts bezinkwolu_read_table(
     const uint8_t *bytes, size_t bytes_length,
-    uint32_t *starts, size_t starts_room,
-    int32_t *corners, size_t corners_room);
+    uint32_t *BEZINKWOLU_RESTRICT starts, size_t starts_room,
+    int32_t *BEZINKWOLU_RESTRICT corners, size_t corners_room) BEZINKWOLU_NONNULL;
 
 /* Stores a table. starts_length and corners_length say how many starts and how many numbers there are.
  * Refuses: 7, 2, 21.
@@ -139,7 +157,7 @@ bezinkwolu_counts bezinkwolu_read_table(
 bezinkwolu_told_length bezinkwolu_write_table(
     const uint32_t *starts, size_t starts_length,
     const int32_t *corners, size_t corners_length,
-    uint8_t *bytes, size_t bytes_room);
+    uint8_t *BEZINKWOLU_RESTRICT bytes, size_t bytes_room) BEZINKWOLU_NONNULL;
 
 /* Part k of the left operand or, where `right` holds, of the right one: where it lies in the corners that were lent. Nothing is copied.
  * Refuses: 7 (of either table, also the one not asked for), 12. Writes nothing. */
@@ -148,7 +166,7 @@ bezinkwolu_told_part bezinkwolu_show_part(
     const int32_t *left_corners, size_t left_corners_length,
     const uint32_t *right_starts, size_t right_starts_length,
     const int32_t *right_corners, size_t right_corners_length,
-    bool right, uint32_t k);
+    bool right, uint32_t k) BEZINKWOLU_NONNULL;
 
 /* ---- all pairs */
 
@@ -180,8 +198,8 @@ bezinkwolu_told_pairs bezinkwolu_sum_parts(
     const int32_t *left_corners, size_t left_corners_length, bezinkwolu_bounds left_bounds,
     const uint32_t *right_starts, size_t right_starts_length,
     const int32_t *right_corners, size_t right_corners_length, bezinkwolu_bounds right_bounds,
-    uint32_t *starts, size_t starts_room,
-    int32_t *corners, size_t corners_room);
+    uint32_t *BEZINKWOLU_RESTRICT starts, size_t starts_room,
+    int32_t *BEZINKWOLU_RESTRICT corners, size_t corners_room) BEZINKWOLU_NONNULL;
 
 /* The same of each left part and each right part turned through the origin: {a - b}, iTriangle's difference_parts before its union. */
 bezinkwolu_told_pairs bezinkwolu_difference_parts(
@@ -189,8 +207,8 @@ bezinkwolu_told_pairs bezinkwolu_difference_parts(
     const int32_t *left_corners, size_t left_corners_length, bezinkwolu_bounds left_bounds,
     const uint32_t *right_starts, size_t right_starts_length,
     const int32_t *right_corners, size_t right_corners_length, bezinkwolu_bounds right_bounds,
-    uint32_t *starts, size_t starts_room,
-    int32_t *corners, size_t corners_room);
+    uint32_t *BEZINKWOLU_RESTRICT starts, size_t starts_room,
+    int32_t *BEZINKWOLU_RESTRICT corners, size_t corners_room) BEZINKWOLU_NONNULL;
 
 /* Where a place lies by the contours of a pair result. */
 enum bezinkwolu_contact {
@@ -217,7 +235,7 @@ typedef struct bezinkwolu_told_placement {
 bezinkwolu_told_placement bezinkwolu_placement(
     const uint32_t *starts, size_t starts_length,
     const int32_t *corners, size_t corners_length,
-    int32_t x, int32_t y);
+    int32_t x, int32_t y) BEZINKWOLU_NONNULL;
 
 /* ---- walks, and one pair a corner at a time. A contour is given by its numbers, two a corner. None of these writes anything. */
 
@@ -279,35 +297,35 @@ typedef struct bezinkwolu_told_next {
 
 /* Begins a walk at the lowest, then leftmost corner, or a reflected one at the highest, then rightmost.
  * Refuses: 7 for an odd length or more than 1,026 corners; 2, 8, 20. A place that is refused is all zeros. */
-bezinkwolu_told_place bezinkwolu_walk_begin(const int32_t *contour, size_t length, bool reflected);
+bezinkwolu_told_place bezinkwolu_walk_begin(const int32_t *contour, size_t length, bool reflected) BEZINKWOLU_NONNULL;
 
 /* The point where a walk stands, negated of a reflected one.
  * Refuses: 7, 23 (a place or segment end that is no corner; no step needs to be left), 2 (of the corner there). */
-bezinkwolu_told_point bezinkwolu_walk_point(const int32_t *contour, size_t length, bezinkwolu_place at);
+bezinkwolu_told_point bezinkwolu_walk_point(const int32_t *contour, size_t length, bezinkwolu_place at) BEZINKWOLU_NONNULL;
 
 /* The edge that a walk takes next.
  * Refuses: 7, 23, 2 (of the corner there and the next). */
-bezinkwolu_told_edge bezinkwolu_walk_edge(const int32_t *contour, size_t length, bezinkwolu_place at);
+bezinkwolu_told_edge bezinkwolu_walk_edge(const int32_t *contour, size_t length, bezinkwolu_place at) BEZINKWOLU_NONNULL;
 
 /* The place after that edge. Refuses as the edge does. */
-bezinkwolu_told_place bezinkwolu_walk_advance(const int32_t *contour, size_t length, bezinkwolu_place at);
+bezinkwolu_told_place bezinkwolu_walk_advance(const int32_t *contour, size_t length, bezinkwolu_place at) BEZINKWOLU_NONNULL;
 
 /* Both: the edge, and the place after it. Refuses as the edge does. */
-bezinkwolu_told_step bezinkwolu_walk_next(const int32_t *contour, size_t length, bezinkwolu_place at);
+bezinkwolu_told_step bezinkwolu_walk_next(const int32_t *contour, size_t length, bezinkwolu_place at) BEZINKWOLU_NONNULL;
 
 /* Begins the walks of a pair: iTriangle's ConvexSum::new, and ConvexSum::difference, whose right walk is reflected.
  * Refuses, each over the left contour and then the right one: 7, 2, 8, 20. */
 bezinkwolu_told_pair bezinkwolu_pair_new(
-    const int32_t *left, size_t left_length, const int32_t *right, size_t right_length);
+    const int32_t *left, size_t left_length, const int32_t *right, size_t right_length) BEZINKWOLU_NONNULL;
 bezinkwolu_told_pair bezinkwolu_pair_difference(
-    const int32_t *left, size_t left_length, const int32_t *right, size_t right_length);
+    const int32_t *left, size_t left_length, const int32_t *right, size_t right_length) BEZINKWOLU_NONNULL;
 
 /* The next corner of a pair's contour, or its end. Stepped from its beginning to its end, a pair hands out just the contour that sum_parts or difference_parts
  * has for it. Each step reads both contours whole.
  * Refuses: 7, 23 (a place or segment end of either that is no corner; a walk with no step left stands still), 2 (of any corner). */
 bezinkwolu_told_next bezinkwolu_pair_next(
     const int32_t *left, size_t left_length, const int32_t *right, size_t right_length,
-    bezinkwolu_places at);
+    bezinkwolu_places at) BEZINKWOLU_NONNULL;
 
 /* ---- the area listing */
 
@@ -315,7 +333,7 @@ bezinkwolu_told_next bezinkwolu_pair_next(
 
 /* The text that the area program prints for the bytes of a mesh file: `refused` and the number, or counts, doubled areas, shares and corners. It has no
  * refusal of its own. Answers how many bytes the text has; they stand at the front of `text`, which has BEZINKWOLU_LISTING_ROOM places, always enough. */
-size_t bezinkwolu_listing(const uint8_t *bytes, size_t bytes_length, uint8_t text[BEZINKWOLU_LISTING_ROOM]);
+size_t bezinkwolu_listing(const uint8_t *bytes, size_t bytes_length, uint8_t text[BEZINKWOLU_LISTING_ROOM]) BEZINKWOLU_NONNULL;
 
 /* ---- the plane. Each refuses with 2 a coordinate not strictly between -2^30 and 2^30, with the value 0. */
 

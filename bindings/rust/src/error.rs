@@ -1,6 +1,6 @@
 //! A refusal.
 
-use std::fmt;
+use core::fmt;
 
 /// Why a call refused its input: a number, and the sentence that belongs to it.
 ///
@@ -63,6 +63,7 @@ impl Error {
     /// ```
     /// assert_eq!(bezinkwolu::Error::EMPTY.number(), 20);
     /// ```
+    #[must_use]
     pub fn number(self) -> u32 {
         self.0
     }
@@ -72,6 +73,7 @@ impl Error {
     /// ```
     /// assert_eq!(bezinkwolu::Error::PART.sentence(), "part number past the table");
     /// ```
+    #[must_use]
     pub fn sentence(self) -> &'static str {
         match self.0 {
             1 => "more than 1,024 triangles",
@@ -108,4 +110,5 @@ impl fmt::Debug for Error {
     }
 }
 
+#[cfg(feature = "std")]
 impl std::error::Error for Error {}

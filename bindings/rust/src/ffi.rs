@@ -1,7 +1,8 @@
 //! The archive's functions, and all that is unsafe. bezinkwolu.h has their contracts; `lend` has the rules of the memory that they write.
 
 use crate::{Error, IntRect, PartTable};
-use std::mem::size_of;
+use alloc::vec::Vec;
+use core::mem::size_of;
 
 /// Six coordinates and three neighbours, none as -1: `bezinkwolu_triangle`, number by number.
 pub(crate) type Row = [i32; 9];
@@ -168,14 +169,16 @@ impl Told for ToldPairs {
     }
 }
 
-/// Lends memory for so many starts and so many numbers, and makes a table of what the call wrote there. The memory has no first values: what the
-/// answer does not need is never touched.
+/// Lends a table's memory, made larger where it has no room for so many starts and so many numbers, and leaves in it what the call wrote; where the call refuses, what it
+/// held. Memory past what it held has no first values: what the answer does not need is never touched.
 ///
 /// # Safety
-/// The call writes within what it is lent. Where it tells no fault it has written one start more than it tells parts, and two numbers for each corner.
-unsafe fn lend<T: Told>(starts_room: usize, numbers_room: usize, call: impl FnOnce(*mut u32, *mut i32) -> T) -> Result<(T, PartTable), Error> {
-    let mut starts: Vec<u32> = Vec::with_capacity(starts_room);
-    let mut numbers: Vec<i32> = Vec::with_capacity(numbers_room);
+/// The call writes within what it is lent. Where it tells no fault it has written one start more than it tells parts, and two numbers for each corner; where it tells
+/// one it has written nothing.
+unsafe fn lend<T: Told>(table: &mut PartTable, starts_room: usize, numbers_room: usize, call: impl FnOnce(*mut u32, *mut i32) -> T) -> Result<T, Error> {
+    let (starts, numbers) = table.lists_mut();
+    starts.reserve_exact(starts_room.saturating_sub(starts.len()));
+    numbers.reserve_exact(numbers_room.saturating_sub(numbers.len()));
     let told = call(starts.as_mut_ptr(), numbers.as_mut_ptr());
     Error::told(told.fault())?;
     // SAFETY: so many were written, into what was lent.
@@ -183,9 +186,7 @@ unsafe fn lend<T: Told>(starts_room: usize, numbers_room: usize, call: impl FnOn
         starts.set_len(told.parts() + 1);
         numbers.set_len(2 * told.corners());
     }
-    starts.shrink_to_fit();
-    numbers.shrink_to_fit();
-    Ok((told, PartTable::of_lists(starts, numbers)))
+    Ok(told)
 }
 
 // ---- Below, each call is sound for one reason: a slice passes as its place and its length, for the call alone; what is written is lent by `lend`, with the
@@ -202,36 +203,36 @@ pub(crate) fn mesh_fault(mesh: &[Row]) -> u32 {
 }
 
 /// A part takes a triangle or more, and has at most three corners for each.
-pub(crate) fn to_convex_polygons(mesh: &[Row]) -> Result<PartTable, Error> {
+pub(crate) fn to_convex_polygons(mesh: &[Row], parts: &mut PartTable) -> Result<(), Error> {
     let n = mesh.len().min(MAX_TRIANGLES);
     let (s, c) = (n + 1, 6 * n);
     // SAFETY: as above.
     let told = unsafe {
-        lend(s, c, |starts, corners| {
+        lend(parts, s, c, |starts, corners| {
             bezinkwolu_to_convex_polygons(mesh.as_ptr(), mesh.len(), starts, s, corners, c)
         })
     };
-    told.map(|(_, table)| table)
+    told.map(|_| ())
 }
 
 /// A split makes at most two parts for each triangle, and six corners.
-pub(crate) fn to_convex_polygons_with_max_vertices(mesh: &[Row], limit: u32, split: u32) -> Result<PartTable, Error> {
+pub(crate) fn to_convex_polygons_with_max_vertices(mesh: &[Row], limit: u32, split: u32, parts: &mut PartTable) -> Result<(), Error> {
     let n = mesh.len().min(MAX_TRIANGLES);
     let (s, c) = (2 * n + 1, 12 * n);
     // SAFETY: as above.
     let told = unsafe {
-        lend(s, c, |starts, corners| {
+        lend(parts, s, c, |starts, corners| {
             bezinkwolu_to_convex_polygons_with_max_vertices(mesh.as_ptr(), mesh.len(), limit, split, starts, s, corners, c)
         })
     };
-    told.map(|(_, table)| table)
+    told.map(|_| ())
 }
 
 /// An operand: a table and its bounds.
 pub(crate) type Operand<'a> = (&'a PartTable, IntRect);
 
-/// All pair sums or differences, and the bounds of the result. A pair has at most the corners of both its parts.
-pub(crate) fn all_pairs(difference: bool, left: Operand, right: Operand) -> Result<(PartTable, IntRect), Error> {
+/// All pair sums or differences; answers the bounds of the result. A pair has at most the corners of both its parts.
+pub(crate) fn all_pairs(difference: bool, left: Operand, right: Operand, contours: &mut PartTable) -> Result<IntRect, Error> {
     let call: AllPairs = if difference { bezinkwolu_difference_parts } else { bezinkwolu_sum_parts };
     let ((left, lb), (right, rb)) = (left, right);
     let parts = |table: &PartTable| table.len().min(MAX_PARTS);
@@ -241,7 +242,7 @@ pub(crate) fn all_pairs(difference: bool, left: Operand, right: Operand) -> Resu
     let ((ls, lc), (rs, rc)) = (left.lists(), right.lists());
     // SAFETY: as above.
     let told = unsafe {
-        lend(s, c, |starts, corners| {
+        lend(contours, s, c, |starts, corners| {
             call(
                 ls.as_ptr(),
                 ls.len(),
@@ -260,20 +261,20 @@ pub(crate) fn all_pairs(difference: bool, left: Operand, right: Operand) -> Resu
             )
         })
     };
-    told.map(|(told, table)| (table, told.bounds))
+    told.map(|told| told.bounds)
 }
 
 /// A stored table has four bytes for each start and for each number.
-pub(crate) fn read_table(bytes: &[u8]) -> Result<PartTable, Error> {
+pub(crate) fn read_table(bytes: &[u8], table: &mut PartTable) -> Result<(), Error> {
     let words = bytes.len() / size_of::<u32>();
     let (s, c) = (words.min(MAX_PARTS + 1), words.min(2 * MAX_CORNERS));
     // SAFETY: as above.
     let told = unsafe {
-        lend(s, c, |starts, corners| {
+        lend(table, s, c, |starts, corners| {
             bezinkwolu_read_table(bytes.as_ptr(), bytes.len(), starts, s, corners, c)
         })
     };
-    told.map(|(_, table)| table)
+    told.map(|_| ())
 }
 
 /// The two counts, the starts and the numbers.

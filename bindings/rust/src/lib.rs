@@ -32,7 +32,7 @@
 //! ```text
 //! let mesh: bezinkwolu::IntDelaunay =
 //!     delaunay.triangles.iter().map(|t| (t.vertices.map(|v| (v.point.x, v.point.y)), t.neighbors)).collect();
-//! for contour in &sums {
+//! for (_, _, contour) in &sums {
 //!     overlay.add_path_iter(contour.iter().map(|p| IntPoint::new(p.x, p.y)), ShapeType::Subject);
 //! }
 //! ```
@@ -47,9 +47,14 @@
 //! | `ConvexSum`, `Walk` | [`ConvexSum`], [`Walk`] |
 //! | `MinkowskiError::CoordinateOutOfRange` | [`Error::RESULT`] |
 
+#![no_std]
 #![forbid(unsafe_op_in_unsafe_fn)]
 #![deny(unsafe_code)]
 #![warn(missing_docs)]
+
+extern crate alloc;
+#[cfg(feature = "std")]
+extern crate std;
 
 mod error;
 #[allow(unsafe_code)]
@@ -61,8 +66,8 @@ mod table;
 mod walk;
 
 pub use error::Error;
-pub use mesh::{ConvexSplitStrategy, IntDelaunay, IntTriangle, NIL_INDEX};
-pub use minkowski::{difference_parts, sum_parts, PairTable, Placement};
+pub use mesh::{ConvexSplitStrategy, IntDelaunay, IntTriangle, Triangles, NIL_INDEX};
+pub use minkowski::{difference_parts, difference_parts_into, sum_parts, sum_parts_into, PairTable, Pairs, Placement};
 pub use point::{IntPoint, IntRect, IntVector};
 pub use table::{show_part, Contour, Contours, Corners, PartTable, Side};
 pub use walk::{ConvexSum, Walk};

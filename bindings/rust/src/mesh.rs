@@ -1,6 +1,8 @@
 //! Meshes and their parts.
 
 use crate::{ffi, Error, IntPoint, PartTable};
+use alloc::vec::Vec;
+use core::iter::FusedIterator;
 
 /// No neighbour: iTriangle's `NIL_INDEX`.
 ///
@@ -87,6 +89,18 @@ fn row(triangle: IntTriangle) -> ffi::Row {
     [a.x, a.y, b.x, b.y, c.x, c.y, i as i32, j as i32, k as i32]
 }
 
+/// The triangle that a row was made of; a neighbour past 32 bits comes back as one that is in no mesh either.
+fn triangle(row: &ffi::Row) -> IntTriangle {
+    let [ax, ay, bx, by, cx, cy, i, j, k] = *row;
+    IntTriangle {
+        vertices: [IntPoint::new(ax, ay), IntPoint::new(bx, by), IntPoint::new(cx, cy)],
+        neighbors: [i, j, k].map(|n| match n as u32 {
+            u32::MAX => NIL_INDEX,
+            n => n as usize,
+        }),
+    }
+}
+
 impl<T: Into<IntTriangle>> FromIterator<T> for IntDelaunay {
     fn from_iter<I: IntoIterator<Item = T>>(triangles: I) -> Self {
         Self {
@@ -107,6 +121,7 @@ impl IntDelaunay {
     /// ```
     /// assert_eq!(bezinkwolu::IntDelaunay::default().len(), 0);
     /// ```
+    #[must_use]
     pub fn len(&self) -> usize {
         self.rows.len()
     }
@@ -116,11 +131,36 @@ impl IntDelaunay {
     /// ```
     /// assert!(bezinkwolu::IntDelaunay::default().is_empty());
     /// ```
+    #[must_use]
     pub fn is_empty(&self) -> bool {
         self.rows.is_empty()
     }
 
-    /// The mesh's first fault, where it has one: 1, 2, 3, 4, 5, 6 or 11. The calls below check the same first.
+    /// Triangle i, as it was given; none where i is past the mesh.
+    ///
+    /// ```
+    /// use bezinkwolu::{IntDelaunay, IntPoint, NIL_INDEX};
+    /// let mesh: IntDelaunay = [([(0, 0), (2, 0), (0, 2)], [NIL_INDEX; 3])].into_iter().collect();
+    /// assert_eq!(mesh.triangle(0).map(|t| t.vertices[1]), Some(IntPoint::new(2, 0)));
+    /// assert!(mesh.triangle(1).is_none());
+    /// ```
+    #[must_use]
+    pub fn triangle(&self, i: usize) -> Option<IntTriangle> {
+        self.rows.get(i).map(triangle)
+    }
+
+    /// The triangles in order.
+    ///
+    /// ```
+    /// use bezinkwolu::{IntDelaunay, NIL_INDEX};
+    /// let mesh: IntDelaunay = [([(0, 0), (2, 0), (0, 2)], [NIL_INDEX; 3])].into_iter().collect();
+    /// assert_eq!(mesh.iter().collect::<IntDelaunay>(), mesh);
+    /// ```
+    pub fn iter(&self) -> Triangles<'_> {
+        Triangles { rows: self.rows.iter() }
+    }
+
+    /// The mesh's first fault, where it has one. The calls below check the same first.
     ///
     /// ```
     /// use bezinkwolu::{Error, IntDelaunay, NIL_INDEX};
@@ -128,6 +168,10 @@ impl IntDelaunay {
     /// assert_eq!(stray.check(), Err(Error::STRAY));
     /// assert_eq!(IntDelaunay::default().check(), Ok(()));
     /// ```
+    ///
+    /// # Errors
+    /// The first that holds of [`Error::TRIANGLES`], [`Error::RANGE`], [`Error::STRAY`], [`Error::NAMING`], [`Error::EDGE`], [`Error::FLAT`] and
+    /// [`Error::TOTAL`].
     pub fn check(&self) -> Result<(), Error> {
         Error::told(ffi::mesh_fault(&self.rows))
     }
@@ -150,9 +194,26 @@ impl IntDelaunay {
     /// ```
     ///
     /// # Errors
-    /// 1, 2, 3, 4, 5, 6, 11, the first that holds.
+    /// Those of [`Self::check`].
     pub fn to_convex_polygons(&self) -> Result<PartTable, Error> {
-        ffi::to_convex_polygons(&self.rows)
+        PartTable::filled(|parts| self.to_convex_polygons_into(parts))
+    }
+
+    /// The same, into a table whose memory is used again; its contours go. Where the mesh is refused the table stays as it was.
+    ///
+    /// ```
+    /// use bezinkwolu::{Error, IntDelaunay, PartTable, NIL_INDEX};
+    /// let mesh: IntDelaunay = [([(0, 0), (2, 0), (0, 2)], [NIL_INDEX; 3])].into_iter().collect();
+    /// let mut parts = PartTable::new();
+    /// mesh.to_convex_polygons_into(&mut parts)?;
+    /// assert_eq!(parts, mesh.to_convex_polygons()?);
+    /// # Ok::<(), Error>(())
+    /// ```
+    ///
+    /// # Errors
+    /// Those of [`Self::check`].
+    pub fn to_convex_polygons_into(&self, parts: &mut PartTable) -> Result<(), Error> {
+        ffi::to_convex_polygons(&self.rows, parts)
     }
 
     /// Joins, and splits each part of more than `max_vertices.max(3)` corners by `strategy`.
@@ -172,10 +233,71 @@ impl IntDelaunay {
     /// ```
     ///
     /// # Errors
-    /// Those of [`Self::to_convex_polygons`].
+    /// Those of [`Self::check`].
     pub fn to_convex_polygons_with_max_vertices(&self, max_vertices: usize, strategy: ConvexSplitStrategy) -> Result<PartTable, Error> {
+        PartTable::filled(|parts| self.to_convex_polygons_with_max_vertices_into(max_vertices, strategy, parts))
+    }
+
+    /// The same, into a table whose memory is used again; its contours go. Where the mesh is refused the table stays as it was.
+    ///
+    /// ```
+    /// use bezinkwolu::{ConvexSplitStrategy, Error, IntDelaunay, PartTable, NIL_INDEX};
+    /// let mesh: IntDelaunay = [([(0, 0), (2, 0), (0, 2)], [NIL_INDEX; 3])].into_iter().collect();
+    /// let mut parts = PartTable::new();
+    /// mesh.to_convex_polygons_with_max_vertices_into(4, ConvexSplitStrategy::Fan, &mut parts)?;
+    /// assert_eq!(parts.len(), 1);
+    /// # Ok::<(), Error>(())
+    /// ```
+    ///
+    /// # Errors
+    /// Those of [`Self::check`].
+    pub fn to_convex_polygons_with_max_vertices_into(&self, max_vertices: usize, strategy: ConvexSplitStrategy, parts: &mut PartTable) -> Result<(), Error> {
         // a limit past 32 bits splits as little as the largest of them: no contour is so long
         let limit = u32::try_from(max_vertices).unwrap_or(u32::MAX);
-        ffi::to_convex_polygons_with_max_vertices(&self.rows, limit, strategy.number())
+        ffi::to_convex_polygons_with_max_vertices(&self.rows, limit, strategy.number(), parts)
     }
 }
+
+impl<'a> IntoIterator for &'a IntDelaunay {
+    type Item = IntTriangle;
+    type IntoIter = Triangles<'a>;
+
+    fn into_iter(self) -> Triangles<'a> {
+        self.iter()
+    }
+}
+
+/// The triangles of an [`IntDelaunay`], from either end.
+///
+/// ```
+/// use bezinkwolu::{IntDelaunay, NIL_INDEX};
+/// let mesh: IntDelaunay = [([(0, 0), (2, 0), (0, 2)], [NIL_INDEX; 3])].into_iter().collect();
+/// assert_eq!(mesh.iter().len(), 1);
+/// ```
+#[derive(Debug, Clone)]
+#[must_use = "it hands out nothing until it is asked"]
+pub struct Triangles<'a> {
+    rows: core::slice::Iter<'a, ffi::Row>,
+}
+
+impl Iterator for Triangles<'_> {
+    type Item = IntTriangle;
+
+    fn next(&mut self) -> Option<IntTriangle> {
+        self.rows.next().map(triangle)
+    }
+
+    fn size_hint(&self) -> (usize, Option<usize>) {
+        self.rows.size_hint()
+    }
+}
+
+impl DoubleEndedIterator for Triangles<'_> {
+    fn next_back(&mut self) -> Option<IntTriangle> {
+        self.rows.next_back().map(triangle)
+    }
+}
+
+impl ExactSizeIterator for Triangles<'_> {}
+
+impl FusedIterator for Triangles<'_> {}

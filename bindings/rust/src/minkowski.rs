@@ -1,6 +1,7 @@
 //! All pairs of two operands.
 
 use crate::{ffi, Contour, Contours, Error, IntRect, PartTable};
+use core::iter::FusedIterator;
 
 /// Where a place lies by the contours of a [`PairTable`].
 ///
@@ -48,6 +49,43 @@ pub struct PairTable {
 }
 
 impl PairTable {
+    /// A table without contours, for [`sum_parts_into`] and [`difference_parts_into`] to fill.
+    ///
+    /// ```
+    /// assert_eq!(bezinkwolu::PairTable::new().iter().len(), 0);
+    /// ```
+    #[must_use]
+    pub fn new() -> Self {
+        Self {
+            contours: PartTable::new(),
+            right: 0,
+            bbox: IntRect::new(0, 0, 0, 0),
+        }
+    }
+
+    /// All pairs in order, each with the numbers of its left part and its right part.
+    ///
+    /// ```
+    /// # use bezinkwolu::{sum_parts, Error, IntRect, PartTable};
+    /// let one: PartTable = [[(0, 0), (2, 0), (0, 2)]].into_iter().collect();
+    /// let two: PartTable = [[(0, 0), (2, 0), (0, 2)], [(0, 0), (1, 0), (0, 1)]].into_iter().collect();
+    /// let bbox = IntRect::new(0, 2, 0, 2);
+    /// let sums = sum_parts(&one, bbox, &two, bbox)?;
+    /// for (i, j, contour) in sums.iter() {
+    ///     assert_eq!(Some(contour), sums.contour(i, j));
+    /// }
+    /// assert_eq!(sums.iter().map(|(i, j, _)| (i, j)).collect::<Vec<_>>(), [(0, 0), (0, 1)]);
+    /// # Ok::<(), Error>(())
+    /// ```
+    pub fn iter(&self) -> Pairs<'_> {
+        Pairs {
+            contours: self.contours.iter(),
+            right: self.right,
+            i: 0,
+            j: 0,
+        }
+    }
+
     /// The contour of left part i and right part j, empty where the pair emits nothing; none where there is no such pair.
     ///
     /// ```
@@ -59,6 +97,7 @@ impl PairTable {
     /// assert!(pairs.contour(0, 1).is_none());
     /// # Ok::<(), Error>(())
     /// ```
+    #[must_use]
     pub fn contour(&self, i: usize, j: usize) -> Option<Contour<'_>> {
         if j >= self.right {
             return None;
@@ -75,6 +114,7 @@ impl PairTable {
     /// assert_eq!(sum_parts(&k, bbox, &k, bbox)?.contours().len(), 1);
     /// # Ok::<(), Error>(())
     /// ```
+    #[must_use]
     pub fn contours(&self) -> &PartTable {
         &self.contours
     }
@@ -88,6 +128,7 @@ impl PairTable {
     /// let table: PartTable = sum_parts(&k, bbox, &k, bbox)?.into_contours();
     /// # Ok::<(), Error>(())
     /// ```
+    #[must_use]
     pub fn into_contours(self) -> PartTable {
         self.contours
     }
@@ -101,6 +142,7 @@ impl PairTable {
     /// assert_eq!(difference_parts(&k, bbox, &k, bbox)?.bbox(), IntRect::new(-2, 2, -2, 2));
     /// # Ok::<(), Error>(())
     /// ```
+    #[must_use]
     pub fn bbox(&self) -> IntRect {
         self.bbox
     }
@@ -124,7 +166,7 @@ impl PairTable {
     /// ```
     ///
     /// # Errors
-    /// 2 where x or y is not strictly between −2^30 and 2^30.
+    /// [`Error::RANGE`] where x or y is not strictly between −2^30 and 2^30.
     pub fn placement(&self, x: i32, y: i32) -> Result<Placement, Error> {
         let told = ffi::placement(&self.contours, x, y);
         Error::told(told.fault)?;
@@ -132,20 +174,77 @@ impl PairTable {
     }
 }
 
-impl<'a> IntoIterator for &'a PairTable {
-    type Item = Contour<'a>;
-    type IntoIter = Contours<'a>;
-
-    fn into_iter(self) -> Contours<'a> {
-        self.contours.iter()
+impl Default for PairTable {
+    fn default() -> Self {
+        Self::new()
     }
 }
 
-fn all_pairs(difference: bool, lhs: &PartTable, lhs_bbox: IntRect, rhs: &PartTable, rhs_bbox: IntRect) -> Result<PairTable, Error> {
-    let (contours, bbox) = ffi::all_pairs(difference, (lhs, lhs_bbox), (rhs, rhs_bbox))?;
+impl<'a> IntoIterator for &'a PairTable {
+    type Item = (usize, usize, Contour<'a>);
+    type IntoIter = Pairs<'a>;
+
+    fn into_iter(self) -> Pairs<'a> {
+        self.iter()
+    }
+}
+
+/// The pairs of a [`PairTable`]: left part, right part, contour.
+///
+/// ```
+/// use bezinkwolu::PairTable;
+/// assert!(PairTable::new().iter().next().is_none());
+/// ```
+#[derive(Debug, Clone)]
+#[must_use = "it hands out nothing until it is asked"]
+pub struct Pairs<'a> {
+    contours: Contours<'a>,
+    right: usize,
+    // the pair that comes next
+    i: usize,
+    j: usize,
+}
+
+impl<'a> Iterator for Pairs<'a> {
+    type Item = (usize, usize, Contour<'a>);
+
+    fn next(&mut self) -> Option<Self::Item> {
+        let contour = self.contours.next()?;
+        let pair = (self.i, self.j, contour);
+        self.j += 1;
+        if self.j == self.right {
+            self.i += 1;
+            self.j = 0;
+        }
+        Some(pair)
+    }
+
+    fn size_hint(&self) -> (usize, Option<usize>) {
+        self.contours.size_hint()
+    }
+}
+
+impl ExactSizeIterator for Pairs<'_> {}
+
+impl FusedIterator for Pairs<'_> {}
+
+type Operand<'a> = (&'a PartTable, IntRect);
+
+fn all_pairs_into(difference: bool, lhs: Operand, rhs: Operand, pairs: &mut PairTable) -> Result<(), Error> {
+    pairs.bbox = ffi::all_pairs(difference, lhs, rhs, &mut pairs.contours)?;
+    pairs.right = rhs.0.len();
+    Ok(())
+}
+
+fn all_pairs(difference: bool, lhs: Operand, rhs: Operand) -> Result<PairTable, Error> {
+    let mut bbox = IntRect::new(0, 0, 0, 0);
+    let contours = PartTable::filled(|contours| {
+        bbox = ffi::all_pairs(difference, lhs, rhs, contours)?;
+        Ok(())
+    })?;
     Ok(PairTable {
         contours,
-        right: rhs.len(),
+        right: rhs.0.len(),
         bbox,
     })
 }
@@ -163,9 +262,30 @@ fn all_pairs(difference: bool, lhs: &PartTable, lhs_bbox: IntRect, rhs: &PartTab
 /// ```
 ///
 /// # Errors
-/// 7, 2, 9, 8, each over the left operand and then the right one; then 10, 20.
+/// The first that holds of [`Error::RULES`], [`Error::RANGE`], [`Error::BOUNDS`] and [`Error::WINDING`], each over the left operand and then the right one; then
+/// [`Error::RESULT`], [`Error::EMPTY`].
 pub fn sum_parts(lhs: &PartTable, lhs_bbox: IntRect, rhs: &PartTable, rhs_bbox: IntRect) -> Result<PairTable, Error> {
-    all_pairs(false, lhs, lhs_bbox, rhs, rhs_bbox)
+    all_pairs(false, (lhs, lhs_bbox), (rhs, rhs_bbox))
+}
+
+/// The same, into a table whose memory is used again; its contours go. Where the operands are refused it stays as it was.
+///
+/// ```
+/// use bezinkwolu::{sum_parts, sum_parts_into, Error, IntRect, PairTable, PartTable};
+/// let k: PartTable = [[(0, 0), (2, 0), (0, 2)]].into_iter().collect();
+/// let bbox = IntRect::new(0, 2, 0, 2);
+/// let mut sums = PairTable::new();
+/// sum_parts_into(&k, bbox, &k, bbox, &mut sums)?;
+/// assert_eq!(sums, sum_parts(&k, bbox, &k, bbox)?);
+/// assert_eq!(sum_parts_into(&PartTable::new(), bbox, &k, bbox, &mut sums), Err(Error::EMPTY));
+/// assert_eq!(sums.iter().len(), 1);
+/// # Ok::<(), Error>(())
+/// ```
+///
+/// # Errors
+/// Those of [`sum_parts`].
+pub fn sum_parts_into(lhs: &PartTable, lhs_bbox: IntRect, rhs: &PartTable, rhs_bbox: IntRect, pairs: &mut PairTable) -> Result<(), Error> {
+    all_pairs_into(false, (lhs, lhs_bbox), (rhs, rhs_bbox), pairs)
 }
 
 /// The same of each left part and each right part turned through the origin: {a − b}, as iTriangle's `difference_parts`.
@@ -185,5 +305,23 @@ pub fn sum_parts(lhs: &PartTable, lhs_bbox: IntRect, rhs: &PartTable, rhs_bbox: 
 /// # Errors
 /// Those of [`sum_parts`].
 pub fn difference_parts(lhs: &PartTable, lhs_bbox: IntRect, rhs: &PartTable, rhs_bbox: IntRect) -> Result<PairTable, Error> {
-    all_pairs(true, lhs, lhs_bbox, rhs, rhs_bbox)
+    all_pairs(true, (lhs, lhs_bbox), (rhs, rhs_bbox))
+}
+
+/// The same, into a table whose memory is used again, as [`sum_parts_into`] does.
+///
+/// ```
+/// use bezinkwolu::{difference_parts, difference_parts_into, Error, IntRect, PairTable, PartTable};
+/// let k: PartTable = [[(0, 0), (2, 0), (0, 2)]].into_iter().collect();
+/// let bbox = IntRect::new(0, 2, 0, 2);
+/// let mut pairs = PairTable::new();
+/// difference_parts_into(&k, bbox, &k, bbox, &mut pairs)?;
+/// assert_eq!(pairs, difference_parts(&k, bbox, &k, bbox)?);
+/// # Ok::<(), Error>(())
+/// ```
+///
+/// # Errors
+/// Those of [`sum_parts`].
+pub fn difference_parts_into(lhs: &PartTable, lhs_bbox: IntRect, rhs: &PartTable, rhs_bbox: IntRect, pairs: &mut PairTable) -> Result<(), Error> {
+    all_pairs_into(true, (lhs, lhs_bbox), (rhs, rhs_bbox), pairs)
 }

@@ -22,6 +22,7 @@ impl IntPoint {
     /// ```
     /// assert_eq!(bezinkwolu::IntPoint::new(3, 4).y, 4);
     /// ```
+    #[must_use]
     pub const fn new(x: i32, y: i32) -> Self {
         Self { x, y }
     }
@@ -86,6 +87,7 @@ impl IntRect {
     /// ```
     /// assert_eq!(bezinkwolu::IntRect::new(-1, 2, 0, 3).max_x, 2);
     /// ```
+    #[must_use]
     pub const fn new(min_x: i32, max_x: i32, min_y: i32, max_y: i32) -> Self {
         Self { min_x, max_x, min_y, max_y }
     }

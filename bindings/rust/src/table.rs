@@ -1,8 +1,9 @@
 //! Part tables, their contours and the stored form.
 
 use crate::{ffi, Error, IntPoint};
-use std::fmt;
-use std::iter::FusedIterator;
+use alloc::{vec, vec::Vec};
+use core::fmt;
+use core::iter::FusedIterator;
 
 /// Contours in a row, each a list of corners. It owns its memory, and how that is laid out is its own affair.
 ///
@@ -27,6 +28,7 @@ impl PartTable {
     /// ```
     /// assert!(bezinkwolu::PartTable::new().is_empty());
     /// ```
+    #[must_use]
     pub fn new() -> Self {
         Self {
             starts: vec![0],
@@ -34,12 +36,24 @@ impl PartTable {
         }
     }
 
-    pub(crate) fn of_lists(starts: Vec<u32>, numbers: Vec<i32>) -> Self {
-        Self { starts, numbers }
+    /// A table that a call fills, in no more memory than it takes.
+    pub(crate) fn filled(fill: impl FnOnce(&mut Self) -> Result<(), Error>) -> Result<Self, Error> {
+        let mut table = Self {
+            starts: Vec::new(),
+            numbers: Vec::new(),
+        };
+        fill(&mut table)?;
+        table.starts.shrink_to_fit();
+        table.numbers.shrink_to_fit();
+        Ok(table)
     }
 
     pub(crate) fn lists(&self) -> (&[u32], &[i32]) {
         (&self.starts, &self.numbers)
+    }
+
+    pub(crate) fn lists_mut(&mut self) -> (&mut Vec<u32>, &mut Vec<i32>) {
+        (&mut self.starts, &mut self.numbers)
     }
 
     /// Adds a contour at the end.
@@ -64,6 +78,7 @@ impl PartTable {
     /// ```
     /// assert_eq!(bezinkwolu::PartTable::new().len(), 0);
     /// ```
+    #[must_use]
     pub fn len(&self) -> usize {
         self.starts.len().saturating_sub(1)
     }
@@ -73,6 +88,7 @@ impl PartTable {
     /// ```
     /// assert!(bezinkwolu::PartTable::default().is_empty());
     /// ```
+    #[must_use]
     pub fn is_empty(&self) -> bool {
         self.len() == 0
     }
@@ -84,6 +100,7 @@ impl PartTable {
     /// let table: PartTable = [[(0, 0), (2, 0), (0, 2)]].into_iter().collect();
     /// assert_eq!(table.corner_count(), 3);
     /// ```
+    #[must_use]
     pub fn corner_count(&self) -> usize {
         self.numbers.len() / 2
     }
@@ -97,6 +114,7 @@ impl PartTable {
     /// assert_eq!(second.get(0), Some(IntPoint::new(1, 2)));
     /// assert!(table.contour(2).is_none());
     /// ```
+    #[must_use]
     pub fn contour(&self, k: usize) -> Option<Contour<'_>> {
         let from = *self.starts.get(k)? as usize;
         let to = *self.starts.get(k.checked_add(1)?)? as usize;
@@ -137,7 +155,7 @@ impl PartTable {
     /// ```
     ///
     /// # Errors
-    /// 7, 2, the first that holds.
+    /// The first that holds of [`Error::RULES`] and [`Error::RANGE`].
     pub fn to_bytes(&self) -> Result<Vec<u8>, Error> {
         ffi::write_table(self)
     }
@@ -152,9 +170,9 @@ impl PartTable {
     /// ```
     ///
     /// # Errors
-    /// 7, also for another length than the counts say, 2, the first that holds.
+    /// The first that holds of [`Error::RULES`], also for another length than the counts say, and [`Error::RANGE`].
     pub fn from_bytes(bytes: &[u8]) -> Result<Self, Error> {
-        ffi::read_table(bytes)
+        Self::filled(|table| ffi::read_table(bytes, table))
     }
 }
 
@@ -221,6 +239,7 @@ impl<'a> Contour<'a> {
     /// # let table: PartTable = [[(0, 0), (2, 0), (0, 2)]].into_iter().collect();
     /// assert_eq!(table.contour(0).unwrap().len(), 3);
     /// ```
+    #[must_use]
     pub fn len(self) -> usize {
         self.numbers.len() / 2
     }
@@ -232,6 +251,7 @@ impl<'a> Contour<'a> {
     /// # let table: PartTable = [[(0, 0), (2, 0), (0, 2)]].into_iter().collect();
     /// assert!(!table.contour(0).unwrap().is_empty());
     /// ```
+    #[must_use]
     pub fn is_empty(self) -> bool {
         self.numbers.is_empty()
     }
@@ -245,6 +265,7 @@ impl<'a> Contour<'a> {
     /// assert_eq!(contour.get(1), Some(IntPoint::new(2, 0)));
     /// assert_eq!(contour.get(3), None);
     /// ```
+    #[must_use]
     pub fn get(self, i: usize) -> Option<IntPoint> {
         let x = i.checked_mul(2)?;
         match self.numbers.get(x..)? {
@@ -293,6 +314,7 @@ impl<'a> IntoIterator for Contour<'a> {
 /// assert!(contours.next_back().unwrap().is_empty());
 /// ```
 #[derive(Debug, Clone)]
+#[must_use = "it hands out nothing until it is asked"]
 pub struct Contours<'a> {
     table: &'a PartTable,
     from: usize,
@@ -340,8 +362,9 @@ impl FusedIterator for Contours<'_> {}
 /// assert_eq!(corners.len(), 2);
 /// ```
 #[derive(Debug, Clone)]
+#[must_use = "it hands out nothing until it is asked"]
 pub struct Corners<'a> {
-    numbers: std::slice::ChunksExact<'a, i32>,
+    numbers: core::slice::ChunksExact<'a, i32>,
 }
 
 fn corner(numbers: &[i32]) -> Option<IntPoint> {
@@ -400,7 +423,7 @@ pub enum Side {
 /// ```
 ///
 /// # Errors
-/// 7 of either table, 12 where there is no part k.
+/// [`Error::RULES`] of either table, [`Error::PART`] where there is no part k.
 pub fn show_part<'a>(lhs: &'a PartTable, rhs: &'a PartTable, side: Side, k: usize) -> Result<Contour<'a>, Error> {
     // a number past 32 bits is past any table, as the largest of them is
     let told = ffi::show_part(lhs, rhs, side == Side::Right, u32::try_from(k).unwrap_or(u32::MAX));

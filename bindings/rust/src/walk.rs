@@ -1,7 +1,7 @@
 //! Walks, and one pair a corner at a time.
 
 use crate::{ffi, Contour, Error, IntPoint, IntVector};
-use std::iter::FusedIterator;
+use core::iter::FusedIterator;
 
 /// A walk round a contour, from its lowest, then leftmost corner, counter-clockwise; a reflected one from the highest, then rightmost, with points
 /// and edges negated. As an iterator it hands out the edges.
@@ -17,6 +17,7 @@ use std::iter::FusedIterator;
 /// # Ok::<(), Error>(())
 /// ```
 #[derive(Debug, Clone)]
+#[must_use = "a walk steps only when it is asked"]
 pub struct Walk<'a> {
     contour: Contour<'a>,
     at: ffi::Place,
@@ -33,7 +34,7 @@ impl<'a> Walk<'a> {
     /// ```
     ///
     /// # Errors
-    /// 7, 2, 8, 20, the first that holds.
+    /// The first that holds of [`Error::RULES`] (more than 1,026 corners), [`Error::RANGE`], [`Error::WINDING`] and [`Error::EMPTY`].
     pub fn new(contour: Contour<'a>, reflected: bool) -> Result<Self, Error> {
         let told = ffi::walk_begin(contour.numbers(), reflected);
         Error::told(told.fault)?;
@@ -54,6 +55,7 @@ impl<'a> Walk<'a> {
     /// assert_eq!(walk.point(), IntPoint::new(0, -2));
     /// # Ok::<(), Error>(())
     /// ```
+    #[must_use]
     pub fn point(&self) -> IntPoint {
         self.point
     }
@@ -92,6 +94,7 @@ impl FusedIterator for Walk<'_> {}
 /// # Ok::<(), Error>(())
 /// ```
 #[derive(Debug, Clone)]
+#[must_use = "a pair hands out corners only when it is asked"]
 pub struct ConvexSum<'a> {
     a: Contour<'a>,
     b: Contour<'a>,
@@ -116,7 +119,8 @@ impl<'a> ConvexSum<'a> {
     /// ```
     ///
     /// # Errors
-    /// 7, 2, 8, 20, each over the first contour and then the second.
+    /// The first that holds of [`Error::RULES`], [`Error::RANGE`], [`Error::WINDING`] and [`Error::EMPTY`], each over the first contour and then
+    /// the second.
     pub fn new(a: Contour<'a>, b: Contour<'a>) -> Result<Self, Error> {
         Self::begin(false, a, b)
     }
