@@ -1,4 +1,4 @@
-//! `bench [ROUNDS [joining|structs|splits|pairs|placement|crate]]`: times our calls, the
+//! `bench [ROUNDS [joining|structs|splits|pairs|placement|crate|contours]]`: times our calls, the
 //! Rust's and, of all pairs and of a place by contours, C++ ones from this one program on
 //! the same inputs, in turn, and prints our time over theirs. docs/BENCHMARKS.md says what they show.
 
@@ -7,6 +7,7 @@ mod meshes;
 mod pairs;
 mod peers;
 mod placement;
+mod programs;
 mod timing;
 
 use std::env;
@@ -20,13 +21,14 @@ fn main() {
     let rounds = words.first().and_then(|word| word.parse().ok());
     let rounds = rounds.unwrap_or(ROUNDS);
     let only = words.get(1).map(String::as_str);
-    let topics: [(&str, fn(usize)); 6] = [
+    let topics: [(&str, fn(usize)); 7] = [
         ("joining", meshes::joining),
         ("structs", meshes::structs),
         ("splits", meshes::splits),
         ("pairs", pairs::pairs),
         ("placement", placement::placements),
         ("crate", bindings::crate_calls),
+        ("contours", programs::programs),
     ];
     for (name, topic) in topics {
         if only.is_none() || only == Some(name) {
