@@ -69,7 +69,10 @@ pub fn programs(rounds: usize) {
                 times[1].push(taken(theirs, &bytes));
             }
             let [ours, theirs] = times.map(median);
-            println!("{:4.2}    {triangles} triangles on both sides: {name}", ours / theirs);
+            println!(
+                "{:4.2}    {triangles} triangles on both sides: {name}",
+                ours / theirs
+            );
         }
     }
 }
