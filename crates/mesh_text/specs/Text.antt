@@ -9,8 +9,7 @@ use Rattle.mesh.specs.Mesh.{Mesh, maxTriangles}
 use Rattle.table.specs.Stored.{wordBytes}
 use Rattle.mesh.specs.Rows.{rowBytes}
 use Rattle.fields.specs.Fields.{linesOf, fieldOf}
-use Rattle.field_numbers.specs.Numbers.{valueOf}
-use Rattle.mesh_fields.specs.Entries.{splitOf}
+use Rattle.mesh_fields.specs.Entries.{numberOrNone, splitOf}
 use Rattle.mesh_lines.specs.Lines.{isPassedOver, isHead, headWords, isTriangle, triangleOf, triangleWords}
 
 -- ---- the wrong line
@@ -47,7 +46,7 @@ abbrev pub firstLine : List ℕ → List ℕ
 firstLine text = getD (telling (linesOf text)) 0 []
 
 abbrev pub limitOf : List ℕ → ℕ
-limitOf text = valueOf (fieldOf 1 (firstLine text))
+limitOf text = numberOrNone (fieldOf 1 (firstLine text))
 
 abbrev pub splitNumberOf : List ℕ → ℕ
 splitNumberOf text = splitOf (fieldOf 2 (firstLine text))
