@@ -1,12 +1,12 @@
--- `mesh_text::put_told` meets its contract, by what the text was turned into. Assumes nothing.
+-- `mesh_told::put_told` meets its contract, by what the text was turned into. Assumes nothing.
 use Prim.Native.Nat.{_≤_}
 use native.Mathlib.Omega.{arith}
 use lib.ListN.{length}
+use Rattle.mesh_told.specs.Told.{toldRoom}
+use Rattle.mesh_told.proofs.Telling.{told-written, told-wrong, told-long}
 use borrow.Author.Needs.{needs}
-use Rattle.mesh_text.specs.Told.{toldRoom}
-use Rattle.mesh_text.proofs.Telling.{told-written, told-wrong, told-long}
-use Rattle.mesh_text.proofs.put_told.Statement.{statement}
-use Rattle.mesh_text.proofs.put_told.Tie as tie
+use Rattle.mesh_told.proofs.put_told.Statement.{statement}
+use Rattle.mesh_told.proofs.put_told.Tie as tie
 
 enum-known-told : tie.Need-enum-known-told
 enum-known-told c = search needs
@@ -27,20 +27,19 @@ put-bytes-requires : tie.Need-put-bytes-requires
 put-bytes-requires c κs = search needs
 
 returns : tie.Need-returns
-returns c =
-    told-written (c .before .before .before .args .told) (c .before .told .given .1)
+returns c = told-written (c .before .before .before .before .args .told) (c .before .before .before .before .args .text .now) (c .before .told .given .1)
 
 returns-2 : tie.Need-returns-2
 returns-2 c =
-    let g = c .before .before .before .before .before .args in
+    let g = c .before .before .before .before .before .before .args in
     let room : toldRoom ≤ length (g .out .now) = omega arith in
-    told-wrong (g .told) room (c .before .before .before .told2 .given .1) (c .put-wrong .ensures)
+    told-wrong (g .told) (g .text .now) room (c .before .before .before .told2 .given .1) (c .put-wrong .ensures)
 
 returns-3 : tie.Need-returns-3
 returns-3 c =
-    let g = c .before .before .before .before .before .args in
+    let g = c .before .before .before .before .before .before .args in
     let room : toldRoom ≤ length (g .out .now) = omega arith in
-    told-long (g .told) room (c .before .before .before .enum-told .given .1) (c .put-bytes .ensures)
+    told-long (g .told) (g .text .now) room (c .before .before .before .enum-told .given .1) (c .put-bytes .ensures)
 
 pub put-told-spec : {M : Type 1} → statement M
 put-told-spec =
