@@ -692,6 +692,57 @@ class Viewer(unittest.TestCase):
         self.assertIn("The pair job job is not of the same shapes, and was put away.", self.message())
         self.assertIn("Left and right parts come from the pair job", self.text("#summary"))
 
+    def test_the_table_of_all_pairs(self):
+        given = difference(STRAP, BUCKLE, [minkowski(a, b, -1) for a in STRAP for b in BUCKLE])
+        self.drop(**given)
+        self.click("#tabs [data-mode=pairs]")
+        ones = [[f"0 {j}", "4", str(len(BUCKLE[j])), str(len(minkowski(STRAP[0], BUCKLE[j], -1)))] for j in range(3)]
+        self.assertEqual(self.rows(), ones)
+        self.click("label:has(#every)")
+        pairs = [(i, j) for i in range(2) for j in range(3)]
+        every = [[f"{i} {j}", str(len(STRAP[i])), str(len(BUCKLE[j])), str(len(minkowski(STRAP[i], BUCKLE[j], -1)))] for i, j in pairs]
+        self.assertEqual(self.rows(), every)
+        # a row selects its pair, and numbers a row; the rows stay
+        lines = given["contours"].splitlines()[1:]
+        for k, (i, j) in enumerate(pairs):
+            self.click(f"#rows tr:nth-child({k + 1})")
+            self.assertEqual((self.js("return [state.i, state.j]"), self.text(".line p"), self.rows()), ([i, j], lines[k], every))
+        self.js("for (const [id, value] of [['i', 0], ['j', 1]]) { byId(id).value = value; byId(id).dispatchEvent(new Event('change')); }")
+        self.assertEqual(self.js("return [...document.querySelectorAll('#rows [aria-selected=true]')].map((r) => Number(r.dataset.row))"), [1])
+        self.click("#rows tr:nth-child(6)")
+        self.key(Keys.ARROW_UP, Keys.ENTER)
+        self.assertEqual(self.js("return [state.i, state.j]"), [1, 1])
+        # and back to those of one left part
+        self.click("label:has(#every)")
+        self.assertEqual(self.rows(), every[3:])
+        self.assertEqual(self.js("return [...document.querySelectorAll('#rows [aria-selected=true]')].map((r) => Number(r.dataset.row))"), [1])
+        # with one left part there is nothing more to show
+        self.drop(**difference(STRAP[:1], BUCKLE, [minkowski(STRAP[0], b, -1) for b in BUCKLE]))
+        self.click("#tabs [data-mode=pairs]")
+        self.assertFalse(self.d.find_element(By.ID, "every").is_displayed())
+
+    def test_the_table_of_very_many_pairs_says_what_it_leaves_out(self):
+        lines = ["contours 66000 corners 0 bounds 0 0 0 0"] + [f"{i} {j} 0" for i in range(330) for j in range(200)]
+        self.drop(many="\n".join(lines) + "\n")
+        self.click("label:has(#every)")
+        self.assertEqual(len(self.js("return document.getElementById('rows').children")), 65536)
+        self.assertIn("The table has the first 65,536 of 66,000 pairs; any other is chosen by i and j.", self.text("#summary"))
+
+    def test_shares_that_do_not_add_up_say_what_to_do(self):
+        self.drop(dart=DART)
+        self.assertIn("Shares ‱ are ten-thousandths of the total, rounded down.", self.text("#summary"))
+        thirds = [[(3 * k, 0), (3 * k + 2, 0), (3 * k, 2)] for k in range(3)]
+        self.drop(thirds=listing(thirds))
+        self.assertEqual([row[3] for row in self.rows()], ["3333"] * 3)
+        self.assertIn("rounded down: these add up to 9,999, not to 10,000. What is missing is not lost: the doubled areas are exact, so divide those where shares must add up.", self.text("#summary"))
+        # more than rounding down, or so much less, is no listing of areas
+        for share in ["3334", "3332"]:
+            changed = listing(thirds).replace("3333", share)
+            self.drop(changed=changed)
+            self.assertIn(f"These add up to {3 * int(share):,}, which rounding does not explain: the text was changed.", self.text("#summary"))
+        self.drop(table=table(thirds))
+        self.assertNotIn("add up", self.text("#summary"))
+
     def test_parts_and_pairs_beside_one_another(self):
         self.drop(contours=CONTOURS, job=JOB)
         self.drop(dart__out=DART)

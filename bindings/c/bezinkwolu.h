@@ -52,25 +52,51 @@ extern "C" {
 enum bezinkwolu_fault {
     BEZINKWOLU_FAULT_NONE = 0,
     /* Faults that come from the input. */
-    BEZINKWOLU_FAULT_TRIANGLES = 1,    /* more than 1,024 triangles */
-    BEZINKWOLU_FAULT_RANGE = 2,        /* a coordinate or bound not strictly between -2^30 and 2^30 */
-    BEZINKWOLU_FAULT_STRAY = 3,        /* a neighbour neither none nor in the mesh, or the triangle itself */
-    BEZINKWOLU_FAULT_NAMING = 4,       /* a neighbour named twice, or not naming back exactly once */
-    BEZINKWOLU_FAULT_EDGE = 5,         /* a shared edge whose ends differ or do not run oppositely */
-    BEZINKWOLU_FAULT_FLAT = 6,         /* a triangle's doubled area not above 0 */
-    BEZINKWOLU_FAULT_RULES = 7,        /* a part table, or a contour's length, against the rules or limits */
-    BEZINKWOLU_FAULT_WINDING = 8,      /* a winding's running total, as the walk forms it, leaves signed 64 bits */
-    BEZINKWOLU_FAULT_BOUNDS = 9,       /* a least bound above a greatest, or a corner outside its bounds */
-    BEZINKWOLU_FAULT_RESULT = 10,      /* a result bound at or below -2^30, or at or above 2^30 */
-    BEZINKWOLU_FAULT_TOTAL = 11,       /* doubled areas of the mesh add up to more than 2^63 - 1 */
-    BEZINKWOLU_FAULT_PART = 12,        /* a part number past the table */
-    BEZINKWOLU_FAULT_FILE = 13,        /* a file against its rules, or no such split */
+    BEZINKWOLU_FAULT_TRIANGLES = 1,    /* More than 1,024 triangles. */
+    BEZINKWOLU_FAULT_RANGE = 2,        /* A coordinate or bound not strictly between -2^30 and 2^30. */
+    BEZINKWOLU_FAULT_STRAY = 3,        /* A neighbour neither none nor in the mesh, or the triangle itself. */
+    BEZINKWOLU_FAULT_NAMING = 4,       /* A neighbour named twice, or not naming back exactly once. */
+    BEZINKWOLU_FAULT_EDGE = 5,         /* A shared edge whose ends differ or don't run oppositely. */
+    BEZINKWOLU_FAULT_FLAT = 6,         /* A triangle's doubled area not above 0. */
+    BEZINKWOLU_FAULT_RULES = 7,        /* A part table, or a contour's length, against the rules or limits. */
+    BEZINKWOLU_FAULT_WINDING = 8,      /* A winding's running total, as the walk forms it, leaves signed 64 bits. */
+    BEZINKWOLU_FAULT_BOUNDS = 9,       /* A least bound above a greatest, or a corner outside its bounds. */
+    BEZINKWOLU_FAULT_RESULT = 10,      /* A result bound not strictly between -2^30 and 2^30. */
+    BEZINKWOLU_FAULT_TOTAL = 11,       /* Doubled areas of the mesh add up to more than 2^63-1, or a measured one leaves signed 64 bits. */
+    BEZINKWOLU_FAULT_PART = 12,        /* A part number past the table. */
+    BEZINKWOLU_FAULT_FILE = 13,        /* A file or a pair job against its rules, or no such split. */
     /* Faults that come from the state. */
-    BEZINKWOLU_FAULT_EMPTY = 20,       /* an operand without parts, or a walk begun on an empty contour */
-    BEZINKWOLU_FAULT_CORNER_ROOM = 21, /* fewer places for corners (two numbers each), or for bytes, than the answer has */
-    BEZINKWOLU_FAULT_START_ROOM = 22,  /* fewer places for starts than the answer has */
-    BEZINKWOLU_FAULT_PLACE = 23        /* a walk with no step left, or whose place or segment end is no corner of its contour */
+    BEZINKWOLU_FAULT_EMPTY = 20,       /* An operand without parts, or a walk begun on an empty contour. */
+    BEZINKWOLU_FAULT_CORNER_ROOM = 21, /* Fewer places for corners, or for bytes, than the answer has. */
+    BEZINKWOLU_FAULT_START_ROOM = 22,  /* Fewer places for starts than the answer has. */
+    BEZINKWOLU_FAULT_PLACE = 23        /* A walk with no step left, or whose place or either segment end isn't a corner of its contour. */
 };
+
+/* When a fault is given, as text that stays. It is not an object of the archive, in which there is nothing but what is proved. */
+static inline const char *bezinkwolu_fault_text(uint32_t fault)
+{
+    switch (fault) {
+    case BEZINKWOLU_FAULT_NONE: return "no fault";
+    case BEZINKWOLU_FAULT_TRIANGLES: return "more than 1,024 triangles";
+    case BEZINKWOLU_FAULT_RANGE: return "a coordinate or bound not strictly between -2^30 and 2^30";
+    case BEZINKWOLU_FAULT_STRAY: return "a neighbour neither none nor in the mesh, or the triangle itself";
+    case BEZINKWOLU_FAULT_NAMING: return "a neighbour named twice, or not naming back exactly once";
+    case BEZINKWOLU_FAULT_EDGE: return "a shared edge whose ends differ or don't run oppositely";
+    case BEZINKWOLU_FAULT_FLAT: return "a triangle's doubled area not above 0";
+    case BEZINKWOLU_FAULT_RULES: return "a part table, or a contour's length, against the rules or limits";
+    case BEZINKWOLU_FAULT_WINDING: return "a winding's running total, as the walk forms it, leaves signed 64 bits";
+    case BEZINKWOLU_FAULT_BOUNDS: return "a least bound above a greatest, or a corner outside its bounds";
+    case BEZINKWOLU_FAULT_RESULT: return "a result bound not strictly between -2^30 and 2^30";
+    case BEZINKWOLU_FAULT_TOTAL: return "doubled areas of the mesh add up to more than 2^63-1, or a measured one leaves signed 64 bits";
+    case BEZINKWOLU_FAULT_PART: return "a part number past the table";
+    case BEZINKWOLU_FAULT_FILE: return "a file or a pair job against its rules, or no such split";
+    case BEZINKWOLU_FAULT_EMPTY: return "an operand without parts, or a walk begun on an empty contour";
+    case BEZINKWOLU_FAULT_CORNER_ROOM: return "fewer places for corners, or for bytes, than the answer has";
+    case BEZINKWOLU_FAULT_START_ROOM: return "fewer places for starts than the answer has";
+    case BEZINKWOLU_FAULT_PLACE: return "a walk with no step left, or whose place or either segment end isn't a corner of its contour";
+    default: return "a fault that this version has no sentence for";
+    }
+}
 
 /* ---- meshes and their parts */
 
@@ -236,6 +262,43 @@ bezinkwolu_told_placement bezinkwolu_placement(
     const uint32_t *starts, size_t starts_length,
     const int32_t *corners, size_t corners_length,
     int32_t x, int32_t y) BEZINKWOLU_NONNULL;
+
+/* ---- doubled areas and bounds, of a part table or of a pair result: the limits of a part table do not bind. None of these writes anything. */
+
+/* A fault, and a doubled area, 0 where it refused. It is exact, above 0 where contours run counter-clockwise and below 0 where they run clockwise; a contour that crosses itself
+ * or goes round more than once has the area that the shoelace formula gives, and one of fewer than three corners has none. */
+typedef struct bezinkwolu_told_area {
+    uint32_t fault;
+    int64_t area_two;
+} bezinkwolu_told_area;
+
+/* A fault, and bounds, all 0 where it refused. */
+typedef struct bezinkwolu_told_bounds {
+    uint32_t fault;
+    bezinkwolu_bounds bounds;
+} bezinkwolu_told_bounds;
+
+/* The doubled area of a contour, given by its numbers, two a corner: of part k those are the 2 * (starts[k + 1] - starts[k]) from corners[2 * starts[k]] on. It reads them alone.
+ * Refuses: 7 for an odd length; 2; 11 where the area leaves signed 64 bits, as only a contour that goes round more than once can. */
+bezinkwolu_told_area bezinkwolu_contour_area_two(const int32_t *contour, size_t length) BEZINKWOLU_NONNULL;
+
+/* The doubled area of part k. It judges the whole table.
+ * Refuses: 7 for starts that do not begin with 0, that fall, or that do not end with how many corners there are, and for an odd corners_length; 2 (of any corner); 12; 11, as above. */
+bezinkwolu_told_area bezinkwolu_part_area_two(
+    const uint32_t *starts, size_t starts_length,
+    const int32_t *corners, size_t corners_length, uint32_t k) BEZINKWOLU_NONNULL;
+
+/* The doubled areas of all parts, added.
+ * Refuses: 7, 2; 11 where the sum leaves signed 64 bits. What it comes to on the way does not matter. */
+bezinkwolu_told_area bezinkwolu_table_area_two(
+    const uint32_t *starts, size_t starts_length,
+    const int32_t *corners, size_t corners_length) BEZINKWOLU_NONNULL;
+
+/* The least and greatest x and y of all corners, 0 where there are none: with them a table is an operand.
+ * Refuses: 7, 2. */
+bezinkwolu_told_bounds bezinkwolu_table_bounds(
+    const uint32_t *starts, size_t starts_length,
+    const int32_t *corners, size_t corners_length) BEZINKWOLU_NONNULL;
 
 /* ---- walks, and one pair a corner at a time. A contour is given by its numbers, two a corner. None of these writes anything. */
 

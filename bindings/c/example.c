@@ -24,7 +24,7 @@ int main(void)
     for (uint32_t k = 0; k < parts.parts; k++)
         print(corners, starts[k], starts[k + 1]);
 
-    const bezinkwolu_bounds bounds = {0, 10, -2, 4};
+    const bezinkwolu_bounds bounds = bezinkwolu_table_bounds(starts, parts.parts + 1, corners, 2 * parts.corners).bounds;
     uint32_t sum_starts[2 * 2 + 1];
     int32_t sum_corners[2 * (2 * 6 + 2 * 6)];
     /* what is lent here is as long as the first call told, not as long as its room */

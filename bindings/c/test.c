@@ -23,6 +23,8 @@ _Static_assert(sizeof(bezinkwolu_triangle) == 36, "nine numbers");
 _Static_assert(sizeof(bezinkwolu_counts) == 12, "three numbers");
 _Static_assert(sizeof(bezinkwolu_told_pairs) == 28, "seven numbers");
 _Static_assert(sizeof(bezinkwolu_told_placement) == 8, "two numbers");
+_Static_assert(sizeof(bezinkwolu_told_area) == 16, "a fault and a wide number");
+_Static_assert(sizeof(bezinkwolu_told_bounds) == 20, "five numbers");
 _Static_assert(sizeof(bezinkwolu_place) == 12, "two numbers, three bools, two numbers");
 _Static_assert(sizeof(bezinkwolu_told_next) == 40, "four numbers and two places");
 
@@ -429,6 +431,124 @@ static void placing(void)
     placed_by_contours();
 }
 
+/* ---- doubled areas and bounds */
+
+static bool measured(bezinkwolu_told_area a, uint32_t fault, int64_t area_two)
+{
+    return a.fault == fault && a.area_two == area_two;
+}
+
+static bool bounded(bezinkwolu_told_bounds b, uint32_t fault, int32_t min_x, int32_t max_x, int32_t min_y, int32_t max_y)
+{
+    return b.fault == fault && b.bounds.min_x == min_x && b.bounds.max_x == max_x && b.bounds.min_y == min_y && b.bounds.max_y == max_y;
+}
+
+/* So many starts and numbers, lent from between places that are not. */
+static void lend_table(const uint32_t *s, size_t starts_length, const int32_t *c, size_t corners_length)
+{
+    marked();
+    memcpy(starts, s, starts_length * sizeof *s);
+    memcpy(corners, c, corners_length * sizeof *c);
+}
+
+static bool table_kept(const uint32_t *s, size_t starts_length, const int32_t *c, size_t corners_length)
+{
+    return kept(starts_length, corners_length, 0) && memcmp(starts, s, starts_length * sizeof *s) == 0 && memcmp(corners, c, corners_length * sizeof *c) == 0;
+}
+
+/* The fault that each of the three calls on this table tells; nothing changes. */
+static void refused_measures(const uint32_t *s, size_t starts_length, const int32_t *c, size_t corners_length, uint32_t k, uint32_t fault)
+{
+    lend_table(s, starts_length, c, corners_length);
+    CHECK(measured(bezinkwolu_part_area_two(starts, starts_length, corners, corners_length, k), fault, 0));
+    if (fault != BEZINKWOLU_FAULT_PART) {
+        CHECK(measured(bezinkwolu_table_area_two(starts, starts_length, corners, corners_length), fault, 0));
+        if (fault != BEZINKWOLU_FAULT_TOTAL)
+            CHECK(bounded(bezinkwolu_table_bounds(starts, starts_length, corners, corners_length), fault, 0, 0, 0, 0));
+    }
+    CHECK(table_kept(s, starts_length, c, corners_length));
+}
+
+/* The dart's parts, the second turned about, an empty one and a point. */
+static void measured_parts(void)
+{
+    static const uint32_t s[] = {0, 3, 6, 6, 7};
+    static const int32_t c[] = {0, 4, 0, 0, 4, 0, 0, 4, 10, -2, 4, 0, 12, -9};
+    static const int64_t areas[] = {16, -16, 0, 0};
+    lend_table(s, 5, c, 14);
+    for (uint32_t k = 0; k < 4; k++) {
+        CHECK(measured(bezinkwolu_part_area_two(starts, 5, corners, 14, k), 0, areas[k]));
+        CHECK(measured(bezinkwolu_contour_area_two(corners + 2 * s[k], 2 * (s[k + 1] - s[k])), 0, areas[k]));
+    }
+    CHECK(measured(bezinkwolu_table_area_two(starts, 5, corners, 14), 0, 0));
+    CHECK(measured(bezinkwolu_table_area_two(starts, 2, corners, 6), 0, 16));
+    CHECK(bounded(bezinkwolu_table_bounds(starts, 5, corners, 14), 0, 0, 12, -9, 4));
+    CHECK(table_kept(s, 5, c, 14));
+    CHECK(measured(bezinkwolu_contour_area_two(corners, 5), BEZINKWOLU_FAULT_RULES, 0));
+    CHECK(measured(bezinkwolu_contour_area_two(corners, 0), 0, 0));
+    CHECK(table_kept(s, 5, c, 14));
+    refused_measures(s, 5, c, 14, 4, BEZINKWOLU_FAULT_PART);
+    refused_measures(s, 5, c, 14, UINT32_MAX, BEZINKWOLU_FAULT_PART);
+    /* no parts */
+    lend_table(s, 1, c, 0);
+    CHECK(measured(bezinkwolu_table_area_two(starts, 1, corners, 0), 0, 0));
+    CHECK(bounded(bezinkwolu_table_bounds(starts, 1, corners, 0), 0, 0, 0, 0, 0));
+    CHECK(table_kept(s, 1, c, 0));
+    refused_measures(s, 1, c, 0, 0, BEZINKWOLU_FAULT_PART);
+}
+
+/* 2^61 a round: four are one too many, and four the other way are just enough. */
+static void measured_at_64_bits(void)
+{
+    enum { HALF = 1 << 29 };
+    static const int32_t square[] = {-HALF, -HALF, HALF, -HALF, HALF, HALF, -HALF, HALF};
+    static const uint32_t whole[] = {0, 16}, parts[] = {0, 12, 16};
+    int32_t round[32], turned[32];
+    for (size_t i = 0; i < 16; i++) {
+        round[2 * i] = square[2 * (i % 4)], round[2 * i + 1] = square[2 * (i % 4) + 1];
+        turned[2 * i] = round[2 * i + 1], turned[2 * i + 1] = round[2 * i];
+    }
+    refused_measures(whole, 2, round, 32, 0, BEZINKWOLU_FAULT_TOTAL);
+    CHECK(measured(bezinkwolu_contour_area_two(corners, 32), BEZINKWOLU_FAULT_TOTAL, 0));
+    CHECK(measured(bezinkwolu_table_area_two(parts, 3, round, 32), BEZINKWOLU_FAULT_TOTAL, 0));
+    CHECK(measured(bezinkwolu_part_area_two(parts, 3, round, 32, 0), 0, INT64_C(3) << 61));
+    CHECK(measured(bezinkwolu_table_area_two(parts, 3, turned, 32), 0, INT64_MIN));
+    CHECK(measured(bezinkwolu_contour_area_two(turned, 32), 0, INT64_MIN));
+    CHECK(bounded(bezinkwolu_table_bounds(whole, 2, round, 32), 0, -HALF, HALF, -HALF, HALF));
+}
+
+static void measuring(void)
+{
+    static const uint32_t late[] = {1, 4}, low[] = {0, 5, 4}, early[] = {0, 3}, past[] = {0, 5};
+    static const int32_t beyond[] = {-4, -4, 4, -4, 4, FAR + 1, -4, 4};
+    refused_measures(four, 0, around, 0, 0, BEZINKWOLU_FAULT_RULES);
+    refused_measures(late, 2, around, 8, 0, BEZINKWOLU_FAULT_RULES);
+    refused_measures(low, 3, around, 8, 0, BEZINKWOLU_FAULT_RULES);
+    refused_measures(early, 2, around, 8, 0, BEZINKWOLU_FAULT_RULES);
+    refused_measures(past, 2, around, 8, 0, BEZINKWOLU_FAULT_RULES);
+    refused_measures(four, 2, around, 7, 0, BEZINKWOLU_FAULT_RULES);
+    /* the rules before the range, the range before the part */
+    refused_measures(early, 2, beyond, 8, 9, BEZINKWOLU_FAULT_RULES);
+    refused_measures(four, 2, beyond, 8, 9, BEZINKWOLU_FAULT_RANGE);
+    CHECK(measured(bezinkwolu_contour_area_two(corners, 8), BEZINKWOLU_FAULT_RANGE, 0));
+    measured_parts();
+    measured_at_64_bits();
+}
+
+/* ---- sentences */
+
+static void faults(void)
+{
+    CHECK(strcmp(bezinkwolu_fault_text(BEZINKWOLU_FAULT_FLAT), "a triangle's doubled area not above 0") == 0);
+    CHECK(strcmp(bezinkwolu_fault_text(BEZINKWOLU_FAULT_NONE), "no fault") == 0);
+    /* each number has a text, and no two that are told have the same */
+    for (uint32_t a = 0; a < 30; a++)
+        for (uint32_t b = 0; b < a; b++) {
+            bool told = strstr(bezinkwolu_fault_text(a), "no sentence for") == NULL || strstr(bezinkwolu_fault_text(b), "no sentence for") == NULL;
+            CHECK(told == (strcmp(bezinkwolu_fault_text(a), bezinkwolu_fault_text(b)) != 0));
+        }
+}
+
 /* ---- walks */
 
 static void walks(void)
@@ -536,6 +656,8 @@ int main(void)
     showing();
     all_pairs();
     placing();
+    measuring();
+    faults();
     walks();
     stepping();
     listing();

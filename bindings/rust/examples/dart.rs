@@ -1,6 +1,6 @@
 //! The dart joined into its convex parts, and the first part plus the last.
 
-use bezinkwolu::{sum_parts, Contour, Error, IntDelaunay, IntRect, NIL_INDEX};
+use bezinkwolu::{sum_parts, Contour, Error, IntDelaunay, NIL_INDEX};
 
 fn text(contour: Contour) -> String {
     let corners: Vec<String> = contour.iter().map(|p| format!("({},{})", p.x, p.y)).collect();
@@ -19,7 +19,7 @@ fn main() -> Result<(), Error> {
         println!("{}", text(contour));
     }
 
-    let bbox = IntRect::new(0, 10, -2, 4);
+    let bbox = parts.bbox()?;
     let sums = sum_parts(&parts, bbox, &parts, bbox)?;
     if let Some(contour) = sums.contour(0, parts.len() - 1) {
         println!("sum: {}", text(contour));

@@ -44,6 +44,18 @@ pub(crate) struct ToldPlacement {
 }
 
 #[repr(C)]
+struct ToldArea {
+    fault: u32,
+    area_two: i64,
+}
+
+#[repr(C)]
+struct ToldBounds {
+    fault: u32,
+    bounds: IntRect,
+}
+
+#[repr(C)]
 #[derive(Debug, Clone, Copy)]
 pub(crate) struct Place {
     index: u16,
@@ -126,6 +138,9 @@ extern "C" {
     fn bezinkwolu_sum_parts(left_starts: *const u32, left_starts_length: usize, left_corners: *const i32, left_corners_length: usize, left_bounds: IntRect, right_starts: *const u32, right_starts_length: usize, right_corners: *const i32, right_corners_length: usize, right_bounds: IntRect, starts: *mut u32, starts_room: usize, corners: *mut i32, corners_room: usize) -> ToldPairs;
     fn bezinkwolu_difference_parts(left_starts: *const u32, left_starts_length: usize, left_corners: *const i32, left_corners_length: usize, left_bounds: IntRect, right_starts: *const u32, right_starts_length: usize, right_corners: *const i32, right_corners_length: usize, right_bounds: IntRect, starts: *mut u32, starts_room: usize, corners: *mut i32, corners_room: usize) -> ToldPairs;
     fn bezinkwolu_placement(starts: *const u32, starts_length: usize, corners: *const i32, corners_length: usize, x: i32, y: i32) -> ToldPlacement;
+    fn bezinkwolu_contour_area_two(contour: *const i32, length: usize) -> ToldArea;
+    fn bezinkwolu_table_area_two(starts: *const u32, starts_length: usize, corners: *const i32, corners_length: usize) -> ToldArea;
+    fn bezinkwolu_table_bounds(starts: *const u32, starts_length: usize, corners: *const i32, corners_length: usize) -> ToldBounds;
     fn bezinkwolu_walk_begin(contour: *const i32, length: usize, reflected: bool) -> ToldPlace;
     fn bezinkwolu_walk_point(contour: *const i32, length: usize, at: Place) -> ToldPoint;
     fn bezinkwolu_walk_next(contour: *const i32, length: usize, at: Place) -> ToldStep;
@@ -315,6 +330,29 @@ pub(crate) fn placement(contours: &PartTable, x: i32, y: i32) -> ToldPlacement {
     let (starts, corners) = contours.lists();
     // SAFETY: as above.
     unsafe { bezinkwolu_placement(starts.as_ptr(), starts.len(), corners.as_ptr(), corners.len(), x, y) }
+}
+
+pub(crate) fn contour_area_two(contour: &[i32]) -> Result<i64, Error> {
+    // SAFETY: as above.
+    let told = unsafe { bezinkwolu_contour_area_two(contour.as_ptr(), contour.len()) };
+    Error::told(told.fault)?;
+    Ok(told.area_two)
+}
+
+pub(crate) fn table_area_two(contours: &PartTable) -> Result<i64, Error> {
+    let (starts, corners) = contours.lists();
+    // SAFETY: as above.
+    let told = unsafe { bezinkwolu_table_area_two(starts.as_ptr(), starts.len(), corners.as_ptr(), corners.len()) };
+    Error::told(told.fault)?;
+    Ok(told.area_two)
+}
+
+pub(crate) fn table_bounds(contours: &PartTable) -> Result<IntRect, Error> {
+    let (starts, corners) = contours.lists();
+    // SAFETY: as above.
+    let told = unsafe { bezinkwolu_table_bounds(starts.as_ptr(), starts.len(), corners.as_ptr(), corners.len()) };
+    Error::told(told.fault)?;
+    Ok(told.bounds)
 }
 
 pub(crate) fn walk_begin(contour: &[i32], reflected: bool) -> ToldPlace {

@@ -1,6 +1,6 @@
 //! Part tables, their contours and the stored form.
 
-use crate::{ffi, Error, IntPoint};
+use crate::{ffi, Error, IntPoint, IntRect};
 use alloc::{vec, vec::Vec};
 use core::fmt;
 use core::iter::FusedIterator;
@@ -143,6 +143,42 @@ impl PartTable {
         }
     }
 
+    /// The doubled areas of all contours, added: exact, below 0 for those that run clockwise. The limits of a part table do not bind, so that this can be asked of
+    /// [`PairTable::contours`](crate::PairTable::contours) too, where each contour is counted by itself, also where they overlap.
+    ///
+    /// ```
+    /// # use bezinkwolu::{Error, PartTable};
+    /// let table: PartTable = [[(0, 4), (0, 0), (4, 0)], [(0, 4), (4, 0), (10, -2)]].into_iter().collect();
+    /// assert_eq!(table.area_two()?, 32);
+    /// assert_eq!(table.contour(1).unwrap().area_two()?, 16);
+    /// # Ok::<(), Error>(())
+    /// ```
+    ///
+    /// # Errors
+    /// [`Error::RANGE`]; [`Error::TOTAL`] where the sum leaves an `i64`; [`Error::RULES`] where there are more than 4,294,967,295 corners.
+    pub fn area_two(&self) -> Result<i64, Error> {
+        ffi::table_area_two(self)
+    }
+
+    /// The least and greatest x and y of all corners, 0 where there are none: with them the table is an operand of [`sum_parts`](crate::sum_parts). The limits of a
+    /// part table do not bind.
+    ///
+    /// ```
+    /// # use bezinkwolu::{sum_parts, Error, IntRect, PartTable};
+    /// let table: PartTable = [[(0, 4), (0, 0), (4, 0)], [(0, 4), (4, 0), (10, -2)]].into_iter().collect();
+    /// assert_eq!(table.bbox()?, IntRect::new(0, 10, -2, 4));
+    /// assert_eq!(PartTable::new().bbox()?, IntRect::new(0, 0, 0, 0));
+    /// let sums = sum_parts(&table, table.bbox()?, &table, table.bbox()?)?;
+    /// assert_eq!(sums.contours().bbox()?, sums.bbox());
+    /// # Ok::<(), Error>(())
+    /// ```
+    ///
+    /// # Errors
+    /// [`Error::RANGE`]; [`Error::RULES`] where there are more than 4,294,967,295 corners.
+    pub fn bbox(&self) -> Result<IntRect, Error> {
+        ffi::table_bounds(self)
+    }
+
     /// The stored form: part count, corner count, starts and corners, each 32 bits, little-endian.
     ///
     /// ```
@@ -272,6 +308,23 @@ impl<'a> Contour<'a> {
             [x, y, ..] => Some(IntPoint::new(*x, *y)),
             _ => None,
         }
+    }
+
+    /// Its doubled area, as of iTriangle's `Triangle::area_two`: exact, above 0 where it runs counter-clockwise, below 0 where it runs clockwise. Where it crosses itself or goes
+    /// round more than once, it is what the shoelace formula gives.
+    ///
+    /// ```
+    /// # use bezinkwolu::{Error, PartTable};
+    /// let table: PartTable = [vec![(0, 0), (2, 0), (0, 2)], vec![(0, 0), (0, 2), (2, 0)], vec![(7, 7)]].into_iter().collect();
+    /// let areas: Result<Vec<i64>, Error> = table.iter().map(|contour| contour.area_two()).collect();
+    /// assert_eq!(areas?, [4, -4, 0]);
+    /// # Ok::<(), Error>(())
+    /// ```
+    ///
+    /// # Errors
+    /// [`Error::RANGE`]; [`Error::TOTAL`] where it leaves an `i64`, as only a contour that goes round more than once can.
+    pub fn area_two(self) -> Result<i64, Error> {
+        ffi::contour_area_two(self.numbers)
     }
 
     /// The corners in order.

@@ -179,7 +179,7 @@ fn the_part_shown_is_the_table_itself() {
 #[test]
 fn errors_are_errors() {
     let error: Box<dyn std::error::Error> = Box::new(Error::RESULT);
-    assert_eq!(error.to_string(), "fault 10: a result bound ≤ −2^30 or ≥ 2^30");
+    assert_eq!(error.to_string(), "fault 10: a result bound not strictly between -2^30 and 2^30");
     assert_eq!(
         format!("{:?}", Error::EMPTY),
         "fault 20: an operand without parts, or a walk begun on an empty contour"

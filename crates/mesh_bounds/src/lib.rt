@@ -28,7 +28,7 @@ fn greater_of(a: i32, b: i32) -> i32
 }
 
 // The bounds of a point alone.
-fn bounds_of(p: IntPoint) -> IntRect
+pub fn bounds_of(p: IntPoint) -> IntRect
     ensures { λ r. ⌜ r ≡ pointBounds (point p) ⌝ }
 {
     IntRect {
@@ -40,7 +40,7 @@ fn bounds_of(p: IntPoint) -> IntRect
 }
 
 // Bounds that a point is brought into.
-fn with_point(b: IntRect, p: IntPoint) -> IntRect
+pub fn with_point(b: IntRect, p: IntPoint) -> IntRect
     ensures { λ r. ⌜ r ≡ widened b (point p) ⌝ }
 {
     IntRect {

@@ -6,6 +6,8 @@ use bezinkwolu as _;
 use crate::entry::{run, Report};
 use crate::lent::{Handed, Lent};
 use crate::listing::{listing_beside, TEXT};
+use crate::measure::{contour_area_two_beside, part_area_two_beside};
+use crate::measure::{table_area_two_beside, table_bounds_beside, ToldBounds};
 use crate::mesh::{mesh_fault_beside, to_convex_polygons_beside, Row};
 use crate::pairs::{all_pairs_beside, Bounds, HandedOperand, ToldPairs};
 use crate::placement::{of_meshes_beside, placement_beside, ToldPlacement};
@@ -23,6 +25,7 @@ use judge::shown::Side;
 use judge::Point;
 
 mod archive {
+    use super::ToldBounds;
     use super::{Bounds, Counts, Place, Places, Row, Told, ToldLength, ToldPairs, ToldPart};
     use super::{ToldEdge, ToldNext, ToldPair, ToldPlace, ToldPlacement, ToldPoint, ToldStep};
     use crate::listing::TEXT;
@@ -161,6 +164,26 @@ mod archive {
             x: i32,
             y: i32,
         ) -> ToldPlacement;
+        pub fn bezinkwolu_contour_area_two(contour: *const i32, length: usize) -> Told;
+        pub fn bezinkwolu_part_area_two(
+            starts: *const u32,
+            starts_length: usize,
+            corners: *const i32,
+            corners_length: usize,
+            k: u32,
+        ) -> Told;
+        pub fn bezinkwolu_table_area_two(
+            starts: *const u32,
+            starts_length: usize,
+            corners: *const i32,
+            corners_length: usize,
+        ) -> Told;
+        pub fn bezinkwolu_table_bounds(
+            starts: *const u32,
+            starts_length: usize,
+            corners: *const i32,
+            corners_length: usize,
+        ) -> ToldBounds;
         pub fn bezinkwolu_listing(
             bytes: *const u8,
             bytes_length: usize,
@@ -263,6 +286,18 @@ pub const ENTRY_POINTS: &[Named] = &[
     ("placement", |s, n| run(&placement_beside(placement), s, n)),
     ("placement of two meshes", |s, n| {
         run(&of_meshes_beside(difference_parts, placement), s, n)
+    }),
+    ("contour_area_two", |s, n| {
+        run(&contour_area_two_beside(contour_area_two), s, n)
+    }),
+    ("part_area_two", |s, n| {
+        run(&part_area_two_beside(part_area_two), s, n)
+    }),
+    ("table_area_two", |s, n| {
+        run(&table_area_two_beside(table_area_two), s, n)
+    }),
+    ("table_bounds", |s, n| {
+        run(&table_bounds_beside(table_bounds), s, n)
     }),
     ("listing", |s, n| run(&listing_beside(listing), s, n)),
 ];
@@ -550,6 +585,31 @@ pub fn placement(contours: HandedTable, (x, y): Point) -> ToldPlacement {
     let HandedTable { starts, corners } = contours;
     unsafe {
         archive::bezinkwolu_placement(starts.at, starts.length, corners.at, corners.length, x, y)
+    }
+}
+
+pub fn contour_area_two(contour: Handed<i32>) -> Told {
+    unsafe { archive::bezinkwolu_contour_area_two(contour.at, contour.length) }
+}
+
+pub fn part_area_two(table: HandedTable, k: u32) -> Told {
+    let HandedTable { starts, corners } = table;
+    unsafe {
+        archive::bezinkwolu_part_area_two(starts.at, starts.length, corners.at, corners.length, k)
+    }
+}
+
+pub fn table_area_two(table: HandedTable) -> Told {
+    let HandedTable { starts, corners } = table;
+    unsafe {
+        archive::bezinkwolu_table_area_two(starts.at, starts.length, corners.at, corners.length)
+    }
+}
+
+pub fn table_bounds(table: HandedTable) -> ToldBounds {
+    let HandedTable { starts, corners } = table;
+    unsafe {
+        archive::bezinkwolu_table_bounds(starts.at, starts.length, corners.at, corners.length)
     }
 }
 

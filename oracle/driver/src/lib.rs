@@ -14,6 +14,7 @@
 //!   begun, stepped, and stepped to its end
 //! - `pairs`: `sum_parts`, `difference_parts`
 //! - `placement`: a place by contours, and by two meshes
+//! - `measure`: `contour_area_two`, `part_area_two`, `table_area_two`, `table_bounds`
 //! - `listing`: the text that the area program prints for a file
 //! - `programs`: the programs parts, contours, placed and pairshard, each run as a process
 //! - `sample`: what a stored sample is, and `SAMPLES`, all of them: `plane_sample`,
@@ -27,6 +28,7 @@
 pub mod entry;
 pub mod lent;
 pub mod listing;
+pub mod measure;
 pub mod mesh;
 mod mesh_sample;
 pub mod pairs;

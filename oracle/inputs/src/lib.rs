@@ -12,6 +12,7 @@
 //! - `tables`: part tables, small ones exhaustively, each rule broken, the limits
 //! - `table_calls`: what is asked of the calls on tables, and the memory lent
 //! - `placements`: what is asked of `placement`, of contours and of two meshes
+//! - `measures`: what is asked of the calls that measure
 //! - `stored`: stored tables and mesh files, good and damaged
 //! - `two_files`: two mesh files one behind the other; `shards`: part numbers and a pair
 //!   job, for the programs that read them
@@ -22,6 +23,7 @@
 
 pub mod contours;
 pub mod coordinates;
+pub mod measures;
 pub mod mesh_damage;
 pub mod meshes;
 pub mod operands;
@@ -33,9 +35,9 @@ pub mod rng;
 pub mod rooms;
 pub mod shards;
 pub mod stored;
-pub mod text;
 pub mod table_calls;
 pub mod tables;
+pub mod text;
 pub mod two_files;
 pub mod walk_calls;
 

@@ -15,6 +15,8 @@
 //! - `walk`: a walk begun, stepped, its point, and a pair's step
 //! - `placement`: a place by the contours of a pair result, 7 and 2; by two meshes
 //!   (not document 01's: from what the call promises)
+//! - `measure`: doubled areas and bounds of a contour, a part and a table, 7, 2, 12 and 11
+//!   (likewise)
 //! - `triangles`: whether two triangles meet, and whether they overlap
 //! - `room`: 22 and 21, once the answer's size is known
 //! - `round`: once round a convex area above zero; strictly convex
@@ -29,6 +31,7 @@ pub mod file;
 pub mod job;
 pub mod limits;
 pub mod listing;
+pub mod measure;
 pub mod mesh;
 pub mod pairs;
 pub mod placement;

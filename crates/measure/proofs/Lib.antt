@@ -1,0 +1,2 @@
+-- Laws of the calls that measure.
+pub mod Answers

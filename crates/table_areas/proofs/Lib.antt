@@ -1,0 +1,2 @@
+-- Laws of doubled areas that belong to no one function.
+pub mod Sums
