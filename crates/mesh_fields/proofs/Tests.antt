@@ -1,4 +1,4 @@
--- The fields, by the tests that the code makes. In order: words; neighbours; splits; the comma of a point; points. Assumes nothing.
+-- The fields, by the tests that the code makes. In order: words; a number or none; splits; the comma of a point; points. Assumes nothing.
 use mathlib.Core.Path.{_≡_, refl, sym, _∙_, ap}
 use mathlib.Core.Bool.{Bool, true, false, cond}
 use mathlib.Core.Logic.{_⊎_, inl, inr, ⊎-elim}
@@ -15,7 +15,7 @@ use Rattle.fields.specs.declared.Run.the-variants as run
 use Rattle.field_numbers.specs.declared.Reading.{Reading}
 use Rattle.field_numbers.specs.Numbers.{told, valueOf, isNumber, numberRead, isCoordinate, coordinateOf, coordinateRead}
 use Rattle.mesh_fields.specs.Put.{Put}
-use Rattle.mesh_fields.specs.Entries.{sameBytes, isNone, isEar, isFan, isCentroid, isNeighbour, neighbourOf, isSplit, splitOf, commaFrom, commaOf, xText, yText, isPoint, pointOf, pointWords}
+use Rattle.mesh_fields.specs.Entries.{sameBytes, isNone, isEar, isFan, isCentroid, isNumberOrNone, numberOrNone, isSplit, splitOf, commaFrom, commaOf, xText, yText, isPoint, pointOf, pointWords}
 use Rattle.mesh_fields.proofs.Puts.{put-wrong, put-told, put-then, put-stops}
 
 true-false : true ≡ false → ⊥
@@ -46,15 +46,15 @@ same-test l m false h =
     (λ e. absurd (true-false (sym (h .1 (same-eq l m e)))))
     (λ e. sym e)
 
--- ---- neighbours
+-- ---- a number or none
 
 module _ (l : List ℕ) {r : Bool} (e : r ≡ isNone l) where
-  pub no-neighbour : r ≡ true → record { right = true; bits = 4294967295 } ≡ told (isNeighbour l) (neighbourOf l)
-  unfolding isNeighbour neighbourOf
-  no-neighbour h = rw (sym e ∙ h)
+  pub no-number : r ≡ true → record { right = true; bits = 4294967295 } ≡ told (isNumberOrNone l) (numberOrNone l)
+  unfolding isNumberOrNone numberOrNone
+  no-number h = rw (sym e ∙ h)
 
-  pub numbered : r ≡ false → numberRead 4294967295 l ≡ told (isNeighbour l) (neighbourOf l)
-  unfolding isNeighbour neighbourOf
+  pub numbered : r ≡ false → numberRead 4294967295 l ≡ told (isNumberOrNone l) (numberOrNone l)
+  unfolding isNumberOrNone numberOrNone
   numbered h = rw (sym e ∙ h)
 
 -- ---- splits

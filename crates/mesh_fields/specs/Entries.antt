@@ -32,14 +32,15 @@ isFan l = sameBytes l (102 ∷ 97 ∷ 110 ∷ [])
 abbrev pub isCentroid : List ℕ → Bool
 isCentroid l = sameBytes l (99 ∷ 101 ∷ 110 ∷ 116 ∷ 114 ∷ 111 ∷ 105 ∷ 100 ∷ [])
 
--- ---- a neighbour
+-- ---- a number or none
 
--- "three neighbours or `none`"; document 01: a neighbour is a u32, the greatest for none
-unfoldable pub isNeighbour : List ℕ → Bool
-isNeighbour l = cond (isNone l) true (isNumber 4294967295 l)
+-- "three neighbours or `none`"; document 01: a neighbour is a u32, the greatest for none. A corner limit likewise: none, or any of 1,026 or more, leaves
+-- every part whole
+unfoldable pub isNumberOrNone : List ℕ → Bool
+isNumberOrNone l = cond (isNone l) true (isNumber 4294967295 l)
 
-unfoldable pub neighbourOf : List ℕ → ℕ
-neighbourOf l = cond (isNone l) 4294967295 (valueOf l)
+unfoldable pub numberOrNone : List ℕ → ℕ
+numberOrNone l = cond (isNone l) 4294967295 (valueOf l)
 
 -- ---- a split
 

@@ -1,4 +1,4 @@
-// The fields of a mesh that is written by hand: a point, a neighbour, a split, each read and its 32-bit words put at a place of lent words, as the mesh
+// The fields of a mesh that is written by hand: a point, a number or `none`, a split, each read and its 32-bit words put at a place of lent words, as the mesh
 // file has them. Each equals its definition in specs/Entries.antt, of any bytes; what a put leaves is `Put` of specs/Put.antt: a field that is wrong
 // is told by false. An inner layer of mesh_lines: callers show that there is room. Leans on field_numbers and fields.
 ghost use mathlib.Core.Path.{_≡_};
@@ -7,12 +7,12 @@ ghost use mathlib.Core.Logic.{_⊎_};
 ghost use Prim.Native.Nat.{_+_, _<_, _≤_};
 ghost use lib.ListN.{length};
 ghost use Rattle.field_numbers.specs.Numbers.{told};
-ghost use Rattle.mesh_fields.specs.Entries.{sameBytes, isNeighbour, neighbourOf, isSplit, splitOf, commaOf, isPoint, pointOf, pointWords};
+ghost use Rattle.mesh_fields.specs.Entries.{sameBytes, isNumberOrNone, numberOrNone, isSplit, splitOf, commaOf, isPoint, pointOf, pointWords};
 ghost use Rattle.mesh_fields.specs.Put.{Put};
 use field_numbers::Reading;
 use fields::Run;
 
-// No neighbour (document 01), and the greatest corner limit: the greatest number of 32 bits.
+// No neighbour (document 01), and no corner limit: the greatest number of 32 bits.
 pub const LAST_WORD: u32 = 4294967295;
 
 // Whether the field is this word.
@@ -22,9 +22,9 @@ pub fn is_word(entry: &[u8], word: &[u8]) -> bool
     check::same(entry, word)
 }
 
-// The field read as a neighbour: a triangle's number, or `none`.
-pub fn neighbour(entry: &[u8]) -> Reading
-    ensures { λ r. ⌜ r ≡ told (isNeighbour (now (entry .entry))) (neighbourOf (now (entry .entry))) ⌝ }
+// The field read as a number or `none`, as a neighbour and the corner limit are written.
+pub fn number_or_none(entry: &[u8]) -> Reading
+    ensures { λ r. ⌜ r ≡ told (isNumberOrNone (now (entry .entry))) (numberOrNone (now (entry .entry))) ⌝ }
 {
     if is_word(entry, b"none") {
         return Reading {

@@ -12,8 +12,8 @@ use lib.Seq.{getD-drop}
 use Rattle.integers.proofs.Order.{by-test}
 use Rattle.fields.specs.Fields.{fieldsFrom, fieldOf}
 use Rattle.field_numbers.specs.declared.Reading.{Reading}
-use Rattle.field_numbers.specs.Numbers.{told, valueOf, isNumber, numberRead}
-use Rattle.mesh_fields.specs.Entries.{sameBytes, isPoint, pointOf, pointWords, isNeighbour, neighbourOf, isSplit, splitOf}
+use Rattle.field_numbers.specs.Numbers.{told}
+use Rattle.mesh_fields.specs.Entries.{sameBytes, isPoint, pointOf, pointWords, isNumberOrNone, numberOrNone, isSplit, splitOf}
 use Rattle.mesh_fields.specs.Put.{Put}
 use Rattle.mesh_fields.proofs.Puts.{put-told, put-wrong, put-then, put-stops, put-none}
 use Rattle.mesh_lines.specs.Lines.{endsAt, isPassedOver, isLimit}
@@ -57,14 +57,11 @@ module _ {l m : List ℕ} (e : l ≡ m) {at : ℕ} {a b : List ℕ} {r : Bool} w
   put-point-of p = subst (λ f. Put (isPoint f) (pointWords (pointOf f)) at a b r) e p
 
   module _ {n : Reading} (p : Put (n .right) (n .bits ∷ []) at a b r) where
-    pub put-neighbour-of : n ≡ told (isNeighbour l) (neighbourOf l) → Put (isNeighbour m) (neighbourOf m ∷ []) at a b r
-    put-neighbour-of q = put-told (isNeighbour m) (neighbourOf m) (q ∙ ap (λ f. told (isNeighbour f) (neighbourOf f)) e) p
+    pub put-number-of : n ≡ told (isNumberOrNone l) (numberOrNone l) → Put (isNumberOrNone m) (numberOrNone m ∷ []) at a b r
+    put-number-of q = put-told (isNumberOrNone m) (numberOrNone m) (q ∙ ap (λ f. told (isNumberOrNone f) (numberOrNone f)) e) p
 
     pub put-split-of : n ≡ told (isSplit l) (splitOf l) → Put (isSplit m) (splitOf m ∷ []) at a b r
     put-split-of q = put-told (isSplit m) (splitOf m) (q ∙ ap (λ f. told (isSplit f) (splitOf f)) e) p
-
-    pub put-number-of : n ≡ numberRead 4294967295 l → Put (isNumber 4294967295 m) (valueOf m ∷ []) at a b r
-    put-number-of q = put-told (isNumber 4294967295 m) (valueOf m) (q ∙ ap (numberRead 4294967295) e) p
 
 -- ---- the first line
 
@@ -76,7 +73,7 @@ module _ (l : List ℕ) {name : List ℕ} {t : Bool} (e : name ≡ fieldOf 0 l) 
   named : sameBytes (fieldOf 0 l) limit ≡ t
   named = sym (f ∙ ap (λ n. sameBytes n limit) e)
 
-  pub limit-named : t ≡ true → {a b : List ℕ} {r : Bool} → Put (isNumber 4294967295 (fieldOf 1 l)) (valueOf (fieldOf 1 l) ∷ []) 0 a b r → Put (isLimit l) (valueOf (fieldOf 1 l) ∷ []) 0 a b r
+  pub limit-named : t ≡ true → {a b : List ℕ} {r : Bool} → Put (isNumberOrNone (fieldOf 1 l)) (numberOrNone (fieldOf 1 l) ∷ []) 0 a b r → Put (isLimit l) (numberOrNone (fieldOf 1 l) ∷ []) 0 a b r
   unfolding isLimit
   limit-named h p = rw (named ∙ h) p
 

@@ -7,8 +7,7 @@ use lib.Dec.{eqb}
 use lib.ListN.{length, getD}
 use Rattle.mesh.specs.Mesh.{Triangle}
 use Rattle.fields.specs.Fields.{fieldsFrom, fieldOf}
-use Rattle.field_numbers.specs.Numbers.{valueOf, isNumber}
-use Rattle.mesh_fields.specs.Entries.{sameBytes, isPoint, pointOf, pointWords, isNeighbour, neighbourOf, isSplit, splitOf}
+use Rattle.mesh_fields.specs.Entries.{sameBytes, isPoint, pointOf, pointWords, isNumberOrNone, numberOrNone, isSplit, splitOf}
 
 -- the line has no field k
 abbrev pub endsAt : ℕ → List ℕ → Bool
@@ -20,16 +19,16 @@ isPassedOver l = cond (endsAt 0 l) true (eqb (getD (fieldsFrom 0 l) 0 0) 35)
 
 -- ---- the first line
 
--- "limit" and a u32
+-- "limit" and a u32, or none for no limit
 unfoldable pub isLimit : List ℕ → Bool
-isLimit l = cond (sameBytes (fieldOf 0 l) (108 ∷ 105 ∷ 109 ∷ 105 ∷ 116 ∷ [])) (isNumber 4294967295 (fieldOf 1 l)) false
+isLimit l = cond (sameBytes (fieldOf 0 l) (108 ∷ 105 ∷ 109 ∷ 105 ∷ 116 ∷ [])) (isNumberOrNone (fieldOf 1 l)) false
 
 unfoldable pub isHead : List ℕ → Bool
 isHead l = cond (isLimit l) (cond (isSplit (fieldOf 2 l)) (endsAt 3 l) false) false
 
 -- its words in the file: the corner limit and the split
 abbrev pub headWords : List ℕ → List ℕ
-headWords l = valueOf (fieldOf 1 l) ∷ splitOf (fieldOf 2 l) ∷ []
+headWords l = numberOrNone (fieldOf 1 l) ∷ splitOf (fieldOf 2 l) ∷ []
 
 -- ---- a triangle
 
@@ -37,7 +36,7 @@ unfoldable pub arePoints : List ℕ → Bool
 arePoints l = cond (isPoint (fieldOf 0 l)) (cond (isPoint (fieldOf 1 l)) (isPoint (fieldOf 2 l)) false) false
 
 unfoldable pub areNeighbours : List ℕ → Bool
-areNeighbours l = cond (isNeighbour (fieldOf 3 l)) (cond (isNeighbour (fieldOf 4 l)) (isNeighbour (fieldOf 5 l)) false) false
+areNeighbours l = cond (isNumberOrNone (fieldOf 3 l)) (cond (isNumberOrNone (fieldOf 4 l)) (isNumberOrNone (fieldOf 5 l)) false) false
 
 unfoldable pub isTriangle : List ℕ → Bool
 isTriangle l = cond (arePoints l) (cond (areNeighbours l) (endsAt 6 l) false) false
@@ -48,9 +47,9 @@ triangleOf l =
       v0 = pointOf (fieldOf 0 l);
       v1 = pointOf (fieldOf 1 l);
       v2 = pointOf (fieldOf 2 l);
-      n0 = neighbourOf (fieldOf 3 l);
-      n1 = neighbourOf (fieldOf 4 l);
-      n2 = neighbourOf (fieldOf 5 l);
+      n0 = numberOrNone (fieldOf 3 l);
+      n1 = numberOrNone (fieldOf 4 l);
+      n2 = numberOrNone (fieldOf 5 l);
     }
 
 -- its words in the file: "six i32 (x, y of the three points) and three u32" (document 01)

@@ -1,17 +1,15 @@
 // The lines of a mesh that is written by hand: whether a line is passed over, and the first line's and a triangle's words put at a place of lent words, as
 // the mesh file has them. Each equals its definition in specs/Lines.antt, of any bytes; a line that is not as it should be is told by false. An inner
-// layer of mesh_text: callers show that there is room. Leans on mesh_fields, field_numbers and fields.
+// layer of mesh_text: callers show that there is room. Leans on mesh_fields and fields.
 ghost use mathlib.Core.Path.{_≡_};
 ghost use mathlib.Core.List.{[], _∷_};
 ghost use Prim.Native.Nat.{_+_, _≤_};
 ghost use lib.ListN.{length};
 ghost use Rattle.mesh.specs.Rows.{rowWidth};
 ghost use Rattle.fields.specs.Fields.{fieldOf};
-ghost use Rattle.mesh_fields.specs.Entries.{isPoint, pointOf, pointWords, isNeighbour, neighbourOf, isSplit, splitOf};
-ghost use Rattle.field_numbers.specs.Numbers.{valueOf};
+ghost use Rattle.mesh_fields.specs.Entries.{isPoint, pointOf, pointWords, isNumberOrNone, numberOrNone, isSplit, splitOf};
 ghost use Rattle.mesh_fields.specs.Put.{Put};
 ghost use Rattle.mesh_lines.specs.Lines.{endsAt, isPassedOver, arePoints, areNeighbours, isTriangle, triangleOf, triangleWords, sidesOf, cornersOf, isLimit, isHead, headWords};
-use mesh_fields::LAST_WORD;
 
 // Whether the line has no field k.
 fn ends(line: &[u8], k: usize) -> bool
@@ -45,11 +43,11 @@ fn put_point_at(line: &[u8], k: usize, at: usize, words: &mut [u32]) -> bool
 // Puts the neighbour that is field k.
 fn put_neighbour_at(line: &[u8], k: usize, at: usize, words: &mut [u32]) -> bool
     requires { ⌜ at + 1 ≤ length (now words) ⌝ }
-    ensures { λ r. ⌜ Put (isNeighbour (fieldOf k (now (line .entry)))) (neighbourOf (fieldOf k (now (line .entry))) ∷ []) at (now (words .entry))
+    ensures { λ r. ⌜ Put (isNumberOrNone (fieldOf k (now (line .entry)))) (numberOrNone (fieldOf k (now (line .entry))) ∷ []) at (now (words .entry))
         (now (words .exit)) r ⌝ }
 {
     let entry = fields::field(line, k);
-    mesh_fields::put_reading(mesh_fields::neighbour(entry), at, words)
+    mesh_fields::put_reading(mesh_fields::number_or_none(entry), at, words)
 }
 
 // Puts the points that are the first three fields.
@@ -91,15 +89,15 @@ pub fn put_triangle(line: &[u8], at: usize, words: &mut [u32]) -> bool
     false
 }
 
-// Puts the corner limit, where the line begins `limit N`.
+// Puts the corner limit, where the line begins `limit N` or `limit none`.
 fn put_limit(line: &[u8], words: &mut [u32]) -> bool
     requires { ⌜ 1 ≤ length (now words) ⌝ }
-    ensures { λ r. ⌜ Put (isLimit (now (line .entry))) (valueOf (fieldOf 1 (now (line .entry))) ∷ []) 0 (now (words .entry)) (now (words .exit)) r ⌝ }
+    ensures { λ r. ⌜ Put (isLimit (now (line .entry))) (numberOrNone (fieldOf 1 (now (line .entry))) ∷ []) 0 (now (words .entry)) (now (words .exit)) r ⌝ }
 {
     let name = fields::field(line, 0);
     if mesh_fields::is_word(name, b"limit") {
         let entry = fields::field(line, 1);
-        return mesh_fields::put_reading(field_numbers::number(entry, LAST_WORD), 0, words);
+        return mesh_fields::put_reading(mesh_fields::number_or_none(entry), 0, words);
     }
     false
 }

@@ -18,7 +18,7 @@ use Rattle.table.proofs.Words.{Word}
 use Rattle.fields.specs.Fields.{fieldOf}
 use Rattle.field_numbers.specs.Numbers.{valueOf, isNumber, isCoordinate, coordinateOf, hasMinus}
 use Rattle.field_numbers.proofs.Readings.{at-most}
-use Rattle.mesh_fields.specs.Entries.{sameBytes, isNone, isNeighbour, neighbourOf, isEar, isFan, splitOf, commaOf, xText, yText, isPoint, pointOf}
+use Rattle.mesh_fields.specs.Entries.{sameBytes, isNone, isNumberOrNone, numberOrNone, isEar, isFan, splitOf, commaOf, xText, yText, isPoint, pointOf}
 use Rattle.mesh_lines.specs.Lines.{isLimit, isHead, arePoints, areNeighbours, isTriangle, triangleOf}
 
 -- ---- coordinates
@@ -58,9 +58,9 @@ point-fits l e =
 number-small : (l : List ℕ) → isNumber 4294967295 l ≡ true → Word (valueOf l)
 number-small l e = omega (arith, at-most 4294967295 l e)
 
-neighbour-small : (l : List ℕ) → isNeighbour l ≡ true → Word (neighbourOf l)
-unfolding isNeighbour neighbourOf
-neighbour-small l e =
+or-none-small : (l : List ℕ) → isNumberOrNone l ≡ true → Word (numberOrNone l)
+unfolding isNumberOrNone numberOrNone
+or-none-small l e =
     by-test (isNone l)
     (λ n. rw n (omega arith))
     (λ n. rw n (number-small l (rw n at e)))
@@ -90,17 +90,17 @@ triangle-fits l e =
     let p = both-true (isPoint (fieldOf 0 l)) _ (a .0) in
     let q = both-true (isPoint (fieldOf 1 l)) (isPoint (fieldOf 2 l)) (p .1) in
     let b = both-true (areNeighbours l) _ (a .1) in
-    let m = both-true (isNeighbour (fieldOf 3 l)) _ (b .0) in
-    let n = both-true (isNeighbour (fieldOf 4 l)) (isNeighbour (fieldOf 5 l)) (m .1) in
+    let m = both-true (isNumberOrNone (fieldOf 3 l)) _ (b .0) in
+    let n = both-true (isNumberOrNone (fieldOf 4 l)) (isNumberOrNone (fieldOf 5 l)) (m .1) in
     record {
       first = point-fits (fieldOf 0 l) (p .0);
       next = point-fits (fieldOf 1 l) (q .0);
       last = point-fits (fieldOf 2 l) (q .1);
-      side-0 = neighbour-small (fieldOf 3 l) (m .0);
-      side-1 = neighbour-small (fieldOf 4 l) (n .0);
-      side-2 = neighbour-small (fieldOf 5 l) (n .1);
+      side-0 = or-none-small (fieldOf 3 l) (m .0);
+      side-1 = or-none-small (fieldOf 4 l) (n .0);
+      side-2 = or-none-small (fieldOf 5 l) (n .1);
     }
 
-pub limit-small : (l : List ℕ) → isHead l ≡ true → Word (valueOf (fieldOf 1 l))
+pub limit-small : (l : List ℕ) → isHead l ≡ true → Word (numberOrNone (fieldOf 1 l))
 unfolding isHead isLimit
-limit-small l e = number-small (fieldOf 1 l) (both-true (sameBytes (fieldOf 0 l) (108 ∷ 105 ∷ 109 ∷ 105 ∷ 116 ∷ [])) (isNumber 4294967295 (fieldOf 1 l)) (both-true (isLimit l) _ e .0) .1)
+limit-small l e = or-none-small (fieldOf 1 l) (both-true (sameBytes (fieldOf 0 l) (108 ∷ 105 ∷ 109 ∷ 105 ∷ 116 ∷ [])) (isNumberOrNone (fieldOf 1 l)) (both-true (isLimit l) _ e .0) .1)

@@ -17,10 +17,10 @@ use Rattle.mesh.specs.Mesh.{Triangle, Mesh}
 use Rattle.table.specs.Stored.{wordsOf, wordBytes, wordAt, signed}
 use Rattle.table.proofs.Words.{Word, words-wordBytes}
 use Rattle.mesh.specs.Rows.{rowBytes}
-use Rattle.fields.specs.Fields.{linesOf, fieldOf}
+use Rattle.fields.specs.Fields.{fieldOf}
 use Rattle.listing.specs.File.{recordOf, recordsOf, meshOf, triangleCount, cornerLimit, splitNumber, totalBytes, recordOffset, headerBroken}
 use Rattle.mesh_lines.specs.Lines.{isTriangle, triangleOf, triangleWords}
-use Rattle.mesh_text.specs.Text.{maxWritten, wrongLine, telling, firstLine, limitOf, splitNumberOf, trianglesOf, fileOf, fileOfText}
+use Rattle.mesh_text.specs.Text.{maxWritten, linesIn, wrongLine, telling, firstLine, limitOf, splitNumberOf, trianglesOf, fileOf, fileOfText}
 use Rattle.mesh_text.proofs.Writing.{length-file}
 use Rattle.mesh_text.proofs.Accepted.{few-triangles, right-text}
 use Rattle.mesh_read_back.specs.ReadBack.{ReadBack}
@@ -89,7 +89,7 @@ read-back text e =
     let l = limit-small (firstLine text) (r .0) in
     let s = split-small (fieldOf 2 (firstLine text)) in
     let n = few-triangles text e in
-    let h = all-triangles (drop 1 (telling (linesOf text))) (r .1) in
+    let h = all-triangles (drop 1 (telling (linesIn text))) (r .1) in
     let m = trianglesOf text in
     record {
       mesh = mesh-back (limitOf text) (splitNumberOf text) m l s n h;

@@ -10,11 +10,10 @@ use lib.ListN.{length, getD, drop}
 use Rattle.integers.specs.Lists.{All}
 use Rattle.integers.proofs.Order.{by-test}
 use Rattle.integers.proofs.Overlay.{length-overlay}
-use Rattle.fields.specs.Fields.{linesOf}
 use Rattle.mesh_lines.specs.Lines.{isPassedOver, isHead, isTriangle}
 use Rattle.mesh_text.specs.declared.Converted.{Converted}
 use Rattle.mesh_text.specs.declared.Converted.the-variants as converted
-use Rattle.mesh_text.specs.Text.{maxWritten, maxTelling, fileRoom, fits, wrongFrom, wrongLine, telling, limitOf, splitNumberOf, trianglesOf, fileOfText}
+use Rattle.mesh_text.specs.Text.{maxWritten, maxTelling, linesIn, fileRoom, fits, wrongFrom, wrongLine, telling, limitOf, splitNumberOf, trianglesOf, fileOfText}
 use Rattle.mesh_text.specs.Conversion.{tooLong, conversion, bytesConverted}
 use Rattle.mesh_text.proofs.Gatherings.{telling-passed, telling-more, wrong-passed, wrong-more, fits-few, fits-head, fits-triangle, true-false}
 use Rattle.mesh_text.proofs.Writing.{length-mesh, length-file}
@@ -50,7 +49,7 @@ few-lines k n (l ∷ ls) h w =
     (omega (arith, ap length (telling-more l ls e)), omega (arith, ap length (telling-more l ls e))))
 
 pub few-triangles : (text : List ℕ) → wrongLine text ≡ 0 → length (trianglesOf text) ≤ maxWritten
-few-triangles text e = omega (arith, length-mesh text, few-lines 0 0 (linesOf text) (omega arith) e)
+few-triangles text e = omega (arith, length-mesh text, few-lines 0 0 (linesIn text) (omega arith) e)
 
 -- ---- what they are
 
@@ -74,8 +73,8 @@ right-lines n (l ∷ ls) w =
     let m = right-more 0 n l ls e w in
     rw e (fits-head l (m .0), triangles-behind 0 (n + 1) ls (m .1)))
 
-pub right-text : (text : List ℕ) → wrongLine text ≡ 0 → (isHead (getD (telling (linesOf text)) 0 []) ≡ true) × All (λ l. isTriangle l ≡ true) (drop 1 (telling (linesOf text)))
-right-text text e = right-lines 0 (linesOf text) e
+pub right-text : (text : List ℕ) → wrongLine text ≡ 0 → (isHead (getD (telling (linesIn text)) 0 []) ≡ true) × All (λ l. isTriangle l ≡ true) (drop 1 (telling (linesIn text)))
+right-text text e = right-lines 0 (linesIn text) e
 
 -- ---- the file fits
 

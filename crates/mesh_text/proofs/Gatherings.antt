@@ -19,7 +19,7 @@ use Rattle.mesh_fields.specs.Put.{Put}
 use Rattle.mesh_lines.specs.Lines.{isPassedOver, isHead, headWords, isTriangle, triangleOf, triangleWords}
 use Rattle.mesh_text.specs.declared.Step.{Step}
 use Rattle.mesh_text.specs.declared.Reading.{Reading}
-use Rattle.mesh_text.specs.Text.{maxWritten, maxTelling, fits, wrongFrom, wrongLine, telling, lineWords}
+use Rattle.mesh_text.specs.Text.{maxWritten, maxTelling, markEnd, linesIn, fits, wrongFrom, wrongLine, telling, lineWords}
 use Rattle.mesh_text.specs.Gathering.{wordsFrom, Taken, Gathered, fewer}
 
 pub true-false : true ≡ false → ⊥
@@ -147,15 +147,25 @@ lines-at text at {e} h q =
 -- what holds where the lines before place `at`, of which `count` said something, are taken
 pub record Going (text old : List ℕ) (at line count : ℕ) (words : List ℕ) : Type 0 where
   pub judged : wrongLine text ≡ wrongFrom count line (linesOf (drop at text))
-  pub gathered : wordsFrom 0 (linesOf text) ≡ take (rowWidth * count - fewer) words ++ wordsFrom count (linesOf (drop at text))
-  pub lines : length (telling (linesOf text)) ≡ count + length (telling (linesOf (drop at text)))
+  pub gathered : wordsFrom 0 (linesIn text) ≡ take (rowWidth * count - fewer) words ++ wordsFrom count (linesOf (drop at text))
+  pub lines : length (telling (linesIn text)) ≡ count + length (telling (linesOf (drop at text)))
   pub few : count ≤ maxTelling
   pub near : line ≤ at
   pub within : at ≤ length text + 1
   pub as-many : length words ≡ length old
 
-pub going-begins : (text old : List ℕ) → Going text old 0 0 0 old
-going-begins text old = record { judged = refl; gathered = refl; lines = omega arith; few = omega arith; near = omega arith; within = omega arith; as-many = refl }
+pub going-begins : (text old : List ℕ) {at : ℕ} → at ≡ markEnd text → at ≤ length text → Going text old at 0 0 old
+going-begins text old {at} e h =
+    let q : length (telling (linesIn text)) ≡ length (telling (linesOf (drop at text))) = ap (λ m. length (telling (linesOf (drop m text)))) (sym e) in
+    record {
+      judged = ap (λ m. wrongFrom 0 0 (linesOf (drop m text))) (sym e);
+      gathered = ap (λ m. wordsFrom 0 (linesOf (drop m text))) (sym e);
+      lines = omega (arith, q);
+      few = omega arith;
+      near = omega arith;
+      within = omega arith;
+      as-many = refl;
+    }
 
 module _ {text old : List ℕ} {at line count : ℕ} {words : List ℕ} (g : Going text old at line count words) where
   module _ {new : List ℕ} {e : ℕ} {r : Step} (h : at < length text) (q : e ≡ at + runOf (inRun run.Line) (drop at text)) (u : e ≤ length text) (t : Taken (take (e - at) (drop at text)) count words new r) where

@@ -1,5 +1,5 @@
--- Laws: a text gathered line by line; what is written of it; a text that is accepted; what is told of one.
+-- Laws: the byte-order mark; a text gathered line by line; what is written of it; a text that is accepted.
+pub mod Mark
 pub mod Gatherings
 pub mod Writing
 pub mod Accepted
-pub mod Telling

@@ -15,13 +15,12 @@ use Rattle.table.specs.Stored.{wordBytes}
 use Rattle.table.proofs.Words.{length-wordBytes}
 use Rattle.table_words.specs.Place.{putWords}
 use Rattle.table_words.proofs.Places.{put-put, put-front}
-use Rattle.fields.specs.Fields.{linesOf}
 use Rattle.mesh.specs.Mesh.{Mesh}
 use Rattle.mesh.specs.Rows.{rowWidth, rowBytes}
 use Rattle.mesh_lines.specs.Lines.{isPassedOver, headWords, triangleOf, triangleWords}
 use Rattle.mesh_text.specs.declared.Reading.{Reading}
 use Rattle.mesh_text.specs.declared.Converted.the-variants as converted
-use Rattle.mesh_text.specs.Text.{wrongLine, telling, lineWords, trianglesOf, fileOf, fileOfText}
+use Rattle.mesh_text.specs.Text.{linesIn, wrongLine, telling, lineWords, trianglesOf, fileOf, fileOfText}
 use Rattle.mesh_text.specs.Gathering.{gatherRoom, wordsFrom, Gathered, fewer}
 use Rattle.mesh_text.specs.Conversion.{maxText, tooLong, conversion, bytesConverted}
 use Rattle.mesh_text.proofs.Gatherings.{telling-passed, telling-more, words-passed, words-more}
@@ -90,8 +89,8 @@ words-all (l ∷ ls) h =
 
 -- ---- the file
 
-pub length-mesh : (text : List ℕ) → length (trianglesOf text) ≡ length (telling (linesOf text)) - 1
-length-mesh text = length-map (drop 1 (telling (linesOf text))) triangleOf ∙ length-drop 1 (telling (linesOf text))
+pub length-mesh : (text : List ℕ) → length (trianglesOf text) ≡ length (telling (linesIn text)) - 1
+length-mesh text = length-map (drop 1 (telling (linesIn text))) triangleOf ∙ length-drop 1 (telling (linesIn text))
 
 flatten-words : (m : Mesh) → length (flatten (map triangleWords m)) ≡ rowWidth * length m
 unfolding flatten
@@ -118,7 +117,7 @@ module _ {text old words : List ℕ} {r : Reading} (g : Gathered text old words 
   unfolding fileOf
   file-words =
       let n : rowWidth * (r .count - 1) + 2 ≡ rowWidth * r .count - fewer = omega (arith, g .some z) in
-      let w = ap (λ k. take k words) n ∙ g .words z ∙ words-all (linesOf text) (omega (arith, g .some z, g .lines z)) in
+      let w = ap (λ k. take k words) n ∙ g .words z ∙ words-all (linesIn text) (omega (arith, g .some z, g .lines z)) in
       λ i. wordBytes ((20 + rowBytes * many i) ∷ many i ∷ 20 ∷ w i)
 
 -- ---- the answer

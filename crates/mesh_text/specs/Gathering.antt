@@ -5,11 +5,10 @@ use mathlib.Core.List.{List, [], _∷_, _++_}
 use Prim.Native.Nat.{ℕ, _+_, _*_, _-_, _≤_}
 use lib.ListN.{length, take}
 use Rattle.mesh.specs.Rows.{rowWidth}
-use Rattle.fields.specs.Fields.{linesOf}
 use Rattle.mesh_lines.specs.Lines.{isPassedOver}
 use Rattle.mesh_text.specs.declared.Step.{Step}
 use Rattle.mesh_text.specs.declared.Reading.{Reading}
-use Rattle.mesh_text.specs.Text.{maxWritten, maxTelling, wrongFrom, wrongLine, telling, lineWords}
+use Rattle.mesh_text.specs.Text.{maxWritten, maxTelling, linesIn, wrongFrom, wrongLine, telling, lineWords}
 
 -- the words of the longest text: two of the first line and nine a triangle
 abbrev pub gatherRoom : ℕ
@@ -35,8 +34,8 @@ pub record Taken (l : List ℕ) (k : ℕ) (old new : List ℕ) (r : Step) : Type
 -- what is gathered of a whole text
 pub record Gathered (text old new : List ℕ) (r : Reading) : Type 0 where
   pub judged : r .wrong ≡ wrongLine text
-  pub lines : r .wrong ≡ 0 → r .count ≡ length (telling (linesOf text))
-  pub words : r .wrong ≡ 0 → take (rowWidth * r .count - fewer) new ≡ wordsFrom 0 (linesOf text)
+  pub lines : r .wrong ≡ 0 → r .count ≡ length (telling (linesIn text))
+  pub words : r .wrong ≡ 0 → take (rowWidth * r .count - fewer) new ≡ wordsFrom 0 (linesIn text)
   pub some : r .wrong ≡ 0 → 1 ≤ r .count
   pub few : r .wrong ≡ 0 → r .count ≤ maxTelling
   pub as-many : length new ≡ length old

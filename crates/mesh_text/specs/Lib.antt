@@ -1,5 +1,4 @@
--- A mesh written by hand: what its text says and which line is wrong; what is gathered of it; what it is turned into; what is told of it.
+-- A mesh written by hand: what its text says and which line is wrong; what is gathered of it; what it is turned into.
 pub mod Text
 pub mod Gathering
 pub mod Conversion
-pub mod Told

@@ -9,9 +9,19 @@ use Rattle.mesh.specs.Mesh.{Mesh, maxTriangles}
 use Rattle.table.specs.Stored.{wordBytes}
 use Rattle.mesh.specs.Rows.{rowBytes}
 use Rattle.fields.specs.Fields.{linesOf, fieldOf}
-use Rattle.field_numbers.specs.Numbers.{valueOf}
-use Rattle.mesh_fields.specs.Entries.{splitOf}
+use Rattle.mesh_fields.specs.Entries.{numberOrNone, splitOf}
 use Rattle.mesh_lines.specs.Lines.{isPassedOver, isHead, headWords, isTriangle, triangleOf, triangleWords}
+
+-- ---- its lines
+
+-- where a text begins: behind the byte-order mark EF BB BF that some editors put first
+unfoldable pub markEnd : List ℕ → ℕ
+markEnd text =
+    cond (ltb (length text) 3) 0
+    (cond (eqb (getD text 0 0) 239) (cond (eqb (getD text 1 0) 187) (cond (eqb (getD text 2 0) 191) 3 0) 0) 0)
+
+abbrev pub linesIn : List ℕ → List (List ℕ)
+linesIn text = linesOf (drop (markEnd text) text)
 
 -- ---- the wrong line
 
@@ -34,7 +44,7 @@ wrongFrom k n [] = cond (eqb k 0) (n + 1) 0
 wrongFrom k n (l ∷ ls) = cond (isPassedOver l) (wrongFrom k (n + 1) ls) (cond (fits k l) (wrongFrom (k + 1) (n + 1) ls) (n + 1))
 
 abbrev pub wrongLine : List ℕ → ℕ
-wrongLine text = wrongFrom 0 0 (linesOf text)
+wrongLine text = wrongFrom 0 0 (linesIn text)
 
 -- ---- what the text says
 
@@ -44,16 +54,16 @@ telling [] = []
 telling (l ∷ ls) = cond (isPassedOver l) (telling ls) (l ∷ telling ls)
 
 abbrev pub firstLine : List ℕ → List ℕ
-firstLine text = getD (telling (linesOf text)) 0 []
+firstLine text = getD (telling (linesIn text)) 0 []
 
 abbrev pub limitOf : List ℕ → ℕ
-limitOf text = valueOf (fieldOf 1 (firstLine text))
+limitOf text = numberOrNone (fieldOf 1 (firstLine text))
 
 abbrev pub splitNumberOf : List ℕ → ℕ
 splitNumberOf text = splitOf (fieldOf 2 (firstLine text))
 
 abbrev pub trianglesOf : List ℕ → Mesh
-trianglesOf text = map triangleOf (drop 1 (telling (linesOf text)))
+trianglesOf text = map triangleOf (drop 1 (telling (linesIn text)))
 
 -- ---- the file
 

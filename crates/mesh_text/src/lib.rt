@@ -1,21 +1,18 @@
 // A mesh written by hand turned into a mesh file: `to_mesh_file`, of any bytes. Its answer and the lent bytes as it returns equal `conversion` and
 // `bytesConverted` of specs/Conversion.antt: a text that is not as a mesh is written is refused by its first wrong line and changes nothing. The words
-// are gathered line by line and written once the whole text is judged. `put_told` puts what is told of a refusal into lent bytes (specs/Told.antt). Leans on
-// mesh_lines, fields, table_write, table_words and text.
+// are gathered line by line and written once the whole text is judged. What is told of a refusal is mesh_told's. Leans on mesh_lines, fields, table_write
+// and table_words.
 ghost use mathlib.Core.Path.{_≡_};
 ghost use mathlib.Core.List.{_∷_};
 ghost use Prim.Native.Nat.{_+_, _*_, _-_, _≤_};
 ghost use lib.ListN.{length};
 ghost use Rattle.integers.specs.Lists.{overlay};
-ghost use Rattle.io.specs.Counts.{Counts};
 ghost use Rattle.table.specs.Stored.{wordBytes};
-ghost use Rattle.text.specs.Put.{PutText};
 ghost use Rattle.mesh.specs.Rows.{rowWidth, rowBytes};
 ghost use Rattle.mesh_fields.specs.Put.{Put};
-ghost use Rattle.mesh_text.specs.Text.{maxWritten, maxTelling, fileRoom, fits, lineWords};
+ghost use Rattle.mesh_text.specs.Text.{maxWritten, maxTelling, fileRoom, markEnd, fits, lineWords};
 ghost use Rattle.mesh_text.specs.Gathering.{gatherRoom, fewer, Taken, Gathered};
 ghost use Rattle.mesh_text.specs.Conversion.{maxText, conversion, bytesConverted};
-ghost use Rattle.mesh_text.specs.Told.{toldRoom, wrongTold, toldOf};
 use fields::Run;
 use mesh::ROW;
 use mesh::ROW_BYTES;
@@ -24,7 +21,7 @@ use mesh::ROW_BYTES;
 pub const MAX_TEXT: usize = 262144;
 
 // One triangle more than a mesh may have, so that fault 1 can be written.
-const MAX_WRITTEN: usize = mesh::MAX_TRIANGLES + 1;
+pub const MAX_WRITTEN: usize = mesh::MAX_TRIANGLES + 1;
 
 // The bytes of the header, behind which the records begin (document 01).
 const HEADER: usize = 20;
@@ -36,9 +33,6 @@ const GATHER_ROOM: usize = ROW * MAX_WRITTEN + 2;
 
 // How many words fewer the first line gives than a triangle's.
 const FEWER: usize = ROW - 2;
-
-// The bytes of the longest that is told of a text; a line's number has at most 20 digits.
-pub const TOLD_ROOM: usize = 172;
 
 // What a text was turned into: a file of so many bytes; or what it was refused by: its first wrong line, counted from 1, or its length.
 pub enum Converted {
@@ -57,6 +51,25 @@ pub struct Step {
 pub struct Reading {
     pub wrong: usize,
     pub count: usize,
+}
+
+// Where a text begins: behind the byte-order mark that some editors put first.
+pub fn mark_end(text: &[u8]) -> usize
+    ensures { λ r. ⌜ (r ≡ markEnd (now (text .entry))) × (r ≤ length (now (text .entry))) ⌝ }
+{
+    if text.len() < 3 {
+        return 0;
+    }
+    if text[0] != 239 {
+        return 0;
+    }
+    if text[1] != 187 {
+        return 0;
+    }
+    if text[2] != 191 {
+        return 0;
+    }
+    3
 }
 
 // Puts the words of line number `count` of those that say something: the first line's, or a triangle's.
@@ -102,7 +115,7 @@ fn gather(text: &[u8], words: &mut [u32]) -> Reading
     requires { ⌜ (gatherRoom ≤ length (now words)) × (length (now text) ≤ maxText) ⌝ }
     ensures { λ r. ⌜ Gathered (now (text .entry)) (now (words .entry)) (now (words .exit)) r ⌝ }
 {
-    let mut at = 0;
+    let mut at = mark_end(text);
     let mut line: usize = 0;
     let mut count: usize = 0;
     while at < text.len() {
@@ -161,31 +174,4 @@ pub fn to_mesh_file(text: &[u8], out: &mut [u8; FILE_ROOM]) -> Converted
     let count = read.count - 1;
     let size = ROW * count + 2;
     Converted::Written(write_file(count, &words[..size], out))
-}
-
-// Which line is wrong, and what a line looks like.
-fn put_wrong(line: usize, out: &mut [u8]) -> usize
-    requires { ⌜ toldRoom ≤ length (now out) ⌝ }
-    ensures { λ r. ⌜ PutText (wrongTold line) 0 (now (out .entry)) (now (out .exit)) r ⌝ }
-{
-    let number = text::put_word_decimal(b"line ", line as u64, out, 0);
-    let words = text::put_bytes(b" is not as a mesh is written\n", out, number);
-    text::put_bytes(
-        b"the first line: limit N ear|fan|centroid; then a line a triangle: (x,y) (x,y) (x,y) N N N, with none for no neighbour\n",
-        out,
-        words,
-    )
-}
-
-// Puts what is told of a text on the front of the lent bytes and answers how many bytes it has, none where a file was written. The last clause says again,
-// in io's words, that they stand within the lent ones, for a caller that lends them on.
-pub fn put_told(told: Converted, out: &mut [u8; TOLD_ROOM]) -> usize
-    ensures text { λ r. ⌜ PutText (toldOf told) 0 (now (out .entry)) (now (out .exit)) r ⌝ }
-    ensures counted { λ r. ⌜ Counts r (now (out .exit)) ⌝ }
-{
-    match told {
-        Converted::Written(_length) => 0,
-        Converted::Wrong(line) => put_wrong(line, out),
-        Converted::TooLong => text::put_bytes(b"the text is longer than 262,144 bytes\n", out, 0),
-    }
 }

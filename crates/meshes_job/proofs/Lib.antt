@@ -2,3 +2,5 @@
 pub mod Putting
 pub mod Making
 pub mod Refused
+pub mod ReadBack
+pub mod Printed

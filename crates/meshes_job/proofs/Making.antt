@@ -34,6 +34,14 @@ use Rattle.meshes_job.specs.Job.{operandWords, jobBytes, operationFault,
 use Rattle.meshes_job.specs.Putting.{OperandRoom, OperandPut, wordsFrom, JobRoom, JobPut}
 use Rattle.meshes_job.proofs.Putting.{put-kept, put-on, operand-length}
 
+-- ---- a file's operand has at most 2,048 parts and 6,144 corners
+
+pub few-held : (file : List ℕ) (u : Taken) {s : List ℕ} {c : List ℤ} → Held file u s c → (u .parts + 1 ≤ 2049) × (2 * u .corners ≤ 12288)
+unfolding cornersOf
+few-held file u {s} {c} h =
+    let w = split-table (strategyOf (splitNumber file)) (cornerLimit file) (meshOf file) (accepted-mesh file (h .accepted)) in
+    (omega (arith, length-take-le (u .parts + 1) s (h .starts-in), ap length (h .starts), length-starts (fileParts file), w .few-parts), omega (arith, length-take-le (2 * u .corners) c (h .corners-in), ap length (h .corners), length-numbers (flatten (fileParts file)), w .few-corners))
+
 -- ---- room for both operands
 
 module _ (op : ℕ) (lb : IntRect) (ls : List ℕ) (lc : List ℤ) (rb : IntRect) (rs : List ℕ) (rc : List ℤ) (old : List ℕ) (room : JobRoom ls lc rs rc old) where
@@ -119,17 +127,11 @@ module _ (bytes : List ℕ) where
     files-refused old h = refused old (k .fault ∙ sym (files-told z)) h
 
     module _ (y : t .fault ≡ 0) where
-      few-parts : (file : List ℕ) (u : Taken) {s : List ℕ} {c : List ℤ} → Held file u s c → (u .parts + 1 ≤ 2049) × (2 * u .corners ≤ 12288)
-      unfolding cornersOf
-      few-parts file u {s} {c} h =
-          let w = split-table (strategyOf (splitNumber file)) (cornerLimit file) (meshOf file) (accepted-mesh file (h .accepted)) in
-          (omega (arith, length-take-le (u .parts + 1) s (h .starts-in), ap length (h .starts), length-starts (fileParts file), w .few-parts), omega (arith, length-take-le (2 * u .corners) c (h .corners-in), ap length (h .corners), length-numbers (flatten (fileParts file)), w .few-corners))
-
       pub few-left-parts : (t .left .parts + 1 ≤ 2049) × (2 * t .left .corners ≤ 12288)
-      few-left-parts = few-parts (leftFile (drop 4 bytes)) (t .left) (k .left-held y)
+      few-left-parts = few-held (leftFile (drop 4 bytes)) (t .left) (k .left-held y)
 
       pub few-right-parts : (t .right .parts + 1 ≤ 2049) × (2 * t .right .corners ≤ 12288)
-      few-right-parts = few-parts (rightFile (drop 4 bytes)) (t .right) (k .right-held y)
+      few-right-parts = few-held (rightFile (drop 4 bytes)) (t .right) (k .right-held y)
 
       pub job-room : (old : List ℕ) → 114748 ≤ length old → JobRoom (take (t .left .parts + 1) ls) (take (2 * t .left .corners) lc) (take (t .right .parts + 1) rs) (take (2 * t .right .corners) rc) old
       job-room old h =

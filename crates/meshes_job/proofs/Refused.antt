@@ -2,11 +2,13 @@
 use mathlib.Core.Path.{_≡_, refl, sym, _∙_, ap}
 use mathlib.Core.Bool.{false, cond}
 use mathlib.Core.List.{List}
-use Prim.Native.Nat.{ℕ, zero, suc}
+use Prim.Native.Nat.{ℕ, zero, suc, _≤_}
 use native.Mathlib.Omega.{arith}
-use borrow.Author.Tests.{ne-eqb}
-use lib.Dec.{eqb}
-use lib.ListN.{drop}
+use borrow.Author.Tests.{ne-eqb, ltb-false}
+use lib.Dec.{eqb, ltb}
+use lib.ListN.{length, drop}
+use Rattle.integers.proofs.Faults.{first-none}
+use Rattle.table.specs.Stored.{wordAt}
 use Rattle.listing.specs.File.{fileFault}
 use Rattle.split_operand.proofs.Operand.{split-pairs}
 use Rattle.mesh_operand.proofs.Operand.{file-is-operand}
@@ -22,11 +24,18 @@ neither (suc a) b e =
     let h : suc a ≡ 0 = ap (λ t. cond t b (suc a)) (sym n) ∙ e in
     absurd (omega (arith, h))
 
-files-accepted : (bytes : List ℕ) → meshesFault bytes ≡ 0 → filesFault (drop 4 bytes) ≡ 0
+pub files-accepted : (bytes : List ℕ) → meshesFault bytes ≡ 0 → filesFault (drop 4 bytes) ≡ 0
 unfolding meshesFault
 files-accepted bytes e = neither (operationFault bytes) (filesFault (drop 4 bytes)) e .1
 
-both-accepted : (files : List ℕ) → filesFault files ≡ 0 → (fileFault (leftFile files) ≡ 0) × (fileFault (rightFile files) ≡ 0)
+pub operation-accepted : (bytes : List ℕ) → meshesFault bytes ≡ 0 → wordAt bytes 0 ≤ 1
+unfolding meshesFault operationFault
+operation-accepted bytes e =
+    let o = neither (operationFault bytes) (filesFault (drop 4 bytes)) e .0 in
+    let a = first-none 13 (ltb (length bytes) 4) _ (omega arith) o in
+    ltb-false 1 (wordAt bytes 0) (first-none 13 (ltb 1 (wordAt bytes 0)) _ (omega arith) (a .1) .0)
+
+pub both-accepted : (files : List ℕ) → filesFault files ≡ 0 → (fileFault (leftFile files) ≡ 0) × (fileFault (rightFile files) ≡ 0)
 unfolding filesFault
 both-accepted files e = neither (fileFault (leftFile files)) (fileFault (rightFile files)) e
 

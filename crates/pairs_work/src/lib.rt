@@ -81,7 +81,7 @@ fn pairs_fault(
 }
 
 // What the pairs of two operands answer before their lines; where there is no fault, the points have their numbers.
-fn begin_operands(
+pub fn begin_operands(
     operation: Operation,
     left_starts: &[u32],
     left_corners: &[i32],

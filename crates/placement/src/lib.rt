@@ -127,7 +127,7 @@ fn and_left(contour: &[i32], i: usize, k: usize, before: bool, s: i64) -> bool
 }
 
 // Where z lies by one contour.
-fn placed_in(contour: &[i32], z: IntPoint) -> Contact
+pub fn placed_in(contour: &[i32], z: IntPoint) -> Contact
     requires { ⌜ (offRange (now contour) ≡ false) × OnGrid z ⌝ }
     ensures { λ r. ⌜ r ≡ contactIn (point z) (pointsOf (now (contour .entry))) ⌝ }
 {

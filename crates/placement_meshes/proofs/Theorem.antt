@@ -41,7 +41,7 @@ use Rattle.placement.specs.Placement.{some, insideAt, strictlyInsideAt, contact
 use Rattle.placement.specs.declared.Placed.the-variants.{At}
 use Rattle.placement.proofs.Faults.{told-none}
 use Rattle.placement.proofs.Contours.{told-at}
-use Rattle.placement_meshes.specs.Rightly.{Rightly, PlacementTold}
+use Rattle.placement_meshes.specs.Rightly.{Rightly, DifferenceRightly, PlacementTold}
 use Rattle.placement_meshes.proofs.Tests.{inside-is, strictly-is}
 
 -- ---- some contour passes a test
@@ -94,6 +94,12 @@ module _ (L : List (List Pt)) (t : All Turning L) (z : Pt) where
 pairs-turning : (X Y : List (List Pt)) → All PartMeets X → All PartMeets Y → All Turning (pairsOf true X Y)
 pairs-turning X Y a b = pairs-all Turning true X Y (all-map X (λ A p. all-map Y (λ B r. sharp-round (pairContour true A B) (demand3 true A B (p .premise .1) (r .premise .1) .convex)) b) a)
 
+pub difference-rightly : DifferenceRightly
+difference-rightly how m mesh how′ m′ mesh′ h k z =
+    let X = splitParts how m mesh in
+    let Y = splitParts how′ m′ mesh′ in
+    told-rightly (pairsOf true X Y) (pairs-turning X Y (split-meets-premise how m mesh h) (split-meets-premise how′ m′ mesh′ k)) z mesh mesh′ (meshes-placed how m mesh how′ m′ mesh′ h k (pos 1) z (omega zarith))
+
 -- ---- the call
 
 -- no number of contours on the grid is out of range
@@ -121,6 +127,5 @@ placement-told how m mesh b how′ m′ mesh′ b′ s c h k f z g =
       answer =
           ap₂ (λ t d. placedOf t d z) (starts-left ps (pairCount l r) (pairsFault true l r (length s) (length c)) s c n f) (corners-left ps (pairCount l r) (pairsFault true l r (length s) (length c)) s c n f)
           ∙ answered ps z grid g;
-      rightly = subst (λ L. Rightly (contactBy z L) mesh mesh′ z) (sym same)
-          (told-rightly (pairsOf true X Y) (pairs-turning X Y (split-meets-premise how m mesh h) (split-meets-premise how′ m′ mesh′ k)) z mesh mesh′ (meshes-placed how m mesh how′ m′ mesh′ h k (pos 1) z (omega zarith)));
+      rightly = subst (λ L. Rightly (contactBy z L) mesh mesh′ z) (sym same) (difference-rightly how m mesh how′ m′ mesh′ h k z);
     }

@@ -1,4 +1,5 @@
--- What `placement` tells of the contours that an accepted difference of two accepted meshes leaves (`PlacementTold`). Assumes nothing.
+-- What a place tells by the contours of all pairs of the difference of two accepted meshes (`DifferenceRightly`), and so what `placement` tells of those that an accepted call leaves
+-- (`PlacementTold`). Assumes nothing.
 use mathlib.Core.Path.{_≡_}
 use mathlib.Core.Bool.{true}
 use mathlib.Core.List.{List}
@@ -11,7 +12,8 @@ use Rattle.plane.specs.Plane.{Pt, onGrid}
 use Rattle.mesh.specs.Mesh.{Mesh, meshKinds}
 use Rattle.table.specs.declared.IntRect.{IntRect}
 use Rattle.split.specs.declared.ConvexSplitStrategy.{ConvexSplitStrategy}
-use Rattle.minkowski.specs.Pairs.{Operand, pairsFault, pairsStarts, pairsCorners}
+use Rattle.split.specs.Splitting.{splitParts}
+use Rattle.minkowski.specs.Pairs.{Operand, pairsOf, pairsFault, pairsStarts, pairsCorners}
 use Rattle.minkowski_pairs.specs.Results.{pairCount}
 use Rattle.split_operand.specs.Operand.{splitOperand}
 use Rattle.cover.specs.Overlap.{Meet, Overlap}
@@ -20,7 +22,7 @@ use Rattle.cover_parts.specs.Parts.{triangleContour}
 use Rattle.placement.specs.declared.Contact.{Contact}
 use Rattle.placement.specs.declared.Contact.the-variants.{Apart, Touching, Overlapping}
 use Rattle.placement.specs.declared.Placed.the-variants.{At}
-use Rattle.placement.specs.Placement.{placedOf}
+use Rattle.placement.specs.Placement.{contactBy, placedOf}
 
 -- the second mesh, moved by z, meets the first: a triangle of each share a point; it overlaps it: they share a point strictly inside both
 abbrev pub Meets : Mesh → Mesh → Pt → Type 0
@@ -33,6 +35,12 @@ pub record Rightly (c : Contact) (mesh mesh′ : Mesh) (z : Pt) : Type 0 where
   pub overlapping : (c ≡ Overlapping) ↔ Overlaps mesh mesh′ z
   pub touching : (c ≡ Touching) ↔ (Meets mesh mesh′ z × (Overlaps mesh mesh′ z → ⊥))
   pub apart : (c ≡ Apart) ↔ (Meets mesh mesh′ z → ⊥)
+
+-- by the contours of all pairs of the difference of their split parts, for any limits, strategies and place
+abbrev pub DifferenceRightly : Type 0
+DifferenceRightly =
+    (how : ConvexSplitStrategy) (m : ℕ) (mesh : Mesh) (how′ : ConvexSplitStrategy) (m′ : ℕ) (mesh′ : Mesh) → firstFault (meshKinds mesh) ≡ 0 → firstFault (meshKinds mesh′) ≡ 0 →
+    (z : Pt) → Rightly (contactBy z (pairsOf true (splitParts how m mesh) (splitParts how′ m′ mesh′))) mesh mesh′ z
 
 -- the starts and the corners that a difference of l and r wrote on the front of lent ones, which held s and c: as many as it told
 abbrev pub startsLeft : Operand → Operand → List ℕ → List ℤ → List ℕ

@@ -20,7 +20,7 @@ use Rattle.split_operand.specs.Operand.{splitOperand}
 use Rattle.split_results.specs.Chain.{Exact, EveryContourExact}
 
 -- of two parts that meet the premise
-exact-pair : (reflected : Bool) (A B : List Pt) → PartMeets A → PartMeets B → Exact reflected A B (pairContour reflected A B)
+pub exact-pair : (reflected : Bool) (A B : List Pt) → PartMeets A → PartMeets B → Exact reflected A B (pairContour reflected A B)
 exact-pair reflected A B a b = record {
   whole = emitted reflected A B (a .premise .1) (b .premise .1);
   berg = λ e. ap (λ t. pairContour t A B) e ∙ sum-is-de-berg A B (inl (a .premise .0)) (inl (b .premise .0));

@@ -17,8 +17,8 @@ is-word-requires c κs = search needs
 field-requires-2 : tie.Need-field-requires-2
 field-requires-2 c κs = search needs
 
-number-requires : tie.Need-number-requires
-number-requires c κs = search needs
+number-or-none-requires : tie.Need-number-or-none-requires
+number-or-none-requires c κs = search needs
 
 put-reading-requires : tie.Need-put-reading-requires
 put-reading-requires c κs = search needs
@@ -33,7 +33,7 @@ returns c =
     let p2 = p3 .before .before in
     let p1 = p2 .before .before .before in
     limit-named (p1 .before .before .before .args .line .now) (p1 .field .ensures) (p2 .before .is-word .ensures) (p2 .if1 .taken)
-    (put-number-of (p3 .before .field2 .ensures) (p4 .put-reading .ensures) (p3 .number .ensures))
+    (put-number-of (p3 .before .field2 .ensures) (p4 .put-reading .ensures) (p3 .number-or-none .ensures))
 
 returns-2 : tie.Need-returns-2
 returns-2 c = put-wrong _ _ _ (not-named (c .before .before .before .before .before .before .args .line .now) (c .before .before .before .field .ensures) (c .before .is-word .ensures) (c .if1 .left))
@@ -46,7 +46,7 @@ put-limit-spec =
     slice-aggregate-is-word
     is-word-requires
     field-requires-2
-    number-requires
+    number-or-none-requires
     put-reading-requires
     same-length
     returns

@@ -13,8 +13,11 @@ Inv-loop text words₀ at₀ line₀ count₀ words at line count = Going text w
 abbrev μ-loop : tie.MeasureT-loop
 μ-loop text words₀ at₀ line₀ count₀ words at line count = length text - at
 
+mark-end-requires : tie.Need-mark-end-requires Inv-loop μ-loop
+mark-end-requires c κs = search needs
+
 loop-holds : tie.Need-loop-holds Inv-loop μ-loop
-loop-holds c = going-begins _ _
+loop-holds c = going-begins _ _ (c .mark-end .ensures .0) (c .mark-end .ensures .1)
 
 run-end-requires : tie.Need-run-end-requires Inv-loop μ-loop
 run-end-requires c κs = search needs
@@ -74,6 +77,7 @@ gather-spec =
     (tie.spec
     Inv-loop
     μ-loop
+    mark-end-requires
     loop-holds
     run-end-requires
     sub-take-line

@@ -21,6 +21,12 @@ slice-aggregate-to-mesh-file c = search needs
 to-mesh-file-requires : tie.Need-to-mesh-file-requires
 to-mesh-file-requires c κs = search needs
 
+array-share-prefix-text-2 : tie.Need-array-share-prefix-text-2
+array-share-prefix-text-2 c = search needs
+
+slice-aggregate-put-told : tie.Need-slice-aggregate-put-told
+slice-aggregate-put-told c = search needs
+
 put-told-requires : tie.Need-put-told-requires
 put-told-requires c κs = search needs
 
@@ -38,12 +44,12 @@ enum-known-told c = search needs
 
 array-share-prefix-file : tie.Need-array-share-prefix-file
 array-share-prefix-file c =
-    let f = c .before .before .before .before .before .before .before .to-mesh-file .ensures in
+    let f = c .before .before .before .before .before .before .before .before .to-mesh-file .ensures in
     written-within _ _ refl (f .0) (f .1) (c .before .told .given .1)
 
 slice-aggregate-write-output : tie.Need-slice-aggregate-write-output
 slice-aggregate-write-output c =
-    let f = c .before .before .before .before .before .before .before .before .to-mesh-file .ensures in
+    let f = c .before .before .before .before .before .before .before .before .before .to-mesh-file .ensures in
     sym (length-take-le _ _ (written-within _ _ refl (f .0) (f .1) (c .before .before .told .given .1)))
 
 write-output-requires : tie.Need-write-output-requires
@@ -64,6 +70,8 @@ main-spec =
     array-share-prefix-text
     slice-aggregate-to-mesh-file
     to-mesh-file-requires
+    array-share-prefix-text-2
+    slice-aggregate-put-told
     put-told-requires
     array-share-prefix-said
     slice-aggregate-write-all

@@ -1,0 +1,2 @@
+-- A place by the pairs of two operands.
+pub mod Place
