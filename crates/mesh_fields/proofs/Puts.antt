@@ -1,4 +1,5 @@
--- What a put leaves (`Put` of `specs/Put.antt`). In order: one word; nothing; one put after another; a put of a reading. Assumes nothing.
+-- What a put leaves (`Put` of `specs/Put.antt`). In order: one word; nothing; one put after
+-- another; a put of a reading. Assumes nothing.
 use mathlib.Core.Path.{_≡_, refl, sym, _∙_, ap, subst}
 use mathlib.Core.Bool.{Bool, true, false, cond}
 use mathlib.Core.List.{List, [], _∷_, _++_, append-assoc, append-nil}

@@ -1,4 +1,5 @@
--- The fields, by the tests that the code makes. In order: words; a number or none; splits; the comma of a point; points. Assumes nothing.
+-- The fields, by the tests that the code makes. In order: words; a number or none; splits; the
+-- comma of a point; points. Assumes nothing.
 use mathlib.Core.Path.{_≡_, refl, sym, _∙_, ap}
 use mathlib.Core.Bool.{Bool, true, false, cond}
 use mathlib.Core.Logic.{_⊎_, inl, inr, ⊎-elim}

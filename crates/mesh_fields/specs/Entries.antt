@@ -1,5 +1,5 @@
--- The fields of a mesh written by hand ("a first line `limit 0 ear` and then one line a triangle (three points, three neighbours or `none`)").
--- Assumes nothing.
+-- The fields of a mesh written by hand ("a first line `limit 0 ear` and then one line a triangle
+-- (three points, three neighbours or `none`)"). Assumes nothing.
 use mathlib.Core.Bool.{Bool, true, false, not, cond}
 use mathlib.Core.List.{List, [], _∷_}
 use Prim.Native.Nat.{ℕ, _+_, _-_}
@@ -34,8 +34,8 @@ isCentroid l = sameBytes l (99 ∷ 101 ∷ 110 ∷ 116 ∷ 114 ∷ 111 ∷ 105 �
 
 -- ---- a number or none
 
--- "three neighbours or `none`"; document 01: a neighbour is a u32, the greatest for none. A corner limit likewise: none, or any of 1,026 or more, leaves
--- every part whole
+-- "three neighbours or `none`"; document 01: a neighbour is a u32, the greatest for none. A corner
+-- limit likewise: none, or any of 1,026 or more, leaves every part whole
 unfoldable pub isNumberOrNone : List ℕ → Bool
 isNumberOrNone l = cond (isNone l) true (isNumber 4294967295 l)
 
@@ -57,7 +57,8 @@ splitOf l = cond (isEar l) 0 (cond (isFan l) 1 2)
 abbrev pub commaFrom : List ℕ → ℕ
 commaFrom l = 1 + runOf (inRun run.Comma) (drop 1 l)
 
--- the comma's place in a field that opens with `(`, ends with `)` and has a comma between; 0 in another
+-- the comma's place in a field that opens with `(`, ends with `)` and has a comma between; 0 in
+-- another
 unfoldable pub commaOf : List ℕ → ℕ
 commaOf l =
     cond (eqb (getD l 0 0) 40) (cond (eqb (getD l (length l - 1) 0) 41) (cond (ltb (commaFrom l) (length l - 1)) (commaFrom l) 0) 0) 0

@@ -1,6 +1,8 @@
-// The fields of a mesh that is written by hand: a point, a number or `none`, a split, each read and its 32-bit words put at a place of lent words, as the mesh
-// file has them. Each equals its definition in specs/Entries.antt, of any bytes; what a put leaves is `Put` of specs/Put.antt: a field that is wrong
-// is told by false. An inner layer of mesh_lines: callers show that there is room. Leans on field_numbers and fields.
+// The fields of a mesh that is written by hand: a point, a number or `none`, a split, each read and
+// its 32-bit words put at a place of lent words, as the mesh file has them. Each equals its
+// definition in specs/Entries.antt, of any bytes; what a put leaves is `Put` of specs/Put.antt: a
+// field that is wrong is told by false. An inner layer of mesh_lines: callers show that there is
+// room. Leans on field_numbers and fields.
 ghost use mathlib.Core.Path.{_≡_};
 ghost use mathlib.Core.List.{[], _∷_};
 ghost use mathlib.Core.Logic.{_⊎_};

@@ -1,5 +1,6 @@
--- The lines of a mesh written by hand, by the tests and the puts that the code makes. In order: a line's end; lines passed over; a field's put; the first
--- line; three puts in turn. Assumes nothing.
+-- The lines of a mesh written by hand, by the tests and the puts that the code makes. In order: a
+-- line's end; lines passed over; a field's put; the first line; three puts in turn. Assumes
+-- nothing.
 use mathlib.Core.Path.{_≡_, refl, sym, _∙_, ap, subst}
 use mathlib.Core.Bool.{Bool, true, false, cond}
 use mathlib.Core.List.{List, [], _∷_, _++_}

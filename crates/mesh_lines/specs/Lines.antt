@@ -1,5 +1,5 @@
--- The lines of a mesh written by hand ("a first line `limit 0 ear` and then one line a triangle (three points, three neighbours or `none`)").
--- Assumes nothing.
+-- The lines of a mesh written by hand ("a first line `limit 0 ear` and then one line a triangle
+-- (three points, three neighbours or `none`)"). Assumes nothing.
 use mathlib.Core.Bool.{Bool, true, false, cond}
 use mathlib.Core.List.{List, [], _∷_, _++_}
 use Prim.Native.Nat.{ℕ}

@@ -1,6 +1,8 @@
-// The lines of a mesh that is written by hand: whether a line is passed over, and the first line's and a triangle's words put at a place of lent words, as
-// the mesh file has them. Each equals its definition in specs/Lines.antt, of any bytes; a line that is not as it should be is told by false. An inner
-// layer of mesh_text: callers show that there is room. Leans on mesh_fields and fields.
+// The lines of a mesh that is written by hand: whether a line is passed over, and the first line's
+// and a triangle's words put at a place of lent words, as the mesh file has them. Each equals its
+// definition in specs/Lines.antt, of any bytes; a line that is not as it should be is told by
+// false. An inner layer of mesh_text: callers show that there is room. Leans on mesh_fields and
+// fields.
 ghost use mathlib.Core.Path.{_≡_};
 ghost use mathlib.Core.List.{[], _∷_};
 ghost use Prim.Native.Nat.{_+_, _≤_};

@@ -1,4 +1,5 @@
--- A text that is accepted: how many of its lines say something, and what they are; that its file fits. Assumes nothing.
+-- A text that is accepted: how many of its lines say something, and what they are; that its file
+-- fits. Assumes nothing.
 use mathlib.Core.Path.{_≡_, refl, sym, _∙_, ap}
 use mathlib.Core.Bool.{Bool, true, false, cond}
 use mathlib.Core.List.{List, [], _∷_}

@@ -1,5 +1,6 @@
--- A text gathered line by line (`specs/Gathering.antt`). In order: a line that is passed over and one that says something; a line taken (`Taken`); the
--- whole text (`Going`, what the loop keeps). Assumes nothing.
+-- A text gathered line by line (`specs/Gathering.antt`). In order: a line that is passed over and
+-- one that says something; a line taken (`Taken`); the whole text (`Going`, what the loop keeps).
+-- Assumes nothing.
 use mathlib.Core.Path.{_≡_, refl, sym, _∙_, ap, subst}
 use mathlib.Core.Bool.{Bool, true, false, cond}
 use mathlib.Core.List.{List, [], _∷_, _++_, append-assoc, append-nil}

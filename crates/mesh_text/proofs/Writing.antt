@@ -1,5 +1,5 @@
--- The file of a text as the code writes it. In order: the words one after another; the words that were gathered are the file's (`file-words`); the answer.
--- Assumes nothing.
+-- The file of a text as the code writes it. In order: the words one after another; the words that
+-- were gathered are the file's (`file-words`); the answer. Assumes nothing.
 use mathlib.Core.Path.{_≡_, refl, sym, _∙_, ap}
 use mathlib.Core.Bool.{Bool, true, false, cond}
 use mathlib.Core.List.{List, [], _∷_, _++_, map, flatten}

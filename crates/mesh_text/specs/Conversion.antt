@@ -1,4 +1,5 @@
--- What turning a text into a mesh file answers, and what the lent bytes hold as it returns. Assumes nothing.
+-- What turning a text into a mesh file answers, and what the lent bytes hold as it returns. Assumes
+-- nothing.
 use mathlib.Core.Bool.{Bool, cond}
 use mathlib.Core.List.{List}
 use Prim.Native.Nat.{ℕ}
@@ -9,7 +10,8 @@ use Rattle.mesh_text.specs.declared.Converted.{Converted}
 use Rattle.mesh_text.specs.declared.Converted.the-variants as converted
 use Rattle.mesh_text.specs.Text.{wrongLine, fileOfText}
 
--- a text of more bytes is not read; the most triangles, written with no byte to spare, take less than half of it
+-- a text of more bytes is not read; the most triangles, written with no byte to spare, take less
+-- than half of it
 abbrev pub maxText : ℕ
 maxText = 262144
 

@@ -23,7 +23,8 @@ unfoldable pub wordsFrom : ℕ → List (List ℕ) → List ℕ
 wordsFrom k [] = []
 wordsFrom k (l ∷ ls) = cond (isPassedOver l) (wordsFrom k ls) (lineWords k l ++ wordsFrom (k + 1) ls)
 
--- what taking line l does, whatever lines ls follow: behind k lines rowWidth * k - fewer words are gathered
+-- what taking line l does, whatever lines ls follow: behind k lines rowWidth * k - fewer words are
+-- gathered
 pub record Taken (l : List ℕ) (k : ℕ) (old new : List ℕ) (r : Step) : Type 0 where
   pub judged : (n : ℕ) (ls : List (List ℕ)) → wrongFrom k n (l ∷ ls) ≡ cond (r .right) (wrongFrom (r .count) (n + 1) ls) (n + 1)
   pub words : r .right ≡ true → (ls : List (List ℕ)) → take (rowWidth * k - fewer) old ++ wordsFrom k (l ∷ ls) ≡ take (rowWidth * r .count - fewer) new ++ wordsFrom (r .count) ls

@@ -1,5 +1,6 @@
--- A mesh written by hand ("a first line `limit 0 ear` and then one line a triangle (three points, three neighbours or `none`) .. with a refusal
--- that names the line where the text is wrong"). Assumes nothing.
+-- A mesh written by hand ("a first line `limit 0 ear` and then one line a triangle (three points,
+-- three neighbours or `none`) .. with a refusal that names the line where the text is wrong").
+-- Assumes nothing.
 use mathlib.Core.Bool.{Bool, false, cond}
 use mathlib.Core.List.{List, [], _∷_, _++_, map, flatten}
 use Prim.Native.Nat.{ℕ, _+_, _*_}
@@ -25,7 +26,8 @@ linesIn text = linesOf (drop (markEnd text) text)
 
 -- ---- the wrong line
 
--- a text may have one triangle more than a mesh: its file is refused with 1, so that this fault can be written by hand too
+-- a text may have one triangle more than a mesh: its file is refused with 1, so that this fault can
+-- be written by hand too
 abbrev pub maxWritten : ℕ
 maxWritten = maxTriangles + 1
 
@@ -33,12 +35,13 @@ maxWritten = maxTriangles + 1
 abbrev pub maxTelling : ℕ
 maxTelling = maxWritten + 1
 
--- whether a line may stand behind k that say something: the first line behind none, then so many triangles
+-- whether a line may stand behind k that say something: the first line behind none, then so many
+-- triangles
 unfoldable pub fits : ℕ → List ℕ → Bool
 fits k l = cond (eqb k 0) (isHead l) (cond (ltb maxWritten k) false (isTriangle l))
 
--- the number of the first line that is wrong, 0 for none, of lines behind n others of which k said something; without a first line it is the one
--- behind the last
+-- the number of the first line that is wrong, 0 for none, of lines behind n others of which k said
+-- something; without a first line it is the one behind the last
 unfoldable pub wrongFrom : ℕ → ℕ → List (List ℕ) → ℕ
 wrongFrom k n [] = cond (eqb k 0) (n + 1) 0
 wrongFrom k n (l ∷ ls) = cond (isPassedOver l) (wrongFrom k (n + 1) ls) (cond (fits k l) (wrongFrom (k + 1) (n + 1) ls) (n + 1))
@@ -71,7 +74,8 @@ trianglesOf text = map triangleOf (drop 1 (telling (linesIn text)))
 abbrev pub fileRoom : ℕ
 fileRoom = 20 + rowBytes * maxWritten
 
--- "a header of five little-endian u32 (total bytes, triangle count, offset of records, corner limit, split ..), then records of six i32 .. and three u32"
+-- "a header of five little-endian u32 (total bytes, triangle count, offset of records, corner
+-- limit, split ..), then records of six i32 .. and three u32"
 unfoldable pub fileOf : ℕ → ℕ → Mesh → List ℕ
 fileOf limit split mesh = wordBytes ((20 + rowBytes * length mesh) ∷ length mesh ∷ 20 ∷ limit ∷ split ∷ flatten (map triangleWords mesh))
 

@@ -1,7 +1,8 @@
-// A mesh written by hand turned into a mesh file: `to_mesh_file`, of any bytes. Its answer and the lent bytes as it returns equal `conversion` and
-// `bytesConverted` of specs/Conversion.antt: a text that is not as a mesh is written is refused by its first wrong line and changes nothing. The words
-// are gathered line by line and written once the whole text is judged. What is told of a refusal is mesh_told's. Leans on mesh_lines, fields, table_write
-// and table_words.
+// A mesh written by hand turned into a mesh file: `to_mesh_file`, of any bytes. Its answer and the
+// lent bytes as it returns equal `conversion` and `bytesConverted` of specs/Conversion.antt: a text
+// that is not as a mesh is written is refused by its first wrong line and changes nothing. The
+// words are gathered line by line and written once the whole text is judged. What is told of a
+// refusal is mesh_told's. Leans on mesh_lines, fields, table_write and table_words.
 ghost use mathlib.Core.Path.{_≡_};
 ghost use mathlib.Core.List.{_∷_};
 ghost use Prim.Native.Nat.{_+_, _*_, _-_, _≤_};
@@ -17,7 +18,8 @@ use fields::Run;
 use mesh::ROW;
 use mesh::ROW_BYTES;
 
-// The longest text that is read: the most triangles, written with no byte to spare, take less than half of it.
+// The longest text that is read: the most triangles, written with no byte to spare, take less than
+// half of it.
 pub const MAX_TEXT: usize = 262144;
 
 // One triangle more than a mesh may have, so that fault 1 can be written.
@@ -26,7 +28,8 @@ pub const MAX_WRITTEN: usize = mesh::MAX_TRIANGLES + 1;
 // The bytes of the header, behind which the records begin (document 01).
 const HEADER: usize = 20;
 
-// The bytes of the longest file, and the words of it that are gathered: two of the first line, and each triangle's.
+// The bytes of the longest file, and the words of it that are gathered: two of the first line, and
+// each triangle's.
 pub const FILE_ROOM: usize = HEADER + ROW_BYTES * MAX_WRITTEN;
 
 const GATHER_ROOM: usize = ROW * MAX_WRITTEN + 2;
@@ -34,7 +37,8 @@ const GATHER_ROOM: usize = ROW * MAX_WRITTEN + 2;
 // How many words fewer the first line gives than a triangle's.
 const FEWER: usize = ROW - 2;
 
-// What a text was turned into: a file of so many bytes; or what it was refused by: its first wrong line, counted from 1, or its length.
+// What a text was turned into: a file of so many bytes; or what it was refused by: its first wrong
+// line, counted from 1, or its length.
 pub enum Converted {
     Written(usize),
     Wrong(usize),
@@ -72,7 +76,8 @@ pub fn mark_end(text: &[u8]) -> usize
     3
 }
 
-// Puts the words of line number `count` of those that say something: the first line's, or a triangle's.
+// Puts the words of line number `count` of those that say something: the first line's, or a
+// triangle's.
 fn put_line(line: &[u8], count: usize, words: &mut [u32]) -> bool
     requires { ⌜ gatherRoom ≤ length (now words) ⌝ }
     ensures { λ r. ⌜ Put (fits count (now (line .entry))) (lineWords count (now (line .entry))) (rowWidth * count - fewer) (now (words .entry))
@@ -144,7 +149,8 @@ fn gather(text: &[u8], words: &mut [u32]) -> Reading
     }
 }
 
-// Writes the file of so many triangles whose words from the corner limit on are gathered; answers how many bytes it has.
+// Writes the file of so many triangles whose words from the corner limit on are gathered; answers
+// how many bytes it has.
 fn write_file(count: usize, gathered: &[u32], out: &mut [u8]) -> usize
     requires { ⌜ (count ≤ maxWritten) × (length (now gathered) ≡ rowWidth * count + 2) × (fileRoom ≤ length (now out)) ⌝ }
     ensures told { λ r. ⌜ r ≡ 20 + rowBytes * count ⌝ }
@@ -158,7 +164,8 @@ fn write_file(count: usize, gathered: &[u32], out: &mut [u8]) -> usize
     total
 }
 
-// Turns a text into a mesh file on the front of the lent bytes. Refuses a text that is too long, and then by its first wrong line, before the first store.
+// Turns a text into a mesh file on the front of the lent bytes. Refuses a text that is too long,
+// and then by its first wrong line, before the first store.
 pub fn to_mesh_file(text: &[u8], out: &mut [u8; FILE_ROOM]) -> Converted
     ensures told { λ r. ⌜ r ≡ conversion (now (text .entry)) ⌝ }
     ensures bytes { λ r. ⌜ now (out .exit) ≡ bytesConverted (now (text .entry)) (now (out .entry)) ⌝ }

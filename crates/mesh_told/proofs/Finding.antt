@@ -1,4 +1,5 @@
--- A line found by its number (`Sought`): what the loop keeps (`Seeking`), and how it begins, goes on and ends. Assumes nothing.
+-- A line found by its number (`Sought`): what the loop keeps (`Seeking`), and how it begins, goes
+-- on and ends. Assumes nothing.
 use mathlib.Core.Path.{_≡_, refl, sym, _∙_, ap}
 use mathlib.Core.Bool.{Bool, true, false, cond}
 use mathlib.Core.List.{List, [], _∷_}

@@ -1,6 +1,8 @@
--- What is told of a text, by the pieces that the code puts. In order: a field shown; lengths (`standing-room`, `should-room`, `said-room`, `at-room`,
--- `wrong-room`); what stands and what should, put (`put-ends`, `put-quoted`, `put-many`, `put-pieces`); a wrong line put (`wrong-pieces`); by what the
--- text was turned into (`told-written`, `told-wrong`, `told-long`). Assumes nothing.
+-- What is told of a text, by the pieces that the code puts. In order: a field shown; lengths
+-- (`standing-room`, `should-room`, `said-room`, `at-room`, `wrong-room`); what stands and what
+-- should, put (`put-ends`, `put-quoted`, `put-many`, `put-pieces`); a wrong line put
+-- (`wrong-pieces`); by what the text was turned into (`told-written`, `told-wrong`, `told-long`).
+-- Assumes nothing.
 use mathlib.Core.Path.{_≡_, refl, sym, _∙_, ap}
 use mathlib.Core.Bool.{Bool, true, false, cond}
 use mathlib.Core.List.{List, [], _∷_, _++_}

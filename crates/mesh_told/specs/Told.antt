@@ -1,5 +1,5 @@
--- What is told of a text: nothing where it was turned into a file, else what it was refused by: the first wrong line, what stands there and what should.
--- Assumes nothing.
+-- What is told of a text: nothing where it was turned into a file, else what it was refused by: the
+-- first wrong line, what stands there and what should. Assumes nothing.
 use mathlib.Core.Bool.{cond}
 use mathlib.Core.List.{List, [], _∷_, _++_}
 use Prim.Native.Nat.{ℕ, _+_, _-_}
@@ -108,7 +108,8 @@ should wanted.End = endWord
 
 -- ---- a wrong line
 
--- a line behind k that say something: a triangle too many, or its first field that is not what it should be
+-- a line behind k that say something: a triangle too many, or its first field that is not what it
+-- should be
 unfoldable pub saidOf : ℕ → List ℕ → List ℕ
 saidOf k l =
     cond (ltb maxWritten k) manyWord (standing (fieldOf (wrongField k l) l) ++ should (wantedAt k (wrongField k l)))
@@ -117,7 +118,8 @@ saidOf k l =
 abbrev pub says : List ℕ → ℕ
 says l = cond (isPassedOver l) 0 1
 
--- of line n of these, counted from 1, behind k lines that say something; where there is none, the text ends before its first line
+-- of line n of these, counted from 1, behind k lines that say something; where there is none, the
+-- text ends before its first line
 unfoldable pub saidAt : ℕ → ℕ → List (List ℕ) → List ℕ
 saidAt n k [] = textEndsWord
 saidAt n k (l ∷ ls) = cond (ltb n 2) (saidOf k l) (saidAt (n - 1) (k + says l) ls)

@@ -1,7 +1,7 @@
-// What is told of a text that was to be turned into a mesh file: nothing where it was, else which line is wrong, what
-// stands there and what should; or that it is too long. `put_told` puts it into lent bytes; what it puts is `toldOf`
-// of specs/Told.antt, of any text and any answer of to_mesh_file. Leans on mesh_wrong, mesh_text, mesh_lines, fields
-// and text.
+// What is told of a text that was to be turned into a mesh file: nothing where it was, else which
+// line is wrong, what stands there and what should; or that it is too long. `put_told` puts it into
+// lent bytes; what it puts is `toldOf` of specs/Told.antt, of any text and any answer of
+// to_mesh_file. Leans on mesh_wrong, mesh_text, mesh_lines, fields and text.
 ghost use mathlib.Core.Path.{_≡_};
 ghost use mathlib.Core.Bool.{true, cond};
 ghost use Prim.Native.Nat.{_+_, _≤_};
@@ -142,9 +142,9 @@ fn put_wrong(text: &[u8], number: usize, out: &mut [u8]) -> usize
     text::put_bytes(b"the text ends where limit should\n", out, at)
 }
 
-// Puts what is told of a text on the front of the lent bytes and answers how many bytes it has, none where a file was
-// written. The last clause says again, in io's words, that they stand within the lent ones, for a caller that lends
-// them on.
+// Puts what is told of a text on the front of the lent bytes and answers how many bytes it has,
+// none where a file was written. The last clause says again, in io's words, that they stand within
+// the lent ones, for a caller that lends them on.
 pub fn put_told(told: Converted, text: &[u8], out: &mut [u8; TOLD_ROOM]) -> usize
     ensures text { λ r. ⌜ PutText (toldOf told (now (text .entry))) 0 (now (out .entry)) (now (out .exit)) r ⌝ }
     ensures counted { λ r. ⌜ Counts r (now (out .exit)) ⌝ }

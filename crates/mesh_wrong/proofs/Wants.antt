@@ -1,5 +1,5 @@
--- What a field should be, by the tests that the code makes. In order: of the first line; of a triangle's; a reading's answer; one field after
--- another. Assumes nothing.
+-- What a field should be, by the tests that the code makes. In order: of the first line; of a
+-- triangle's; a reading's answer; one field after another. Assumes nothing.
 use mathlib.Core.Path.{_≡_, refl, sym, _∙_, ap}
 use mathlib.Core.Bool.{Bool, true, false, cond}
 use mathlib.Core.List.{List}

@@ -1,5 +1,6 @@
--- What the fields of a line of a mesh as text should be ("a first line `limit 0 ear` and then one line a triangle (three points, three neighbours or
--- `none`)"), and the first of a line that is not. Assumes nothing.
+-- What the fields of a line of a mesh as text should be ("a first line `limit 0 ear` and then one
+-- line a triangle (three points, three neighbours or `none`)"), and the first of a line that is
+-- not. Assumes nothing.
 use mathlib.Core.Bool.{Bool, cond}
 use mathlib.Core.List.{List, [], _∷_}
 use Prim.Native.Nat.{ℕ, zero, suc, _+_}
@@ -10,8 +11,8 @@ use Rattle.mesh_fields.specs.Entries.{sameBytes, isPoint, isNumberOrNone, isSpl
 use Rattle.mesh_wrong.specs.declared.Wanted.{Wanted}
 use Rattle.mesh_wrong.specs.declared.Wanted.the-variants as wanted
 
--- field j of a line behind k that say something: of the first line `limit`, the corner limit and the split, of others three points and three neighbours;
--- then nothing
+-- field j of a line behind k that say something: of the first line `limit`, the corner limit and
+-- the split, of others three points and three neighbours; then nothing
 unfoldable pub wantedAt : ℕ → ℕ → Wanted
 wantedAt k j =
     cond (eqb k 0) (cond (eqb j 0) wanted.Name (cond (eqb j 1) wanted.Limit (cond (eqb j 2) wanted.Split wanted.End)))

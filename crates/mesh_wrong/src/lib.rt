@@ -1,11 +1,12 @@
-// Which field of a wrong line of a mesh as text is wrong: what each field of a line should be, and the first that is
-// not. Each function equals its definition in specs/Wanted.antt, of any bytes. An inner layer of mesh_told. Leans on
-// mesh_fields and fields.
+// Which field of a wrong line of a mesh as text is wrong: what each field of a line should be, and
+// the first that is not. Each function equals its definition in specs/Wanted.antt, of any bytes. An
+// inner layer of mesh_told. Leans on mesh_fields and fields.
 ghost use mathlib.Core.Path.{_≡_};
 ghost use Rattle.mesh_fields.specs.Entries.{isPoint};
 ghost use Rattle.mesh_wrong.specs.Wanted.{wantedAt, isWanted, wrongField};
 
-// What stands in a line: the word `limit`, the corner limit, the split, a point, a neighbour, nothing more.
+// What stands in a line: the word `limit`, the corner limit, the split, a point, a neighbour,
+// nothing more.
 pub enum Wanted {
     Name,
     Limit,

@@ -1,4 +1,5 @@
--- `mesh_text::gather` meets its contract. The loop's invariant: `Going` of Gatherings. Assumes nothing.
+-- `mesh_text::gather` meets its contract. The loop's invariant: `Going` of Gatherings. Assumes
+-- nothing.
 use Prim.Native.Nat.{_-_}
 use native.Mathlib.Omega.{arith}
 use borrow.Author.Needs.{needs}

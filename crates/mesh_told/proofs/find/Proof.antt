@@ -1,4 +1,5 @@
--- `mesh_told::find` meets its contract. The loop's invariant: `Seeking` of Finding. Assumes nothing.
+-- `mesh_told::find` meets its contract. The loop's invariant: `Seeking` of Finding. Assumes
+-- nothing.
 use Prim.Native.Nat.{_-_}
 use native.Mathlib.Omega.{arith}
 use borrow.Author.Needs.{needs}

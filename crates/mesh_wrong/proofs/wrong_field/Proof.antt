@@ -1,4 +1,5 @@
--- `mesh_wrong::wrong_field` meets its contract. The loop's invariant: the first wrong field is the first from field j on. Assumes nothing.
+-- `mesh_wrong::wrong_field` meets its contract. The loop's invariant: the first wrong field is the
+-- first from field j on. Assumes nothing.
 use mathlib.Core.Path.{_≡_, refl, sym, ap, _∙_}
 use Prim.Native.Nat.{_-_, _≤_}
 use native.Mathlib.Omega.{arith}
