@@ -140,7 +140,8 @@ def mesh(rows, limit=0, split=0):
 
 
 def start():
-    # Chromium leaves a few files in its home and among temporary ones; a socket is among these, whose path may have 107 bytes, so that it is told from here
+    # Chromium leaves a few files in its home and among temporary ones; a socket is among these,
+    # whose path may have 107 bytes, so that it is told from here
     for folder in ["home", "saved"]:
         (TEMP / folder).mkdir(exist_ok=True)
     os.environ.update({name: str(TEMP / "home") for name in ["HOME", "XDG_CONFIG_HOME", "XDG_CACHE_HOME"]}, TMPDIR=".")
@@ -636,7 +637,8 @@ class Viewer(unittest.TestCase):
                 corner = (left if dx > 0 else right, bottom if dy > 0 else top)
                 self.assertNotEqual(self.pixel(corner[0] + dx, corner[1] - dy), white)
                 self.assertEqual(self.pixel(corner[0] - dx, corner[1] + dy), white)
-        # two units to the left, on the same height, is the other square, and between them there is nothing
+        # two units to the left, on the same height, is the other square, and between them there is
+        # nothing
         self.js("state.view.x -= 2; state.view.scale = 100")
         self.assertNotEqual(self.pixel(*self.place(FAR - 2.5, FAR - 0.5)), white)
         self.assertEqual(self.pixel(*self.place(FAR - 1.5, FAR - 0.5)), white)
@@ -771,7 +773,8 @@ class Viewer(unittest.TestCase):
         self.vamp()
         self.assertEqual(self.text("#verdict"), "overlapping at (0,0)")
         seen = set()
-        # in the throat; with an edge on the throat's; with a corner on the vamp's outer edge; on the vamp
+        # in the throat; with an edge on the throat's; with a corner on the vamp's outer edge; on
+        # the vamp
         for x, y, word in [(0, -90, "apart"), (0, -15, "touching"), (150, -20, "touching"), (-70, 70, "overlapping")]:
             self.assertEqual(self.settled(x, y), f"{word} at ({x},{y})")
             self.assertIn(f"right piece {word} at ({x},{y})", self.labels())
@@ -817,7 +820,8 @@ class Viewer(unittest.TestCase):
         chance = random.Random(3)
         wrong = 0
         for _ in range(40):
-            # from (-FAR, -FAR) an edge (p, q), and the two whole-number points whose doubled areas with it are -1 and 1
+            # from (-FAR, -FAR) an edge (p, q), and the two whole-number points whose doubled areas
+            # with it are -1 and 1
             p, q = (chance.randint(FAR, 2 * FAR) | 1 for _ in range(2))
             try:
                 u = pow(q, -1, p)
@@ -975,7 +979,8 @@ class Viewer(unittest.TestCase):
                 self.assertEqual(self.rows(), [[f"1 {j}", "3", str(len(b)), str(len(minkowski(STRAP[1], b, -1)))] for j, b in enumerate(BUCKLE)])
 
     def test_the_tables_of_a_pair_job_beside_its_contours_make_its_picture(self):
-        # the job is its operation, then twice four bounds and a table, each of the length that its counts give
+        # the job is its operation, then twice four bounds and a table, each of the length that its
+        # counts give
         parts, corners = struct.unpack_from("<2I", VAMP_JOB, 20)
         end = 20 + 8 + 4 * (parts + 1) + 8 * corners
         self.drop(vamp__tab=VAMP_JOB[20:end], tab__tab=VAMP_JOB[end + 16:], c=VAMP_CONTOURS)
@@ -1070,7 +1075,8 @@ class Viewer(unittest.TestCase):
             self.assertEqual(self.js("return [state.match.operation, canPlace()]"), [told, told != "sum"])
         wanted = [word_of([minkowski(a, rectangle[0], -1) for a in STRAP], x, y) for x, y in [(0, 12), (0, 11), (0, 10)]]
         self.assertEqual(self.words([[0, 12], [0, 11], [0, 10]]), wanted)
-        # of triangles alone by how far they reach; a clasp, open to the right, reaches as far as a square, and does not tell it
+        # of triangles alone by how far they reach; a clasp, open to the right, reaches as far as a
+        # square, and does not tell it
         clasp = [[(-4, -4), (4, -4), (4, -3), (-4, -3)], [(-4, -3), (-3, -3), (-3, 3), (-4, 3)], [(-4, 3), (4, 3), (4, 4), (-4, 4)]]
         for right, sign, told in [(triangle, 1, "sum"), (triangle, -1, "difference"), (clasp, 1, None), (clasp, -1, None)]:
             self.setUp()
@@ -1092,7 +1098,8 @@ class Viewer(unittest.TestCase):
             self.assertEqual(self.words([[-4, 0], [-3, 1], [3, -3]]), [word_of([minkowski(a[0], b[0], -1)], x, y) for x, y in [(-4, 0), (-3, 1), (3, -3)]])
 
     def test_contours_of_any_convex_parts_are_known_again(self):
-        # clockwise, with corners in line and twice, segments and points: what document 01's walks make of them
+        # clockwise, with corners in line and twice, segments and points: what document 01's walks
+        # make of them
         square = [(0, 0), (2, 0), (4, 0), (4, 4), (4, 4), (0, 4)]
         shapes = [square, square[::-1], [(1, 1), (5, 3)], [(3, 2), (5, 3), (1, 1), (1, 1)], [(7, 7)], [(7, 7), (7, 7)], [(0, 0), (9, 1), (3, 8)], [(-FAR // 2, -FAR // 2), (FAR // 2, -FAR // 2 + 1), (FAR // 2 - 1, FAR // 2)]]
         for a, b, sign in itertools.product(shapes, shapes, (1, -1)):
@@ -1278,7 +1285,8 @@ class Viewer(unittest.TestCase):
         def channels(colour):
             return [int(colour[k:k + 2], 16) for k in (1, 3, 5)]
 
-        # each way in which parts are drawn: on paper and over triangles, and the outlines of pieces at places, light and dark
+        # each way in which parts are drawn: on paper and over triangles, and the outlines of pieces
+        # at places, light and dark
         ways = self.js("""return [LIGHT, DARK].flatMap((c) => [
             [PALETTE, c.paper, OPACITY.plain], [PALETTE, c.triangle, OPACITY.overTriangles], [[c.left, ...[APART, TOUCHING, OVERLAPPING].map((word) => c[word])], c.covered, 1]])""")
         for palette, paper, opacity in ways:
@@ -1292,7 +1300,8 @@ class Viewer(unittest.TestCase):
                 self.assertGreater(least, 10, f"{name} on {paper}")
 
     def test_neighbours_have_different_colours(self):
-        # four columns: parts that are neighbours and whose numbers differ by a multiple of seven, the number of colours
+        # four columns: parts that are neighbours and whose numbers differ by a multiple of seven,
+        # the number of colours
         self.drop(quilt__out=listing(quilt(4, 8, 10)))
         colours = self.js("return state.listing.parts.map((p) => p.colour)")
         parts = quilt(4, 8, 10)
@@ -1393,7 +1402,8 @@ class Viewer(unittest.TestCase):
         self.assertEqual(self.picture(strap, buckle), (0, self.js("showPair(0, 0); return drawSvg(viewForPrint(), LIGHT)"), ""))
 
     def test_a_picture_asks_for_what_a_mesh_or_a_pair_job_needs(self):
-        # both are stood in for: ./run, which tells what it was asked, and Chromium, which tells how many files the page was given
+        # both are stood in for: ./run, which tells what it was asked, and Chromium, which tells how
+        # many files the page was given
         home = pathlib.Path(tempfile.mkdtemp(dir=TEMP))
         shutil.copytree(HERE, home / "viewer")
         (home / "bin").mkdir()

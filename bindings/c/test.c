@@ -1,5 +1,7 @@
-/* Calls each function of bezinkwolu.h with good input, each of its faults, empty lists, exact room and one place less. Every buffer stands between places that are not lent:
- * a refusal leaves all of them as they were, an answer those past it. Compiled with -Wall -Wextra -Werror -fsanitize=address,undefined by bindings/test. */
+/* Calls each function of bezinkwolu.h with good input, each of its faults, empty lists, exact room
+ * and one place less. Every buffer stands between places that are not lent: a refusal leaves all of
+ * them as they were, an answer those past it. Compiled with -Wall -Wextra -Werror
+ * -fsanitize=address,undefined by bindings/test. */
 #include <bezinkwolu.h>
 
 #include <stdio.h>
@@ -322,7 +324,8 @@ static void all_pairs(void)
     CHECK(p.fault == 0 && p.contours == 1 && p.corners == 6 && p.bounds.min_x == -2 && p.bounds.max_y == 2);
     CHECK(kept(2, 12, 0) && memcmp(corners, difference, sizeof difference) == 0);
     marked();
-    /* the room that is always enough: 2 by 2 parts, 2 (2 * 4 + 2 * 4) numbers; two points emit nothing */
+    /* the room that is always enough: 2 by 2 parts, 2 (2 * 4 + 2 * 4) numbers; two points emit
+     * nothing */
     p = pairs(false, two, two, 5, 32);
     CHECK(p.fault == 0 && p.contours == 4 && p.corners == 9 && starts[3] == 9 && starts[4] == 9);
     CHECK(kept(5, 18, 0));
@@ -335,7 +338,8 @@ static bool placed(bezinkwolu_told_placement p, uint32_t fault, uint32_t placeme
     return p.fault == fault && p.placement == placement;
 }
 
-/* Where x, y lies by so many starts and numbers, lent from between places that are not. Nothing changes. */
+/* Where x, y lies by so many starts and numbers, lent from between places that are not. Nothing
+ * changes. */
 static bezinkwolu_told_placement lent_placement(const uint32_t *s, size_t starts_length, const int32_t *c, size_t corners_length, int32_t x, int32_t y)
 {
     marked();

@@ -1,4 +1,5 @@
-//! Links libbezinkwolu.a: the one that stands in lib/ beside this file, as ./package leaves it, or the one in the folder that BEZINKWOLU_LIB_DIR names.
+//! Links libbezinkwolu.a: the one that stands in lib/ beside this file, as ./package leaves it, or
+//! the one in the folder that BEZINKWOLU_LIB_DIR names.
 
 use std::env;
 use std::path::PathBuf;

@@ -43,7 +43,8 @@ impl Error {
     pub const BOUNDS: Self = Self(9);
     /// A result bound not strictly between -2^30 and 2^30. iTriangle's `CoordinateOutOfRange`.
     pub const RESULT: Self = Self(10);
-    /// Doubled areas of the mesh add up to more than 2^63-1, or a measured one leaves signed 64 bits.
+    /// Doubled areas of the mesh add up to more than 2^63-1, or a measured one leaves signed 64
+    /// bits.
     pub const TOTAL: Self = Self(11);
     /// A part number past the table.
     pub const PART: Self = Self(12);

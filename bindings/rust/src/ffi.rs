@@ -1,4 +1,5 @@
-//! The archive's functions, and all that is unsafe. bezinkwolu.h has their contracts; `lend` has the rules of the memory that they write.
+//! The archive's functions, and all that is unsafe. bezinkwolu.h has their contracts; `lend` has
+//! the rules of the memory that they write.
 
 use crate::{Error, IntRect, PartTable};
 use alloc::vec::Vec;
@@ -184,12 +185,13 @@ impl Told for ToldPairs {
     }
 }
 
-/// Lends a table's memory, made larger where it has no room for so many starts and so many numbers, and leaves in it what the call wrote; where the call refuses, what it
-/// held. Memory past what it held has no first values: what the answer does not need is never touched.
+/// Lends a table's memory, made larger where it has no room for so many starts and so many numbers,
+/// and leaves in it what the call wrote; where the call refuses, what it held. Memory past what it
+/// held has no first values: what the answer does not need is never touched.
 ///
 /// # Safety
-/// The call writes within what it is lent. Where it tells no fault it has written one start more than it tells parts, and two numbers for each corner; where it tells
-/// one it has written nothing.
+/// The call writes within what it is lent. Where it tells no fault it has written one start more
+/// than it tells parts, and two numbers for each corner; where it tells one it has written nothing.
 unsafe fn lend<T: Told>(table: &mut PartTable, starts_room: usize, numbers_room: usize, call: impl FnOnce(*mut u32, *mut i32) -> T) -> Result<T, Error> {
     let (starts, numbers) = table.lists_mut();
     starts.reserve_exact(starts_room.saturating_sub(starts.len()));
@@ -204,10 +206,12 @@ unsafe fn lend<T: Told>(table: &mut PartTable, starts_room: usize, numbers_room:
     Ok(told)
 }
 
-// ---- Below, each call is sound for one reason: a slice passes as its place and its length, for the call alone; what is written is lent by `lend`, with the
-// length that is told to the call; and the prover has shown of each function that it takes any input and touches nothing but that.
+// ---- Below, each call is sound for one reason: a slice passes as its place and its length, for
+// the call alone; what is written is lent by `lend`, with the length that is told to the call; and
+// the prover has shown of each function that it takes any input and touches nothing but that.
 
-/// Document 01's limits: past them a mesh or a table is refused whatever the room, so that none is lent for more.
+/// Document 01's limits: past them a mesh or a table is refused whatever the room, so that none is
+/// lent for more.
 const MAX_TRIANGLES: usize = 1024;
 const MAX_PARTS: usize = 2048;
 const MAX_CORNERS: usize = 8192;
@@ -246,7 +250,8 @@ pub(crate) fn to_convex_polygons_with_max_vertices(mesh: &[Row], limit: u32, spl
 /// An operand: a table and its bounds.
 pub(crate) type Operand<'a> = (&'a PartTable, IntRect);
 
-/// All pair sums or differences; answers the bounds of the result. A pair has at most the corners of both its parts.
+/// All pair sums or differences; answers the bounds of the result. A pair has at most the corners
+/// of both its parts.
 pub(crate) fn all_pairs(difference: bool, left: Operand, right: Operand, contours: &mut PartTable) -> Result<IntRect, Error> {
     let call: AllPairs = if difference { bezinkwolu_difference_parts } else { bezinkwolu_sum_parts };
     let ((left, lb), (right, rb)) = (left, right);

@@ -1,8 +1,11 @@
-//! Convex parts of whole-number triangle meshes, and their Minkowski sums and differences pair by pair: iTriangle's
-//! `to_convex_polygons`, `to_convex_polygons_with_max_vertices`, `sum_parts` and `difference_parts` with proved answers.
+//! Convex parts of whole-number triangle meshes, and their Minkowski sums and differences pair by
+//! pair: iTriangle's `to_convex_polygons`, `to_convex_polygons_with_max_vertices`, `sum_parts` and
+//! `difference_parts` with proved answers.
 //!
-//! What is called here is the archive `libbezinkwolu.a`, whose every function is proved to meet its contract. Any input is taken: it is refused by a
-//! numbered [`Error`], or the answer is complete. Nothing here panics on what it is given. Triangulation before, and union after, remain iTriangle's.
+//! What is called here is the archive `libbezinkwolu.a`, whose every function is proved to meet its
+//! contract. Any input is taken: it is refused by a numbered [`Error`], or the answer is complete.
+//! Nothing here panics on what it is given. Triangulation before, and union after, remain
+//! iTriangle's.
 //!
 //! ```
 //! use bezinkwolu::{sum_parts, Error, IntDelaunay, IntPoint, IntRect, NIL_INDEX};
@@ -27,7 +30,8 @@
 //!
 //! # In place of iTriangle's calls
 //!
-//! A mesh is taken from `i_triangle::advanced::delaunay::IntDelaunay` in one line, and contours are handed to its overlay in another:
+//! A mesh is taken from `i_triangle::advanced::delaunay::IntDelaunay` in one line, and contours are
+//! handed to its overlay in another:
 //!
 //! ```text
 //! let mesh: bezinkwolu::IntDelaunay =
@@ -45,6 +49,7 @@
 //! | `Vec<IntContour>` | [`PartTable`], one allocation for all contours |
 //! | `IntMinkowskiSolver::sum_parts`, `difference_parts` before the union | [`sum_parts`], [`difference_parts`] |
 //! | `ConvexSum`, `Walk` | [`ConvexSum`], [`Walk`] |
+//! | `area_two` of a triangle | [`Contour::area_two`], [`PartTable::area_two`] |
 //! | `MinkowskiError::CoordinateOutOfRange` | [`Error::RESULT`] |
 
 #![no_std]

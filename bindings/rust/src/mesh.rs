@@ -11,7 +11,8 @@ use core::iter::FusedIterator;
 /// ```
 pub const NIL_INDEX: usize = usize::MAX;
 
-/// A triangle of a mesh: its vertices, counter-clockwise, and for each the number of the triangle across from it, or [`NIL_INDEX`].
+/// A triangle of a mesh: its vertices, counter-clockwise, and for each the number of the triangle
+/// across from it, or [`NIL_INDEX`].
 ///
 /// ```
 /// use bezinkwolu::{IntTriangle, NIL_INDEX};
@@ -43,12 +44,14 @@ impl<P: Into<IntPoint>> From<([P; 3], [usize; 3])> for IntTriangle {
 /// ```
 #[derive(Debug, Default, Clone, Copy, PartialEq, Eq, Hash)]
 pub enum ConvexSplitStrategy {
-    /// Each part starts at the last corner of the one before; the clipped corners are passed over. As few parts as can be, of balanced sizes.
+    /// Each part starts at the last corner of the one before; the clipped corners are passed over.
+    /// As few parts as can be, of balanced sizes.
     #[default]
     EarClipping,
     /// Each part starts with the contour's first corner. As few parts as can be, of balanced sizes.
     Fan,
-    /// About the area centroid, rounded to whole numbers; as a fan where that is not strictly inside.
+    /// About the area centroid, rounded to whole numbers; as a fan where that is not strictly
+    /// inside.
     Centroid,
 }
 
@@ -63,7 +66,8 @@ impl ConvexSplitStrategy {
     }
 }
 
-/// A triangle mesh, such as iTriangle's Delaunay triangulation; any mesh is taken, and one that has a fault is refused when it is used.
+/// A triangle mesh, such as iTriangle's Delaunay triangulation; any mesh is taken, and one that has
+/// a fault is refused when it is used.
 ///
 /// It is collected from triangles, or from tuples of three points and three neighbours.
 ///
@@ -77,7 +81,8 @@ pub struct IntDelaunay {
     rows: Vec<ffi::Row>,
 }
 
-/// Stands for a neighbour that 32 bits cannot hold: no mesh is so large, so it is refused as any other that is not there.
+/// Stands for a neighbour that 32 bits cannot hold: no mesh is so large, so it is refused as any
+/// other that is not there.
 const FAR: u32 = u32::MAX - 1;
 
 fn row(triangle: IntTriangle) -> ffi::Row {
@@ -89,7 +94,8 @@ fn row(triangle: IntTriangle) -> ffi::Row {
     [a.x, a.y, b.x, b.y, c.x, c.y, i as i32, j as i32, k as i32]
 }
 
-/// The triangle that a row was made of; a neighbour past 32 bits comes back as one that is in no mesh either.
+/// The triangle that a row was made of; a neighbour past 32 bits comes back as one that is in no
+/// mesh either.
 fn triangle(row: &ffi::Row) -> IntTriangle {
     let [ax, ay, bx, by, cx, cy, i, j, k] = *row;
     IntTriangle {
@@ -170,13 +176,14 @@ impl IntDelaunay {
     /// ```
     ///
     /// # Errors
-    /// The first that holds of [`Error::TRIANGLES`], [`Error::RANGE`], [`Error::STRAY`], [`Error::NAMING`], [`Error::EDGE`], [`Error::FLAT`] and
-    /// [`Error::TOTAL`].
+    /// The first that holds of [`Error::TRIANGLES`], [`Error::RANGE`], [`Error::STRAY`],
+    /// [`Error::NAMING`], [`Error::EDGE`], [`Error::FLAT`] and [`Error::TOTAL`].
     pub fn check(&self) -> Result<(), Error> {
         Error::told(ffi::mesh_fault(&self.rows))
     }
 
-    /// Joins the triangles into convex parts, strictly convex and counter-clockwise: each triangle is taken into exactly one.
+    /// Joins the triangles into convex parts, strictly convex and counter-clockwise: each triangle
+    /// is taken into exactly one.
     ///
     /// ```
     /// use bezinkwolu::{Error, IntDelaunay, IntPoint, NIL_INDEX};
@@ -199,7 +206,8 @@ impl IntDelaunay {
         PartTable::filled(|parts| self.to_convex_polygons_into(parts))
     }
 
-    /// The same, into a table whose memory is used again; its contours go. Where the mesh is refused the table stays as it was.
+    /// The same, into a table whose memory is used again; its contours go. Where the mesh is
+    /// refused the table stays as it was.
     ///
     /// ```
     /// use bezinkwolu::{Error, IntDelaunay, PartTable, NIL_INDEX};
@@ -238,7 +246,8 @@ impl IntDelaunay {
         PartTable::filled(|parts| self.to_convex_polygons_with_max_vertices_into(max_vertices, strategy, parts))
     }
 
-    /// The same, into a table whose memory is used again; its contours go. Where the mesh is refused the table stays as it was.
+    /// The same, into a table whose memory is used again; its contours go. Where the mesh is
+    /// refused the table stays as it was.
     ///
     /// ```
     /// use bezinkwolu::{ConvexSplitStrategy, Error, IntDelaunay, PartTable, NIL_INDEX};

@@ -86,7 +86,8 @@ impl PairTable {
         }
     }
 
-    /// The contour of left part i and right part j, empty where the pair emits nothing; none where there is no such pair.
+    /// The contour of left part i and right part j, empty where the pair emits nothing; none where
+    /// there is no such pair.
     ///
     /// ```
     /// # use bezinkwolu::{difference_parts, Error, IntRect, PartTable};
@@ -147,12 +148,14 @@ impl PairTable {
         self.bbox
     }
 
-    /// Where the place (x, y) lies by these contours. Strictly inside one is left of each of its edges; inside is on or left of each, and within the corners' least and
-    /// greatest x and y; an empty contour covers nothing. Contours are taken to go once round a convex area, as those of meshes' parts do: a place inside one that is not
-    /// convex may be told apart. Each is asked alone: a place on an edge that two of them share is strictly inside neither.
+    /// Where the place (x, y) lies by these contours. Strictly inside one is left of each of its
+    /// edges; inside is on or left of each, and within the corners' least and greatest x and y; an
+    /// empty contour covers nothing. Contours are taken to go once round a convex area, as those of
+    /// meshes' parts do: a place inside one that is not convex may be told apart. Each is asked
+    /// alone: a place on an edge that two of them share is strictly inside neither.
     ///
-    /// Of the differences of two meshes' parts, split or not, this is how the meshes lie: the right one, moved by (x, y), overlaps the left one, touches it, or is
-    /// apart from it: proved.
+    /// Of the differences of two meshes' parts, split or not, this is how the meshes lie: the right
+    /// one, moved by (x, y), overlaps the left one, touches it, or is apart from it: proved.
     ///
     /// ```
     /// use bezinkwolu::{difference_parts, Error, IntRect, PartTable, Placement};
@@ -249,8 +252,10 @@ fn all_pairs(difference: bool, lhs: Operand, rhs: Operand) -> Result<PairTable, 
     })
 }
 
-/// The sum of each left part and each right part, as iTriangle's `sum_parts` makes them before its union. Bounds are those of the original source, which
-/// no corner may be outside of. Where both parts go once round a convex area the contour is strictly convex, counter-clockwise, and their exact sum.
+/// The sum of each left part and each right part, as iTriangle's `sum_parts` makes them before its
+/// union. Bounds are those of the original source, which no corner may be outside of. Where both
+/// parts go once round a convex area the contour is strictly convex, counter-clockwise, and their
+/// exact sum.
 ///
 /// ```
 /// use bezinkwolu::{sum_parts, Error, IntRect, PartTable};
@@ -262,13 +267,15 @@ fn all_pairs(difference: bool, lhs: Operand, rhs: Operand) -> Result<PairTable, 
 /// ```
 ///
 /// # Errors
-/// The first that holds of [`Error::RULES`], [`Error::RANGE`], [`Error::BOUNDS`] and [`Error::WINDING`], each over the left operand and then the right one; then
-/// [`Error::RESULT`], [`Error::EMPTY`].
+/// The first that holds of [`Error::RULES`], [`Error::RANGE`], [`Error::BOUNDS`] and
+/// [`Error::WINDING`], each over the left operand and then the right one; then [`Error::RESULT`],
+/// [`Error::EMPTY`].
 pub fn sum_parts(lhs: &PartTable, lhs_bbox: IntRect, rhs: &PartTable, rhs_bbox: IntRect) -> Result<PairTable, Error> {
     all_pairs(false, (lhs, lhs_bbox), (rhs, rhs_bbox))
 }
 
-/// The same, into a table whose memory is used again; its contours go. Where the operands are refused it stays as it was.
+/// The same, into a table whose memory is used again; its contours go. Where the operands are
+/// refused it stays as it was.
 ///
 /// ```
 /// use bezinkwolu::{sum_parts, sum_parts_into, Error, IntRect, PairTable, PartTable};
@@ -288,7 +295,8 @@ pub fn sum_parts_into(lhs: &PartTable, lhs_bbox: IntRect, rhs: &PartTable, rhs_b
     all_pairs_into(false, (lhs, lhs_bbox), (rhs, rhs_bbox), pairs)
 }
 
-/// The same of each left part and each right part turned through the origin: {a − b}, as iTriangle's `difference_parts`.
+/// The same of each left part and each right part turned through the origin: {a − b}, as
+/// iTriangle's `difference_parts`.
 ///
 /// ```
 /// use bezinkwolu::{difference_parts, Error, IntRect, PartTable};

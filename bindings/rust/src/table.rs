@@ -5,10 +5,12 @@ use alloc::{vec, vec::Vec};
 use core::fmt;
 use core::iter::FusedIterator;
 
-/// Contours in a row, each a list of corners. It owns its memory, and how that is laid out is its own affair.
+/// Contours in a row, each a list of corners. It owns its memory, and how that is laid out is its
+/// own affair.
 ///
-/// Joining and splitting answer one; contours of one's own are collected into one, and judged when it is used: at most 2,048 contours, 8,192 corners and 1,026 in
-/// one contour. A contour may be empty.
+/// Joining and splitting answer one; contours of one's own are collected into one, and judged when
+/// it is used: at most 2,048 contours, 8,192 corners and 1,026 in one contour. A contour may be
+/// empty.
 ///
 /// ```
 /// use bezinkwolu::PartTable;
@@ -17,7 +19,8 @@ use core::iter::FusedIterator;
 /// ```
 #[derive(Clone, PartialEq, Eq, Hash)]
 pub struct PartTable {
-    // There is one start more than contours: contour k has the corners from the k-th up to the next. A corner is two numbers.
+    // There is one start more than contours: contour k has the corners from the k-th up to the
+    // next. A corner is two numbers.
     starts: Vec<u32>,
     numbers: Vec<i32>,
 }
@@ -143,8 +146,10 @@ impl PartTable {
         }
     }
 
-    /// The doubled areas of all contours, added: exact, below 0 for those that run clockwise. The limits of a part table do not bind, so that this can be asked of
-    /// [`PairTable::contours`](crate::PairTable::contours) too, where each contour is counted by itself, also where they overlap.
+    /// The doubled areas of all contours, added: exact, below 0 for those that run clockwise. The
+    /// limits of a part table do not bind, so that this can be asked of
+    /// [`PairTable::contours`](crate::PairTable::contours) too, where each contour is counted by
+    /// itself, also where they overlap.
     ///
     /// ```
     /// # use bezinkwolu::{Error, PartTable};
@@ -155,13 +160,14 @@ impl PartTable {
     /// ```
     ///
     /// # Errors
-    /// [`Error::RANGE`]; [`Error::TOTAL`] where the sum leaves an `i64`; [`Error::RULES`] where there are more than 4,294,967,295 corners.
+    /// [`Error::RANGE`]; [`Error::TOTAL`] where the sum leaves an `i64`; [`Error::RULES`] where
+    /// there are more than 4,294,967,295 corners.
     pub fn area_two(&self) -> Result<i64, Error> {
         ffi::table_area_two(self)
     }
 
-    /// The least and greatest x and y of all corners, 0 where there are none: with them the table is an operand of [`sum_parts`](crate::sum_parts). The limits of a
-    /// part table do not bind.
+    /// The least and greatest x and y of all corners, 0 where there are none: with them the table
+    /// is an operand of [`sum_parts`](crate::sum_parts). The limits of a part table do not bind.
     ///
     /// ```
     /// # use bezinkwolu::{sum_parts, Error, IntRect, PartTable};
@@ -206,7 +212,8 @@ impl PartTable {
     /// ```
     ///
     /// # Errors
-    /// The first that holds of [`Error::RULES`], also for another length than the counts say, and [`Error::RANGE`].
+    /// The first that holds of [`Error::RULES`], also for another length than the counts say, and
+    /// [`Error::RANGE`].
     pub fn from_bytes(bytes: &[u8]) -> Result<Self, Error> {
         Self::filled(|table| ffi::read_table(bytes, table))
     }
@@ -310,8 +317,9 @@ impl<'a> Contour<'a> {
         }
     }
 
-    /// Its doubled area, as of iTriangle's `Triangle::area_two`: exact, above 0 where it runs counter-clockwise, below 0 where it runs clockwise. Where it crosses itself or goes
-    /// round more than once, it is what the shoelace formula gives.
+    /// Its doubled area, as of iTriangle's `Triangle::area_two`: exact, above 0 where it runs
+    /// counter-clockwise, below 0 where it runs clockwise. Where it crosses itself or goes round
+    /// more than once, it is what the shoelace formula gives.
     ///
     /// ```
     /// # use bezinkwolu::{Error, PartTable};
@@ -322,7 +330,8 @@ impl<'a> Contour<'a> {
     /// ```
     ///
     /// # Errors
-    /// [`Error::RANGE`]; [`Error::TOTAL`] where it leaves an `i64`, as only a contour that goes round more than once can.
+    /// [`Error::RANGE`]; [`Error::TOTAL`] where it leaves an `i64`, as only a contour that goes
+    /// round more than once can.
     pub fn area_two(self) -> Result<i64, Error> {
         ffi::contour_area_two(self.numbers)
     }
@@ -463,8 +472,9 @@ pub enum Side {
     Right,
 }
 
-/// The nesting desk's question: part k of the left or the right operand, in that operand's own memory. Both tables are judged, also the one not asked for; of a table
-/// that needs no judging, [`PartTable::contour`] answers at once.
+/// The nesting desk's question: part k of the left or the right operand, in that operand's own
+/// memory. Both tables are judged, also the one not asked for; of a table that needs no judging,
+/// [`PartTable::contour`] answers at once.
 ///
 /// ```
 /// use bezinkwolu::{show_part, Error, PartTable, Side};

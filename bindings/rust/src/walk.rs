@@ -3,8 +3,9 @@
 use crate::{ffi, Contour, Error, IntPoint, IntVector};
 use core::iter::FusedIterator;
 
-/// A walk round a contour, from its lowest, then leftmost corner, counter-clockwise; a reflected one from the highest, then rightmost, with points
-/// and edges negated. As an iterator it hands out the edges.
+/// A walk round a contour, from its lowest, then leftmost corner, counter-clockwise; a reflected
+/// one from the highest, then rightmost, with points and edges negated. As an iterator it hands out
+/// the edges.
 ///
 /// ```
 /// use bezinkwolu::{Error, IntPoint, IntVector, PartTable, Walk};
@@ -34,7 +35,8 @@ impl<'a> Walk<'a> {
     /// ```
     ///
     /// # Errors
-    /// The first that holds of [`Error::RULES`] (more than 1,026 corners), [`Error::RANGE`], [`Error::WINDING`] and [`Error::EMPTY`].
+    /// The first that holds of [`Error::RULES`] (more than 1,026 corners), [`Error::RANGE`],
+    /// [`Error::WINDING`] and [`Error::EMPTY`].
     pub fn new(contour: Contour<'a>, reflected: bool) -> Result<Self, Error> {
         let told = ffi::walk_begin(contour.numbers(), reflected);
         Error::told(told.fault)?;
@@ -83,7 +85,8 @@ impl Iterator for Walk<'_> {
 
 impl FusedIterator for Walk<'_> {}
 
-/// One pair's contour, a corner at a time. Each step reads both contours whole: of many corners, [`crate::sum_parts`] takes far less time.
+/// One pair's contour, a corner at a time. Each step reads both contours whole: of many corners,
+/// [`crate::sum_parts`] takes far less time.
 ///
 /// ```
 /// use bezinkwolu::{ConvexSum, Error, IntPoint, PartTable};
@@ -119,8 +122,8 @@ impl<'a> ConvexSum<'a> {
     /// ```
     ///
     /// # Errors
-    /// The first that holds of [`Error::RULES`], [`Error::RANGE`], [`Error::WINDING`] and [`Error::EMPTY`], each over the first contour and then
-    /// the second.
+    /// The first that holds of [`Error::RULES`], [`Error::RANGE`], [`Error::WINDING`] and
+    /// [`Error::EMPTY`], each over the first contour and then the second.
     pub fn new(a: Contour<'a>, b: Contour<'a>) -> Result<Self, Error> {
         Self::begin(false, a, b)
     }

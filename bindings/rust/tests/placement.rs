@@ -1,4 +1,5 @@
-//! Where places lie by pair results: each answer and refusal, and differences of meshes beside their triangles, tried pair by pair.
+//! Where places lie by pair results: each answer and refusal, and differences of meshes beside
+//! their triangles, tried pair by pair.
 
 use bezinkwolu::*;
 
@@ -82,7 +83,8 @@ fn the_limits_of_a_part_table_do_not_bind() {
     placed(&pairs, &[(896, 0), (0, 5)], Placement::Apart);
 }
 
-/// How b, moved by z, lies by a: an edge of one of them, if any, has the other on its right, at most touching it or wholly past it.
+/// How b, moved by z, lies by a: an edge of one of them, if any, has the other on its right, at
+/// most touching it or wholly past it.
 fn triangles_placed(a: Triangle, b: Triangle, z: Point) -> Placement {
     let b = b.map(|p| (p.0 + z.0, p.1 + z.1));
     let beyond = |of: Triangle, other: Triangle| {

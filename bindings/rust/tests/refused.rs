@@ -137,7 +137,8 @@ fn tables_past_their_limits_are_refused() {
     assert_eq!(PartTable::from_bytes(&vec![0; 4_000_000]), Err(Error::RULES));
 }
 
-/// 2,048 by 2,048 parts of four corners: 4,194,304 contours and 33,554,432 corners of room, of which the points that are told touch little.
+/// 2,048 by 2,048 parts of four corners: 4,194,304 contours and 33,554,432 corners of room, of
+/// which the points that are told touch little.
 #[test]
 fn the_largest_operands_are_answered() {
     let most: PartTable = (0..2048).map(|_| [(1, 2); 4]).collect();
@@ -186,7 +187,8 @@ fn errors_are_errors() {
     );
 }
 
-/// A walk is refused nothing but a step past its end, and a pair's steps are the contour of its sum.
+/// A walk is refused nothing but a step past its end, and a pair's steps are the contour of its
+/// sum.
 #[test]
 fn walks_and_pairs_end() {
     let contours = table(&[

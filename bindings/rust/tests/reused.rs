@@ -19,7 +19,8 @@ fn flat() -> IntDelaunay {
     [([(0, 0), (2, 0), (4, 0)], [NIL_INDEX; 3])].into_iter().collect()
 }
 
-/// Longer before, shorter before, and refused: the answer is that of the call that makes a new table, or the table is as it was.
+/// Longer before, shorter before, and refused: the answer is that of the call that makes a new
+/// table, or the table is as it was.
 #[test]
 fn a_table_filled_again() {
     let many: IntDelaunay = (0..40).map(|i| ([(3 * i, 0), (3 * i + 1, 0), (3 * i, 1)], [NIL_INDEX; 3])).collect();
@@ -76,7 +77,8 @@ fn pairs_with_their_numbers() {
     assert_eq!(PairTable::new().iter().next().map(|(i, j, _)| (i, j)), None);
 }
 
-/// Triangles come back as they were given; a neighbour that 32 bits do not hold comes back as another that is in no mesh.
+/// Triangles come back as they were given; a neighbour that 32 bits do not hold comes back as
+/// another that is in no mesh.
 #[test]
 fn triangles_read_back() {
     let mesh = square();

@@ -1,5 +1,6 @@
-// Doubled areas and bounds, exported to C for the package (./package) and the runs beside the judge (oracle/beside): one thin function over each call, with no `requires`. The answers are the calls',
-// measure/specs/Measured.antt, as they are. Leans on measure.
+// Doubled areas and bounds, exported to C for the package (./package) and the runs beside the judge
+// (oracle/beside): one thin function over each call, with no `requires`. The answers are the
+// calls', measure/specs/Measured.antt, as they are. Leans on measure.
 ghost use mathlib.Core.Path.{_≡_};
 ghost use Rattle.measure.specs.Measured.{contourMeasured, partMeasured, tableMeasured, boundsTold};
 use measure::Bounded;

@@ -13,41 +13,41 @@ pub const STRAY: u32 = 3;
 // A neighbour named twice, or not naming back exactly once.
 pub const NAMING: u32 = 4;
 
-// A shared edge whose ends differ or do not run oppositely.
+// A shared edge whose ends differ or don't run oppositely.
 pub const EDGE: u32 = 5;
 
 // A triangle's doubled area not above 0.
 pub const FLAT: u32 = 6;
 
-// A part table against its rules or limits.
+// A part table, or a contour's length, against the rules or limits.
 pub const RULES: u32 = 7;
 
-// A winding's running total leaves signed 64 bits.
+// A winding's running total, as the walk forms it, leaves signed 64 bits.
 pub const WINDING: u32 = 8;
 
 // A least bound above a greatest, or a corner outside its bounds.
 pub const BOUNDS: u32 = 9;
 
-// A result bound at or beyond 2^30.
+// A result bound not strictly between -2^30 and 2^30.
 pub const RESULT: u32 = 10;
 
-// Doubled areas of the mesh that add up to more than 2^63 - 1.
+// Doubled areas of the mesh add up to more than 2^63-1, or a measured one leaves signed 64 bits.
 pub const TOTAL: u32 = 11;
 
 // A part number past the table.
 pub const PART: u32 = 12;
 
-// A file against its rules.
+// A file or a pair job against its rules, or no such split.
 pub const FILE: u32 = 13;
 
 // An operand without parts, or a walk begun on an empty contour.
 pub const EMPTY: u32 = 20;
 
-// Fewer places for corners than the answer has.
+// Fewer places for corners, or for bytes, than the answer has.
 pub const CORNER_ROOM: u32 = 21;
 
 // Fewer places for starts than the answer has.
 pub const START_ROOM: u32 = 22;
 
-// A walk with no step left, or whose place is no corner.
+// A walk with no step left, or whose place or either segment end isn't a corner of its contour.
 pub const PLACE: u32 = 23;

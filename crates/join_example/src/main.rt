@@ -1,5 +1,5 @@
 // The example of joining in docs/USE.md: the parts of document 01's dart, two triangles that do not join, then the same mesh refused, once for want of
-// a place for the last start and once for a neighbour that is not there. What it prints is its file `stdout`. Leans on convex_join, part_lines and lines.
+// a place for the last start and once for a neighbour that is not there; and a square, whose two triangles do join. What it prints is its file `stdout`. Leans on convex_join, part_lines and lines.
 use mesh::Row;
 
 // Joins the mesh into the lent places and writes what the call told and what it left there.
@@ -28,4 +28,9 @@ fn main() {
     let mut few = [0u32; 2];
     print_parts(&dart, &mut few, &mut corners);
     print_parts(&stray, &mut starts, &mut corners);
+    let square = [
+        [0i32, 0, 4, 0, 4, 4, -1, 1, -1],
+        [0, 0, 4, 4, 0, 4, -1, -1, 0],
+    ];
+    print_parts(&square, &mut starts, &mut corners);
 }

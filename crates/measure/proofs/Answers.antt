@@ -1,5 +1,6 @@
--- What the calls that measure tell. In order: whether a sum leaves 64 bits, by its words; the fault of each call by the tests that code makes, and what none tells; an answer behind a fault; bounds corner by
--- corner. Assumes nothing.
+-- What the calls that measure tell. In order: whether a sum leaves 64 bits, by its words; the fault
+-- of each call by the tests that code makes, and what none tells; an answer behind a fault; bounds
+-- corner by corner. Assumes nothing.
 use mathlib.Core.Path.{_≡_, refl, sym, _∙_, ap}
 use mathlib.Core.Bool.{Bool, true, false, not, cond}
 use mathlib.Core.List.{List, [], _∷_}

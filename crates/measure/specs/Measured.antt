@@ -1,5 +1,7 @@
--- What the calls tell that measure: the doubled area of a contour, of part k and of all parts, and the bounds of all corners; the fault of each. Starts and corners are a part table's or a pair
--- result's: "The limits above don't bind it." A contour may run either way, cross itself or be empty. Assumes nothing.
+-- What the calls tell that measure: the doubled area of a contour, of part k and of all parts, and
+-- the bounds of all corners; the fault of each. Starts and corners are a part table's or a pair
+-- result's: "The limits above don't bind it." A contour may run either way, cross itself or be
+-- empty. Assumes nothing.
 use mathlib.Core.Bool.{not, cond}
 use mathlib.Core.List.{List, [], _∷_}
 use Prim.Native.Nat.{ℕ, _%_}
@@ -58,6 +60,7 @@ tableMeasured starts corners = areaBehind (tableFault starts corners) (totalArea
 abbrev pub boundsLaid : ℕ → IntRect → Bounded
 boundsLaid f b = record { fault = f; «min_x» = b .«min_x»; «max_x» = b .«max_x»; «min_y» = b .«min_y»; «max_y» = b .«max_y» }
 
--- "least and greatest x and y" of all corners, 0 for a table without corners, as of a mesh (mesh_bounds/Bounds.`boundsOf`, `Bounding`)
+-- "least and greatest x and y" of all corners, 0 for a table without corners, as of a mesh
+-- (mesh_bounds/Bounds.`boundsOf`, `Bounding`)
 unfoldable pub boundsTold : List ℕ → List ℤ → Bounded
 boundsTold starts corners = cond (eqb (tableFault starts corners) 0) (boundsLaid 0 (boundsOf (pointsOf corners))) (boundsLaid (tableFault starts corners) (boundsOf []))

@@ -1,6 +1,10 @@
-// Doubled areas and bounds of what is lent: of a contour (`contour_area_two`), of part k (`part_area_two`) and of all parts (`table_area_two`), and the bounds of all corners (`table_bounds`). Each takes
-// any numbers, refuses by number, and writes nothing; its answer is a definition's (specs/Measured.antt). A part table will do and a pair result: the limits of a part table do not bind. An area is exact
-// and has a sign, below 0 where contours run clockwise; one that leaves signed 64 bits is refused with 11. Leans on table_areas, mesh_bounds (bounds that a point is brought into), walk_read and table.
+// Doubled areas and bounds of what is lent: of a contour (`contour_area_two`), of part k
+// (`part_area_two`) and of all parts (`table_area_two`), and the bounds of all corners
+// (`table_bounds`). Each takes any numbers, refuses by number, and writes nothing; its answer is a
+// definition's (specs/Measured.antt). A part table will do and a pair result: the limits of a part
+// table do not bind. An area is exact and has a sign, below 0 where contours run clockwise; one
+// that leaves signed 64 bits is refused with 11. Leans on table_areas, mesh_bounds (bounds that a
+// point is brought into), walk_read and table.
 ghost use mathlib.Core.Path.{_≡_};
 ghost use lib.IntN.{pos, negℤ};
 ghost use Rattle.wide.specs.Words.{value};
@@ -173,7 +177,8 @@ fn corner_bounds(corners: &[i32]) -> IntRect
     b
 }
 
-// The least and greatest x and y of all corners; 0 where there are none. Refuses with 7, 2, in this order.
+// The least and greatest x and y of all corners; 0 where there are none. Refuses with 7, 2, in this
+// order.
 pub fn table_bounds(starts: &[u32], corners: &[i32]) -> Bounded
     ensures { λ r. ⌜ r ≡ boundsTold (now (starts .entry)) (now (corners .entry)) ⌝ }
 {

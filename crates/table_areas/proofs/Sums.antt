@@ -1,5 +1,7 @@
--- Sums in two words. In order: a number, and the high word of a sum; the crosses round a contour, of which those before corner k are added (`Summing`), at the start, after a turn, at the end; the contours of a
--- table, of which those before contour k are added (`Totalling`), likewise. Assumes nothing.
+-- Sums in two words. In order: a number, and the high word of a sum; the crosses round a contour,
+-- of which those before corner k are added (`Summing`), at the start, after a turn, at the end; the
+-- contours of a table, of which those before contour k are added (`Totalling`), likewise. Assumes
+-- nothing.
 use mathlib.Core.Path.{_≡_, refl, sym, _∙_, ap, subst}
 use mathlib.Core.Bool.{true, false}
 use mathlib.Core.List.{List, [], _∷_, _++_, map, map-append}
@@ -83,7 +85,8 @@ added : (t c r : ℤ) {u s x : ℤ} → t +ℤ x ≡ s → x ≡ c +ℤ r → u 
 added t c r e p q = ap (λ z. z +ℤ r) q ∙ +ℤ-assoc t c r ∙ ap (λ z. t +ℤ z) (sym p) ∙ e
 
 module _ (l : List Pt) where
-  -- the total, and the crosses from the edge into corner k on, make the whole; corner i is before corner k
+  -- the total, and the crosses from the edge into corner k on, make the whole; corner i is before
+  -- corner k
   pub record Summing (i k : ℕ) (total : SignedProduct) : Type 0 where
     pub sum : value total +ℤ crosses (links (cornerAt l i) (drop k l)) ≡ contourArea l
     pub size : Terms k total

@@ -1,4 +1,5 @@
--- The doubled area of many contours, and how large a sum can be. That of one contour is plane/Contour.`contourArea`. Assumes nothing.
+-- The doubled area of many contours, and how large a sum can be. That of one contour is
+-- plane/Contour.`contourArea`. Assumes nothing.
 use mathlib.Core.List.{List, map}
 use Prim.Native.Nat.{ℕ, _*_, _^_, _≤_}
 use lib.IntN.{ℤ, natAbs}

@@ -1,5 +1,7 @@
-// Doubled areas of any starts and corners that neither 7 nor 2 is told of: of a contour (`contour_area`), of contour k (`area_at`) and of all (`total_area`), each exactly as the shoelace
-// formula has it, whichever way the contours run. A sum may leave 64 bits, so it has two words and a sign. One pass over the corners. Leans on wide, placement (what such starts are),
+// Doubled areas of any starts and corners that neither 7 nor 2 is told of: of a contour
+// (`contour_area`), of contour k (`area_at`) and of all (`total_area`), each exactly as the
+// shoelace formula has it, whichever way the contours run. A sum may leave 64 bits, so it has two
+// words and a sign. One pass over the corners. Leans on wide, placement (what such starts are),
 // walk_read (a corner of lent numbers), table and plane.
 ghost use mathlib.Core.Path.{_≡_};
 ghost use mathlib.Core.Bool.{false};

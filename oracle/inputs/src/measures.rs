@@ -113,7 +113,7 @@ fn part(rng: &mut Rng, table: &Table) -> u32 {
     match rng.below(10) {
         0 => count as u32,
         1 => rng.word() as u32,
-        _ => rng.below(count + 1) as u32,
+        _ => rng.below(count.max(1)) as u32,
     }
 }
 

@@ -1,4 +1,5 @@
--- `measure::table_area_two` meets its contract: refused by its fault, or its area told. Assumes nothing.
+-- `measure::table_area_two` meets its contract: refused by its fault, or its area told. Assumes
+-- nothing.
 use mathlib.Core.Path.{sym, _∙_, ap}
 use borrow.Author.Needs.{needs}
 use Rattle.measure.specs.Measured.{areaTold, tableMeasured}

@@ -1,4 +1,5 @@
--- `measure::table_bounds` meets its contract: refused by its fault, or the bounds of the corners. Assumes nothing.
+-- `measure::table_bounds` meets its contract: refused by its fault, or the bounds of the corners.
+-- Assumes nothing.
 use mathlib.Core.Path.{_≡_, sym, _∙_}
 use borrow.Author.Needs.{needs}
 use mir.Syntax.{w32}

@@ -1,4 +1,5 @@
--- `measure::told` meets its contract: a high word leaves 64 bits; without one the low word is the size. Assumes nothing.
+-- `measure::told` meets its contract: a high word leaves 64 bits; without one the low word is the
+-- size. Assumes nothing.
 use mathlib.Core.Path.{sym, _∙_, ap}
 use native.Mathlib.Omega.{arith}
 use borrow.Author.Needs.{needs}

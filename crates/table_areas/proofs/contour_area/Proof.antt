@@ -1,4 +1,5 @@
--- `table_areas::contour_area` meets its contract. The loop's invariant is `Summing` of Sums, the measure the corners left. Assumes nothing.
+-- `table_areas::contour_area` meets its contract. The loop's invariant is `Summing` of Sums, the
+-- measure the corners left. Assumes nothing.
 use mathlib.Core.Path.{_≡_, sym, _∙_, subst}
 use Prim.Native.Nat.{_≤_, _<_, _-_}
 use native.Mathlib.Omega.{arith}

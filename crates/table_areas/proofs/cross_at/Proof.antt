@@ -1,4 +1,5 @@
--- `table_areas::cross_at` meets its contract: the cross of two points is the doubled area that they and the origin have. Assumes nothing.
+-- `table_areas::cross_at` meets its contract: the cross of two points is the doubled area that they
+-- and the origin have. Assumes nothing.
 use mathlib.Core.Path.{sym, _∙_, subst}
 use borrow.Author.Needs.{needs}
 use native.Mathlib.Omega.{arith}

@@ -1,4 +1,5 @@
--- `table_areas::total_area` meets its contract. The loop's invariant is `Totalling` of Sums with the corners before contour k, the measure the contours left. Assumes nothing.
+-- `table_areas::total_area` meets its contract. The loop's invariant is `Totalling` of Sums with
+-- the corners before contour k, the measure the contours left. Assumes nothing.
 use mathlib.Core.Path.{subst, sym}
 use Prim.Native.Nat.{_≤_, _<_, _-_}
 use native.Mathlib.Omega.{arith}
