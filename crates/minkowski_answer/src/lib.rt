@@ -57,7 +57,10 @@ pub fn hand_out(
     corners: &mut [i32],
 ) -> PairCounts
     requires { ⌜ Unrolleds (now firsts) (now points) left right most ⌝ }
-    ensures { λ r. ⌜ WalksAnswered (now (firsts .entry)) (now (points .entry)) left right bounds (now (starts .entry)) (now (corners .entry)) r (now (starts .exit)) (now (corners .exit)) ⌝ }
+    ensures { λ r.
+        let s = now (starts .entry) in
+        let c = now (corners .entry) in
+        ⌜ WalksAnswered (now (firsts .entry)) (now (points .entry)) left right bounds s c r (now (starts .exit)) (now (corners .exit)) ⌝ }
 {
     let contours = left * right;
     if starts.len() < contours + 1 {

@@ -4,9 +4,9 @@
 ghost use mathlib.Core.Path.{_≡_};
 ghost use mathlib.Core.List.{_∷_, []};
 ghost use Prim.Native.Nat.{_+_, _<_};
-ghost use Rattle.pair_merge.specs.Putting.{RoomAfter, Put};
+ghost use Rattle.pair_merge.specs.Putting.{RoomAfter, CornersPut};
 ghost use Rattle.pair_walks.specs.Walks.{Walks, contoursIn};
-ghost use Rattle.minkowski_rows.specs.Rows.{mergedIn, rowIn, PairsRoom, PairsPut, AllPut};
+ghost use Rattle.minkowski_rows.specs.Rows.{mergedIn, mergedRowIn, PairsRoom, PairsPut, AllPut};
 
 // The contour of walks m and n of `count` is put after the first `at` corners; answers how many stand there then.
 pub fn merge_walks(
@@ -19,7 +19,7 @@ pub fn merge_walks(
     at: usize,
 ) -> usize
     requires { ⌜ Walks (now firsts) (now points) count × (m < count) × (n < count) × RoomAfter (mergedIn (now firsts) (now points) count m n) (now out) at ⌝ }
-    ensures { λ r. ⌜ Put (mergedIn (now (firsts .entry)) (now (points .entry)) count m n) (now (out .entry)) at (now (out .exit)) r ⌝ }
+    ensures { λ r. ⌜ CornersPut (mergedIn (now (firsts .entry)) (now (points .entry)) count m n) (now (out .entry)) at (now (out .exit)) r ⌝ }
 {
     let from = firsts[m] as usize;
     let to = firsts[m + 1] as usize;
@@ -40,8 +40,14 @@ fn append_one(
     out: &mut [i32],
     at: usize,
 ) -> usize
-    requires { ⌜ Walks (now firsts) (now points) count × (p < count) × (q < count) × PairsRoom (mergedIn (now firsts) (now points) count p q ∷ []) (now starts) n (now out) at ⌝ }
-    ensures { λ r. ⌜ PairsPut (mergedIn (now (firsts .entry)) (now (points .entry)) count p q ∷ []) (now (starts .entry)) n (now (out .entry)) at (now (starts .exit)) (n + 1) (now (out .exit)) r ⌝ }
+    requires { ⌜
+        Walks (now firsts) (now points) count
+        × (p < count)
+        × (q < count)
+        × PairsRoom (mergedIn (now firsts) (now points) count p q ∷ []) (now starts) n (now out) at ⌝ }
+    ensures { λ r.
+        let new = mergedIn (now (firsts .entry)) (now (points .entry)) count p q ∷ [] in
+        ⌜ PairsPut new (now (starts .entry)) n (now (out .entry)) at (now (starts .exit)) (n + 1) (now (out .exit)) r ⌝ }
 {
     let k = merge_walks(firsts, points, count, p, q, out, at);
     convex_gather::put_start(starts, n + 1, k);
@@ -60,8 +66,13 @@ fn append_row(
     out: &mut [i32],
     at: usize,
 ) -> usize
-    requires { ⌜ Walks (now firsts) (now points) (left + right) × (p < left) × PairsRoom (rowIn (now firsts) (now points) left right p) (now starts) n (now out) at ⌝ }
-    ensures { λ r. ⌜ PairsPut (rowIn (now (firsts .entry)) (now (points .entry)) left right p) (now (starts .entry)) n (now (out .entry)) at (now (starts .exit)) (n + right) (now (out .exit)) r ⌝ }
+    requires { ⌜
+        Walks (now firsts) (now points) (left + right)
+        × (p < left)
+        × PairsRoom (mergedRowIn (now firsts) (now points) left right p) (now starts) n (now out) at ⌝ }
+    ensures { λ r.
+        let new = mergedRowIn (now (firsts .entry)) (now (points .entry)) left right p in
+        ⌜ PairsPut new (now (starts .entry)) n (now (out .entry)) at (now (starts .exit)) (n + right) (now (out .exit)) r ⌝ }
 {
     let count = left + right;
     let mut k = at;
@@ -83,7 +94,9 @@ pub fn append_all(
     out: &mut [i32],
 ) -> usize
     requires { ⌜ Walks (now firsts) (now points) (left + right) × PairsRoom (contoursIn (now firsts) (now points) left right) (now starts) 0 (now out) 0 ⌝ }
-    ensures { λ r. ⌜ AllPut (contoursIn (now (firsts .entry)) (now (points .entry)) left right) (now (starts .entry)) (now (out .entry)) (now (starts .exit)) (now (out .exit)) r ⌝ }
+    ensures { λ r.
+        let all = contoursIn (now (firsts .entry)) (now (points .entry)) left right in
+        ⌜ AllPut all (now (starts .entry)) (now (out .entry)) (now (starts .exit)) (now (out .exit)) r ⌝ }
 {
     convex_gather::put_start(starts, 0, 0);
     let mut k: usize = 0;

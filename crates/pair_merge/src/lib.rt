@@ -10,9 +10,8 @@ ghost use lib.IntN.{_+ℤ_};
 ghost use Rattle.plane.specs.Plane.{_+ᵖ_, angleCmp};
 ghost use Rattle.plane.specs.Machine.{Coordinate, vector, Short};
 ghost use Rattle.convex_ring.specs.Buffers.{cornerAt, Grid};
-ghost use Rattle.pair_points.specs.Points.{edgesAlong, mergedOf, secondNext, restOf};
-ghost use Rattle.pair_points.proofs.Turns.{edgeAt};
-ghost use Rattle.pair_merge.specs.Putting.{pointsIn, Mergeable, RoomAfter, Put, Reached};
+ghost use Rattle.pair_points.specs.Points.{edgesAlong, mergedOf, secondNext, restOf, edgeAt};
+ghost use Rattle.pair_merge.specs.Putting.{pointsIn, Mergeable, RoomAfter, CornersPut, Reached};
 use plane::IntVector;
 use plane::Ordering;
 
@@ -33,8 +32,13 @@ fn sum(a: i32, b: i32) -> i32
 
 // The sum of point i of a and point j of b is put as corner k.
 pub fn put_sum(a: &[[i32; 2]], i: usize, b: &[[i32; 2]], j: usize, out: &mut [i32], k: usize)
-    requires { ⌜ (i < length (now a)) × Grid (now a) × (j < length (now b)) × Grid (now b) × RoomAfter ((cornerAt (now a) i +ᵖ cornerAt (now b) j) ∷ []) (now out) k ⌝ }
-    ensures { λ r. ⌜ Put ((cornerAt (now (a .entry)) i +ᵖ cornerAt (now (b .entry)) j) ∷ []) (now (out .entry)) k (now (out .exit)) (k + 1) ⌝ }
+    requires { ⌜
+        (i < length (now a))
+        × Grid (now a)
+        × (j < length (now b))
+        × Grid (now b)
+        × RoomAfter ((cornerAt (now a) i +ᵖ cornerAt (now b) j) ∷ []) (now out) k ⌝ }
+    ensures { λ r. ⌜ CornersPut ((cornerAt (now (a .entry)) i +ᵖ cornerAt (now (b .entry)) j) ∷ []) (now (out .entry)) k (now (out .exit)) (k + 1) ⌝ }
 {
     let p = convex_ring::corner_at(a, i);
     let q = convex_ring::corner_at(b, j);
@@ -80,9 +84,21 @@ fn second_next(a: &[[i32; 2]], i: usize, b: &[[i32; 2]], j: usize) -> bool
 
 // The corners up to where one list has no edge left.
 fn merge(a: &[[i32; 2]], b: &[[i32; 2]], out: &mut [i32], at: usize) -> Halt
-    requires { ⌜ (0 < length (now a)) × Mergeable (now a) × (0 < length (now b)) × Mergeable (now b) × RoomAfter (mergedOf (pointsIn (now a)) (pointsIn (now b))) (now out) at ⌝ }
-    ensures places { λ r. ⌜ (r .i < length (now (a .entry))) × (r .j < length (now (b .entry))) × ((r .i + 1 ≡ length (now (a .entry))) ⊎ (r .j + 1 ≡ length (now (b .entry)))) ⌝ }
-    ensures corners { λ r. ⌜ Reached (mergedOf (pointsIn (now (a .entry))) (pointsIn (now (b .entry)))) (mergedOf (drop (r .i) (pointsIn (now (a .entry)))) (drop (r .j) (pointsIn (now (b .entry))))) (now (out .entry)) at (now (out .exit)) (r .k) ⌝ }
+    requires { ⌜
+        (0 < length (now a))
+        × Mergeable (now a)
+        × (0 < length (now b))
+        × Mergeable (now b)
+        × RoomAfter (mergedOf (pointsIn (now a)) (pointsIn (now b))) (now out) at ⌝ }
+    ensures places { λ r. ⌜
+        (r .i < length (now (a .entry)))
+        × (r .j < length (now (b .entry)))
+        × ((r .i + 1 ≡ length (now (a .entry))) ⊎ (r .j + 1 ≡ length (now (b .entry)))) ⌝ }
+    ensures corners { λ r.
+        let left = pointsIn (now (a .entry)) in
+        let right = pointsIn (now (b .entry)) in
+        let rest = mergedOf (drop (r .i) left) (drop (r .j) right) in
+        ⌜ Reached (mergedOf left right) rest (now (out .entry)) at (now (out .exit)) (r .k) ⌝ }
 {
     let n = a.len() - 1;
     let m = b.len() - 1;
@@ -116,8 +132,13 @@ fn merge(a: &[[i32; 2]], b: &[[i32; 2]], out: &mut [i32], at: usize) -> Halt
 
 // The corners of a's points from i on, but the last, at b's point j.
 fn rest(a: &[[i32; 2]], i: usize, b: &[[i32; 2]], j: usize, out: &mut [i32], at: usize) -> usize
-    requires { ⌜ (i < length (now a)) × Grid (now a) × (j < length (now b)) × Grid (now b) × RoomAfter (restOf (cornerAt (now b) j) (drop i (pointsIn (now a)))) (now out) at ⌝ }
-    ensures { λ r. ⌜ Put (restOf (cornerAt (now (b .entry)) j) (drop i (pointsIn (now (a .entry))))) (now (out .entry)) at (now (out .exit)) r ⌝ }
+    requires { ⌜
+        (i < length (now a))
+        × Grid (now a)
+        × (j < length (now b))
+        × Grid (now b)
+        × RoomAfter (restOf (cornerAt (now b) j) (drop i (pointsIn (now a)))) (now out) at ⌝ }
+    ensures { λ r. ⌜ CornersPut (restOf (cornerAt (now (b .entry)) j) (drop i (pointsIn (now (a .entry))))) (now (out .entry)) at (now (out .exit)) r ⌝ }
 {
     let n = a.len() - 1;
     let mut p = i;
@@ -133,7 +154,7 @@ fn rest(a: &[[i32; 2]], i: usize, b: &[[i32; 2]], j: usize, out: &mut [i32], at:
 // The corners of two walks merged are put after the first `at`; answers how many stand there then.
 pub fn append_pair(a: &[[i32; 2]], b: &[[i32; 2]], out: &mut [i32], at: usize) -> usize
     requires { ⌜ Mergeable (now a) × Mergeable (now b) × RoomAfter (mergedOf (pointsIn (now a)) (pointsIn (now b))) (now out) at ⌝ }
-    ensures { λ r. ⌜ Put (mergedOf (pointsIn (now (a .entry))) (pointsIn (now (b .entry)))) (now (out .entry)) at (now (out .exit)) r ⌝ }
+    ensures { λ r. ⌜ CornersPut (mergedOf (pointsIn (now (a .entry))) (pointsIn (now (b .entry)))) (now (out .entry)) at (now (out .exit)) r ⌝ }
 {
     if a.len() == 0 {
         return at;

@@ -16,7 +16,7 @@ use Rattle.plane.specs.declared.IntPoint.{IntPoint}
 use Rattle.pair.specs.declared.Place.{Place}
 use Rattle.pair.specs.Walk.{pointOf, edgeOf, advance}
 use Rattle.pair.specs.Demand.{handed, live}
-use Rattle.pair.proofs.EdgeLists.{grouped}
+use Rattle.pair.specs.EdgeLists.{grouped}
 use Rattle.pair.proofs.Places.{point-advance}
 use Rattle.pair.proofs.FewCorners.{length-handed}
 use Rattle.pair_points.specs.Points.{pointsAlong}

@@ -13,7 +13,7 @@ use Rattle.table.specs.Table.{pointsOf, offRange}
 use Rattle.pair.specs.declared.Place.{Place}
 use Rattle.pair.specs.Walk.{windingLeaves, pointOf}
 use Rattle.pair.specs.Demand.{handed, live}
-use Rattle.pair.proofs.EdgeLists.{grouped}
+use Rattle.pair.specs.EdgeLists.{grouped}
 use Rattle.pair_points.specs.Points.{pointsAlong, unrolled}
 use Rattle.walk.specs.Calls.{lengthBroken, misplaced}
 use Rattle.convex_ring.specs.Buffers.{cornerAt}

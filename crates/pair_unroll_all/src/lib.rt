@@ -17,7 +17,9 @@ fn unroll_part(
     from: usize,
 ) -> Unrolled
     requires { ⌜ PartAt (now starts) (now corners) p (now points) from ⌝ }
-    ensures { λ r. ⌜ UnrolledBy reflected (getD (tableParts (now (starts .entry)) (now (corners .entry))) p []) (now (points .entry)) from (now (points .exit)) r ⌝ }
+    ensures { λ r.
+        let part = getD (tableParts (now (starts .entry)) (now (corners .entry))) p [] in
+        ⌜ UnrolledBy reflected part (now (points .entry)) from (now (points .exit)) r ⌝ }
 {
     let a = 2 * (starts[p] as usize);
     let e = 2 * (starts[p + 1] as usize);
@@ -34,7 +36,9 @@ pub fn unroll_all(
     firsts: &mut [u32],
 ) -> bool
     requires { ⌜ Unrollables (now starts) (now corners) done (now points) (now firsts) ⌝ }
-    ensures { λ r. ⌜ AllUnrolled reflected (tableParts (now (starts .entry)) (now (corners .entry))) done (now (points .entry)) (now (firsts .entry)) (now (points .exit)) (now (firsts .exit)) r ⌝ }
+    ensures { λ r.
+        let parts = tableParts (now (starts .entry)) (now (corners .entry)) in
+        ⌜ AllUnrolled reflected parts done (now (points .entry)) (now (firsts .entry)) (now (points .exit)) (now (firsts .exit)) r ⌝ }
 {
     let parts = starts.len() - 1;
     let mut count = firsts[done] as usize;

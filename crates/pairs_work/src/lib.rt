@@ -56,7 +56,9 @@ fn pairs_fault(
     firsts: &mut [u32],
 ) -> u32
     requires { ⌜ Large (now points) (now firsts) ⌝ }
-    ensures { λ r. ⌜ PairsTold (callOf operation (now («left_starts» .entry)) (now («left_corners» .entry)) (now («right_starts» .entry)) (now («right_corners» .entry))) (now (points .exit)) (now (firsts .exit)) r ⌝ }
+    ensures { λ r.
+        let x = callOf operation (now («left_starts» .entry)) (now («left_corners» .entry)) (now («right_starts» .entry)) (now («right_corners» .entry)) in
+        ⌜ PairsTold x (now (points .exit)) (now (firsts .exit)) r ⌝ }
 {
     let fault = minkowski_faults::operands_fault(
         left_starts,
@@ -92,7 +94,9 @@ fn begin_operands(
     numbers: &mut [u64],
 ) -> Begun
     requires { ⌜ Places (now points) (now firsts) (now numbers) ⌝ }
-    ensures { λ r. ⌜ CallBegins (callOf operation (now («left_starts» .entry)) (now («left_corners» .entry)) (now («right_starts» .entry)) (now («right_corners» .entry))) (now (points .exit)) (now (firsts .exit)) (now (numbers .exit)) r ⌝ }
+    ensures { λ r.
+        let x = callOf operation (now («left_starts» .entry)) (now («left_corners» .entry)) (now («right_starts» .entry)) (now («right_corners» .entry)) in
+        ⌜ CallBegins x (now (points .exit)) (now (firsts .exit)) (now (numbers .exit)) r ⌝ }
 {
     let fault = pairs_fault(
         operation,
