@@ -38,7 +38,11 @@ pub fn point_of(contour: &[i32], w: Place) -> IntPoint
 
 // The edge to its next place.
 pub fn edge_of(contour: &[i32], w: Place) -> IntVector
-    requires { ⌜ (lengthBroken (now contour) ≡ false) × (misplaced (length (pointsOf (now contour))) w ≡ false) × (offAt (pointsOf (now contour)) (w .index) ≡ false) × (offAt (pointsOf (now contour)) (nextIndex (length (pointsOf (now contour))) w) ≡ false) ⌝ }
+    requires { let l = pointsOf (now contour) in
+        ⌜ (lengthBroken (now contour) ≡ false)
+        × (misplaced (length l) w ≡ false)
+        × (offAt l (w .index) ≡ false)
+        × (offAt l (nextIndex (length l) w) ≡ false) ⌝ }
     ensures { λ r. ⌜ (vector r ≡ edgeOf (pointsOf (now (contour .entry))) w) × Short r ⌝ }
 {
     let next = next_index(corner_count(contour), w);
