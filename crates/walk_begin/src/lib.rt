@@ -49,7 +49,10 @@ fn along(s: u16, e: u16, remaining: u16, reflected: bool) -> Place
 // Where a walk that starts at corner s stands at first, by its winding.
 fn place_by(contour: &[i32], reflected: bool, s: usize, total: i64) -> Place
     requires { ⌜ (lengthBroken (now contour) ≡ false) × (s < length (pointsOf (now contour))) ⌝ }
-    ensures { λ r. ⌜ r ≡ placeBy reflected (length (pointsOf (now (contour .entry)))) s (endAt reflected (pointsOf (now (contour .entry)))) total (eqPt (cornerAt (pointsOf (now (contour .entry))) s) (cornerAt (pointsOf (now (contour .entry))) (endAt reflected (pointsOf (now (contour .entry)))))) ⌝ }
+    ensures { λ r.
+        let l = pointsOf (now (contour .entry)) in
+        let end = endAt reflected l in
+        ⌜ r ≡ placeBy reflected (length l) s end total (eqPt (cornerAt l s) (cornerAt l end)) ⌝ }
 {
     let n = corner_count(contour) as u16;
     let start = s as u16;
