@@ -115,7 +115,9 @@ fn or_above(before: bool, s: i64) -> bool
 // Whether z, with side s of the edge from corner i to corner k, is left of it or the edge has no length, and so it was before.
 fn and_left(contour: &[i32], i: usize, k: usize, before: bool, s: i64) -> bool
     requires { ⌜ EdgeAt (now contour) i k ⌝ }
-    ensures { λ r. ⌜ r ≡ cond before (cond (ltZ (pos 0) s) true (eqPt (cornerAt (pointsOf (now (contour .entry))) i) (cornerAt (pointsOf (now (contour .entry))) k))) false ⌝ }
+    ensures { λ r.
+        let l = pointsOf (now (contour .entry)) in
+        ⌜ r ≡ cond before (cond (ltZ (pos 0) s) true (eqPt (cornerAt l i) (cornerAt l k))) false ⌝ }
 {
     if before {
         if s > 0 {
