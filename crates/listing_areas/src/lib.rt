@@ -32,7 +32,9 @@ fn add_wrapped(total: u64, term: i64) -> u64
 // The doubled area of the triangle of the first corner, corner i and the one after it.
 fn wedge(corners: &[i32], i: usize) -> i64
     requires { ⌜ (offRange (now corners) ≡ false) × (i + 1 < length (pointsOf (now corners))) ⌝ }
-    ensures { λ r. ⌜ (r ≡ areaTwo (cornerAt (pointsOf (now (corners .entry))) 0) (cornerAt (pointsOf (now (corners .entry))) i) (cornerAt (pointsOf (now (corners .entry))) (i + 1))) × CrossSize r ⌝ }
+    ensures { λ r.
+        let part = pointsOf (now (corners .entry)) in
+        ⌜ (r ≡ areaTwo (cornerAt part 0) (cornerAt part i) (cornerAt part (i + 1))) × CrossSize r ⌝ }
 {
     let first = walk_read::corner_at(corners, 0);
     let a = walk_read::corner_at(corners, i);
