@@ -46,7 +46,9 @@ fn put_line(
     at: usize,
 ) -> usize
     requires { ⌜ LineRoom (now starts) (now corners) k total (now out) at ⌝ }
-    ensures { λ r. ⌜ PutText (partLine total k (getD (tableParts (now (starts .entry)) (now (corners .entry))) k [])) at (now (out .entry)) (now (out .exit)) r ⌝ }
+    ensures { λ r.
+        let part = getD (tableParts (now (starts .entry)) (now (corners .entry))) k [] in
+        ⌜ PutText (partLine total k part) at (now (out .entry)) (now (out .exit)) r ⌝ }
 {
     let part = table_shown::part_of(starts, corners, k);
     put_part(k as u64, part, total, out, at)
