@@ -12,9 +12,9 @@ use lib.IntN.{ℤ}
 use Rattle.integers.specs.Lists.{overlay}
 use Rattle.integers.proofs.Overlay.{overlay-nil, take-overlay}
 use Rattle.plane.specs.Plane.{Pt, _+ᵖ_}
-use Rattle.table.specs.Table.{pointsOf, numbersOf}
-use Rattle.table.proofs.Corners.{points-numbers, length-numbers, length-points}
-use Rattle.convex_ring.specs.Buffers.{cornerAt}
+use Rattle.corners.specs.Corners.{pointsOf, numbersOf}
+use Rattle.corners.proofs.Corners.{points-numbers, length-numbers, length-points}
+use Rattle.points.specs.Points.{cornerIn}
 use Rattle.pair_points.specs.Points.{mergedOf}
 use Rattle.pair_merge.specs.Putting.{RoomAfter, Put}
 use Rattle.pair_walks.specs.Walks.{walksIn, walkIn, leftsIn, rightsIn, contoursIn, pairIn}
@@ -180,7 +180,7 @@ module _ {points : List (List ℤ)} {numbers : List ℕ} {c : List Pt} {e : ℕ}
 
   -- no more corners than edges
   pub as-count : length (chainOf numbers x) ≡ length c
-  as-count = sym (length-map (chainOf numbers x) (λ p. cornerAt points (p .0) +ᵖ cornerAt points (p .1))) ∙ ap length (a .contour)
+  as-count = sym (length-map (chainOf numbers x) (λ p. cornerIn points (p .0) +ᵖ cornerIn points (p .1))) ∙ ap length (a .contour)
 
   pub as-few : length c ≤ e
   as-few = omega (arith, as-count, a .edges, chain-short numbers (x .end) (x .end - (x .i + x .j)) (x .i) (x .j))

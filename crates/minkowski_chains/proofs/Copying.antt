@@ -9,8 +9,8 @@ use lib.IntN.{ℤ, pos}
 use Rattle.integers.specs.Lists.{overlay}
 use Rattle.integers.proofs.Overlay.{overlay-eq, copy-turn-past}
 use Rattle.plane.specs.Plane.{Pt}
-use Rattle.table.specs.Table.{pointsOf, numbersOf}
-use Rattle.table.proofs.Corners.{length-numbers, numbers-append, numbers-points}
+use Rattle.corners.specs.Corners.{pointsOf, numbersOf}
+use Rattle.corners.proofs.Corners.{length-numbers, numbers-append, numbers-points}
 use Rattle.pair_merge.specs.Putting.{Put}
 use Rattle.minkowski_chains.specs.Contours.{cornersIn}
 use Rattle.minkowski_chains.proofs.Contours.{corners-count}

@@ -13,10 +13,9 @@ use Rattle.integers.specs.Lists.{All}
 use Rattle.integers.proofs.Elements.{all-flatten}
 use Rattle.plane.specs.Plane.{Pt, O, inRange, onGrid}
 use Rattle.table.specs.Table.{partsOf, maxContour}
-use Rattle.convex_ring.specs.Buffers.{cornerOf, Grid}
-use Rattle.convex_contour.specs.Contour.{firstPoints}
-use Rattle.convex_gather.specs.Gather.{Gathered}
-use Rattle.convex_gather.proofs.Reading.{enough-starts}
+use Rattle.points.specs.Points.{cornerOf, Grid, firstPoints}
+use Rattle.points.specs.Gathered.{Gathered}
+use Rattle.points.proofs.Reading.{enough-starts}
 use Rattle.pair_points.specs.Points.{mergedOf, Turning}
 use Rattle.pair_merge.specs.Putting.{Put}
 use Rattle.pair_merge.proofs.Merging.{point-in}

@@ -9,7 +9,8 @@ use lib.ListN.{length, getD, take}
 use lib.IntN.{ℤ}
 use Rattle.integers.specs.Lists.{sumℕ}
 use Rattle.plane.specs.Plane.{Pt}
-use Rattle.table.specs.Table.{pointsOf, maxContour}
+use Rattle.corners.specs.Corners.{pointsOf}
+use Rattle.table.specs.Table.{maxContour}
 use Rattle.pair_walks.specs.Walks.{leftsIn, rightsIn, contoursIn}
 use Rattle.pair_numbers.specs.Numbers.{Keyed}
 use Rattle.minkowski_rows.specs.Rows.{PairsPut}

@@ -1,6 +1,6 @@
 // All pairs of two operands' walks merged by numbers (pair_chains; int/minkowski.rs, `sum_parts`): `append_all` puts their contours, four pairs side by side, on the front of lent starts
 // and corners, and `merge_one` one pair's into a work buffer; `no_room` and `count_all` count corners by numbers alone. Walks lie in one buffer, the left operand's first (pair_walks), with a number a point (pair_numbers). What is put is
-// what minkowski_rows puts. Leans on pair_chains, pair_walks, pair_numbers, minkowski_rows (definitions and laws of contours put) and convex_gather.
+// what minkowski_rows puts. Leans on pair_chains, pair_walks, pair_numbers, minkowski_rows (definitions and laws of contours put) and points.
 ghost use mathlib.Core.Path.{_≡_};
 ghost use mathlib.Core.List.{_∷_, []};
 ghost use Prim.Native.Nat.{_+_, _*_, _-_, _<_, _≤_, _^_};
@@ -215,7 +215,7 @@ fn append_copied(
 {
     copy_in(work, count, out, at);
     let k = at + count;
-    convex_gather::put_start(starts, n + 1, k);
+    points::put_start(starts, n + 1, k);
     k
 }
 
@@ -235,7 +235,7 @@ fn append_one(
 {
     let x = pair_next(firsts, points, numbers, left, right, s);
     let k = pair_chains::merge_one(points, numbers, x, out, s.k);
-    convex_gather::put_start(starts, s.n + 1, k);
+    points::put_start(starts, s.n + 1, k);
     after(s, left, right, k)
 }
 
@@ -261,7 +261,7 @@ fn append_four(
     let t = f.s;
     let n = s.n;
     let r = pair_chains::merge_four(points, numbers, x, out, s.k, wb, wc, wd);
-    convex_gather::put_start(starts, n + 1, r.a);
+    points::put_start(starts, n + 1, r.a);
     let b = append_copied(wb, r.b, starts, n + 1, out, r.a);
     let c = append_copied(wc, r.c, starts, n + 2, out, b);
     let d = append_copied(wd, r.d, starts, n + 3, out, c);
@@ -330,7 +330,7 @@ fn append_used(
     requires { ⌜ Used (now firsts) (now points) (now numbers) left right × WorkRooms (now points) (now wb) (now wc) (now wd) × PairsRoom (contoursIn (now firsts) (now points) left right) (now starts) 0 (now out) 0 ⌝ }
     ensures { λ r. ⌜ AllPut (contoursIn (now (firsts .entry)) (now (points .entry)) left right) (now (starts .entry)) (now (out .entry)) (now (starts .exit)) (now (out .exit)) r ⌝ }
 {
-    convex_gather::put_start(starts, 0, 0);
+    points::put_start(starts, 0, 0);
     let all = left * right;
     let mut s = append_fours(
         firsts,

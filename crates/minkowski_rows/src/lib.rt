@@ -1,6 +1,6 @@
 // All pairs of two operands' walks in one buffer (int/minkowski.rs, `sum_parts`; pair_walks has where walks lie): `append_all` merges each left walk with each right
 // one in order and puts the contours on the front of lent starts and corners; `merge_walks` merges any two of them. By the law `merged-pairs` of pair_walks these are
-// the pairs' contours. Leans on pair_merge, convex_gather and pair_walks' definitions.
+// the pairs' contours. Leans on pair_merge, points and pair_walks' definitions.
 ghost use mathlib.Core.Path.{_≡_};
 ghost use mathlib.Core.List.{_∷_, []};
 ghost use Prim.Native.Nat.{_+_, _<_};
@@ -44,7 +44,7 @@ fn append_one(
     ensures { λ r. ⌜ PairsPut (mergedIn (now (firsts .entry)) (now (points .entry)) count p q ∷ []) (now (starts .entry)) n (now (out .entry)) at (now (starts .exit)) (n + 1) (now (out .exit)) r ⌝ }
 {
     let k = merge_walks(firsts, points, count, p, q, out, at);
-    convex_gather::put_start(starts, n + 1, k);
+    points::put_start(starts, n + 1, k);
     k
 }
 
@@ -85,7 +85,7 @@ pub fn append_all(
     requires { ⌜ Walks (now firsts) (now points) (left + right) × PairsRoom (contoursIn (now firsts) (now points) left right) (now starts) 0 (now out) 0 ⌝ }
     ensures { λ r. ⌜ AllPut (contoursIn (now (firsts .entry)) (now (points .entry)) left right) (now (starts .entry)) (now (out .entry)) (now (starts .exit)) (now (out .exit)) r ⌝ }
 {
-    convex_gather::put_start(starts, 0, 0);
+    points::put_start(starts, 0, 0);
     let mut k: usize = 0;
     let mut n: usize = 0;
     let mut p: usize = 0;

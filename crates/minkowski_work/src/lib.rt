@@ -40,7 +40,7 @@ pub fn walks_fault(
     ensures { λ r. ⌜ WalksTold (callOf operation (now («left_starts» .entry)) (now («left_corners» .entry)) (now («right_starts» .entry)) (now («right_corners» .entry))) (now (points .exit)) (now (firsts .exit)) r ⌝ }
 {
     let reflected = operation.reflected;
-    convex_gather::put_start(firsts, 0, 0);
+    points::put_start(firsts, 0, 0);
     if pair_unroll_all::unroll_all(left_starts, left_corners, false, 0, points, firsts) {
         return integers::fault::WINDING;
     }

@@ -9,7 +9,7 @@ ghost use Prim.Native.Nat.{_+_, _<_, _≤_, _^_};
 ghost use lib.Dec.{ltb};
 ghost use lib.ListN.{length, getD};
 ghost use Rattle.plane.specs.Plane.{_+ᵖ_};
-ghost use Rattle.convex_ring.specs.Buffers.{cornerAt};
+ghost use Rattle.points.specs.Points.{cornerIn};
 ghost use Rattle.pair_merge.specs.Putting.{RoomAfter, Put};
 ghost use Rattle.pair_chains.specs.Chains.{leftAfter, rightAfter, contourFrom, contourOf, chain, chainOf, bothGoing, laneOf, Buffers, Runs, Low, Fits, FourFit, FourPut, Countable};
 
@@ -72,9 +72,9 @@ fn step_on(numbers: &[u64], s: Lane) -> Lane
 
 // One turn: the corner where the walks stand is put, and they step on.
 fn step(points: &[[i32; 2]], numbers: &[u64], s: Lane, out: &mut [i32]) -> Lane
-    requires { ⌜ Buffers (now points) (now numbers) × (s .i < length (now points)) × (s .j < length (now points)) × RoomAfter ((cornerAt (now points) (s .i) +ᵖ cornerAt (now points) (s .j)) ∷ []) (now out) (s .k) ⌝ }
+    requires { ⌜ Buffers (now points) (now numbers) × (s .i < length (now points)) × (s .j < length (now points)) × RoomAfter ((cornerIn (now points) (s .i) +ᵖ cornerIn (now points) (s .j)) ∷ []) (now out) (s .k) ⌝ }
     ensures places { λ r. ⌜ r ≡ record { i = leftAfter (now (numbers .entry)) (s .i) (s .j); j = rightAfter (now (numbers .entry)) (s .i) (s .j); k = s .k + 1 } ⌝ }
-    ensures corner { λ r. ⌜ Put ((cornerAt (now (points .entry)) (s .i) +ᵖ cornerAt (now (points .entry)) (s .j)) ∷ []) (now (out .entry)) (s .k) (now (out .exit)) (s .k + 1) ⌝ }
+    ensures corner { λ r. ⌜ Put ((cornerIn (now (points .entry)) (s .i) +ᵖ cornerIn (now (points .entry)) (s .j)) ∷ []) (now (out .entry)) (s .k) (now (out .exit)) (s .k + 1) ⌝ }
 {
     let i = s.i;
     let j = s.j;

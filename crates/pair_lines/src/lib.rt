@@ -3,7 +3,7 @@
 // on text and minkowski_chains.
 ghost use Prim.Native.Nat.{_+_, _≤_};
 ghost use lib.ListN.{length};
-ghost use Rattle.table.specs.Table.{pointsOf};
+ghost use Rattle.corners.specs.Corners.{pointsOf};
 ghost use Rattle.text.specs.Put.{PutText};
 ghost use Rattle.pair_walks.specs.Walks.{pairIn};
 ghost use Rattle.pair_lines.specs.Lines.{boundsText, pairsHead, pairLine};

@@ -1,5 +1,5 @@
 // All parts of a sound table unrolled to points, one after another, after walks that are there (`unroll_all`): walk n is the points from firsts[n] up to
-// firsts[n + 1]. Or it is told that some winding leaves 64 bits (fault 8), and then what the buffers hold is of no matter. Leans on pair_unroll and convex_gather.
+// firsts[n + 1]. Or it is told that some winding leaves 64 bits (fault 8), and then what the buffers hold is of no matter. Leans on pair_unroll and points.
 ghost use mathlib.Core.List.{[]};
 ghost use lib.ListN.{getD};
 ghost use Rattle.table.specs.Table.{tableParts};
@@ -46,7 +46,7 @@ pub fn unroll_all(
         };
         count = n;
         p += 1;
-        convex_gather::put_start(firsts, done + p, count);
+        points::put_start(firsts, done + p, count);
     }
     false
 }

@@ -12,8 +12,8 @@ ring-end-requires c κs = search needs
 sub-corner-at : tie.Need-sub-corner-at
 sub-corner-at c = search needs
 
-corner-at-requires : tie.Need-corner-at-requires
-corner-at-requires c κs = search needs
+point-at-requires : tie.Need-corner-at-requires
+point-at-requires c κs = search needs
 
 ring-at-requires : tie.Need-ring-at-requires
 ring-at-requires c κs = search needs
@@ -27,7 +27,7 @@ joins-at-requires c κs = search needs
 returns : tie.Need-returns
 returns c =
     let d = c .before in
-    c .joins-at .ensures ∙ (λ i. joins (d .before .before .before .ring-end .ensures .0 i) (d .before .before .corner-at .ensures .0 i) (point (d .before .before .before .before .args .p)) (d .before .ring-at .ensures .0 i) (d .ring-at2 .ensures .0 i))
+    c .joins-at .ensures ∙ (λ i. joins (d .before .before .before .ring-end .ensures .0 i) (d .before .before .point-at .ensures .0 i) (point (d .before .before .before .before .args .p)) (d .before .ring-at .ensures .0 i) (d .ring-at2 .ensures .0 i))
 
 pub joins-over-spec : {M : Type 1} → statement M
 joins-over-spec =
@@ -35,7 +35,7 @@ joins-over-spec =
     (tie.spec
     ring-end-requires
     sub-corner-at
-    corner-at-requires
+    point-at-requires
     ring-at-requires
     ring-at-requires-2
     joins-at-requires
