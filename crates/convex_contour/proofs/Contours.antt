@@ -27,6 +27,7 @@ use Rattle.convex.specs.Joining.{keptBy, turning, withoutStraight}
 use Rattle.convex.specs.Zipper.{Zipper, fromLastZ}
 use Rattle.convex_ring.specs.declared.Progress.{Progress}
 use Rattle.points.specs.Points.{cornerOf, cornerIn, pairOf, firstPoints, Appended}
+use Rattle.points.proofs.Points.{appended-none, appended-one, appended-more}
 use Rattle.convex_ring.specs.Buffers.{Holds}
 use Rattle.convex_contour.specs.declared.Run.{Run}
 use Rattle.convex_contour.specs.Contour.{contourAt, Whole, placeBefore, keptIf, bends, keptAlong, wayAlong, between, Runnable, Ran}

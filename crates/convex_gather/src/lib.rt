@@ -7,6 +7,7 @@ ghost use Rattle.integers.specs.Lists.{overlay};
 ghost use Rattle.corners.specs.Corners.{numbersOf};
 ghost use Rattle.points.specs.Points.{cornerIn, firstPoints};
 ghost use Rattle.convex_gather.specs.Gather.{HandedOut};
+use points::Tally;
 use table::Counts;
 
 // The first n starts, on the front of the lent ones.

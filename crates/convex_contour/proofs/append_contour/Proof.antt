@@ -11,13 +11,13 @@ sub-last c = search needs
 place-before-requires : tie.Need-place-before-requires
 place-before-requires c κs = search needs
 
-point-at-requires : tie.Need-corner-at-requires
+point-at-requires : tie.Need-point-at-requires
 point-at-requires c κs =
     let s = c .before .before in
     let g = s .args in
     (omega (arith, before-below (g .corners .now) (g .p) (s .pre .0) (c .place-before .ensures)), s .pre .0 .grid)
 
-point-at-requires-2 : tie.Need-corner-at-requires-2
+point-at-requires-2 : tie.Need-point-at-requires-2
 point-at-requires-2 c κs = search needs
 
 subtract-requires : tie.Need-subtract-requires

@@ -9,7 +9,7 @@ use Rattle.convex_contour.proofs.append_corner.Tie as tie
 bends-requires : tie.Need-bends-requires
 bends-requires c κs = search needs
 
-put-point-requires : tie.Need-put-corner-requires
+put-point-requires : tie.Need-put-point-requires
 put-point-requires c κs = search needs
 
 add-result : tie.Need-add-result

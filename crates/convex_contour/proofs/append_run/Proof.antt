@@ -18,7 +18,7 @@ loop-holds c =
     let g = c .args in
     (ran-start (g .corners .now) (g .from) (c .pre), omega arith, c .pre .ordered)
 
-point-at-requires : tie.Need-corner-at-requires Inv-loop μ-loop
+point-at-requires : tie.Need-point-at-requires Inv-loop μ-loop
 point-at-requires c κs =
     let s = c .before .before in
     (omega (arith, c .loop-test .taken, s .pre .within), s .pre .grid)

@@ -15,7 +15,7 @@ put-edge-requires c κs = search needs
 put-edge-requires-2 : tie.Need-put-edge-requires-2
 put-edge-requires-2 c κs = search needs
 
-put-point-requires : tie.Need-put-corner-requires
+put-point-requires : tie.Need-put-point-requires
 put-point-requires c κs = search needs
 
 add-t10 : tie.Need-add-t10

@@ -12,7 +12,7 @@ use Rattle.convex_grow.proofs.put_vertex.Tie as tie
 vertex-of-requires : tie.Need-vertex-of-requires
 vertex-of-requires c κs = search needs
 
-put-point-requires : tie.Need-put-corner-requires
+put-point-requires : tie.Need-put-point-requires
 put-point-requires c κs = search needs
 
 after-of-requires : tie.Need-after-of-requires

@@ -9,10 +9,10 @@ use Rattle.convex_ring.proofs.joins_over.Tie as tie
 ring-end-requires : tie.Need-ring-end-requires
 ring-end-requires c κs = search needs
 
-sub-corner-at : tie.Need-sub-corner-at
-sub-corner-at c = search needs
+sub-point-at : tie.Need-sub-point-at
+sub-point-at c = search needs
 
-point-at-requires : tie.Need-corner-at-requires
+point-at-requires : tie.Need-point-at-requires
 point-at-requires c κs = search needs
 
 ring-at-requires : tie.Need-ring-at-requires
@@ -34,7 +34,7 @@ joins-over-spec =
     tie.close
     (tie.spec
     ring-end-requires
-    sub-corner-at
+    sub-point-at
     point-at-requires
     ring-at-requires
     ring-at-requires-2

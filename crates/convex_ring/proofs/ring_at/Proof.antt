@@ -8,10 +8,10 @@ use Rattle.convex_ring.proofs.ring_at.Tie as tie
 add-if1 : tie.Need-add-if1
 add-if1 c = search needs
 
-add-corner-at : tie.Need-add-corner-at
-add-corner-at c = search needs
+add-point-at : tie.Need-add-point-at
+add-point-at c = search needs
 
-point-at-requires : tie.Need-corner-at-requires
+point-at-requires : tie.Need-point-at-requires
 point-at-requires c κs = search needs
 
 returns : tie.Need-returns
@@ -19,13 +19,13 @@ returns c =
     let s = c .before .before in
     (c .point-at .ensures .0 ∙ sym (around-near (s .args .corners .now) (s .args .pending) (s .args .done) (s .pre .0) (s .args .i) (c .before .if1 .taken)), c .point-at .ensures .1)
 
-add-corner-at-2 : tie.Need-add-corner-at-2
-add-corner-at-2 c = search needs
+add-point-at-2 : tie.Need-add-point-at-2
+add-point-at-2 c = search needs
 
-sub-corner-at : tie.Need-sub-corner-at
-sub-corner-at c = search needs
+sub-point-at : tie.Need-sub-point-at
+sub-point-at c = search needs
 
-point-at-requires-2 : tie.Need-corner-at-requires-2
+point-at-requires-2 : tie.Need-point-at-requires-2
 point-at-requires-2 c κs = search needs
 
 returns-2 : tie.Need-returns-2
@@ -38,10 +38,10 @@ ring-at-spec =
     tie.close
     (tie.spec
     add-if1
-    add-corner-at
+    add-point-at
     point-at-requires
     returns
-    add-corner-at-2
-    sub-corner-at
+    add-point-at-2
+    sub-point-at
     point-at-requires-2
     returns-2)

@@ -5,13 +5,13 @@ use borrow.Author.Needs.{needs}
 use Rattle.pair_merge.proofs.edge.Statement.{statement}
 use Rattle.pair_merge.proofs.edge.Tie as tie
 
-add-corner-at : tie.Need-add-corner-at
-add-corner-at c = search needs
+add-point-at : tie.Need-add-point-at
+add-point-at c = search needs
 
-point-at-requires : tie.Need-corner-at-requires
+point-at-requires : tie.Need-point-at-requires
 point-at-requires c κs = search needs
 
-point-at-requires-2 : tie.Need-corner-at-requires-2
+point-at-requires-2 : tie.Need-point-at-requires-2
 point-at-requires-2 c κs = search needs
 
 subtract-requires : tie.Need-subtract-requires
@@ -25,4 +25,4 @@ returns c =
 pub edge-spec : {M : Type 1} → statement M
 edge-spec =
     tie.close
-    (tie.spec add-corner-at point-at-requires point-at-requires-2 subtract-requires returns)
+    (tie.spec add-point-at point-at-requires point-at-requires-2 subtract-requires returns)

@@ -21,10 +21,10 @@ use Rattle.pair_merge.proofs.put_sum.Tie as tie
 summed : {r x y u v : ℤ} → Coordinate x → Coordinate y → mag r < 2 ^ hbits w32 → r ≡ toZ w32 (ofZ w32 x) +ℤ toZ w32 (ofZ w32 y) → x ≡ u → y ≡ v → toZ w32 (ofZ w32 r) ≡ u +ℤ v
 summed {r} h k s e f g = got w32 r s ∙ e ∙ (λ i. kept (coordinate-fits h) i +ℤ kept (coordinate-fits k) i) ∙ (λ i. f i +ℤ g i)
 
-point-at-requires : tie.Need-corner-at-requires
+point-at-requires : tie.Need-point-at-requires
 point-at-requires c κs = search needs
 
-point-at-requires-2 : tie.Need-corner-at-requires-2
+point-at-requires-2 : tie.Need-point-at-requires-2
 point-at-requires-2 c κs = search needs
 
 mul-at : tie.Need-mul-at

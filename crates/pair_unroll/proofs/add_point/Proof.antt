@@ -29,10 +29,10 @@ returns c =
 goes-on-requires : tie.Need-goes-on-requires
 goes-on-requires c κs = search needs
 
-sub-put-corner : tie.Need-sub-put-corner
-sub-put-corner c = search needs
+sub-put-point : tie.Need-sub-put-point
+sub-put-point c = search needs
 
-put-point-requires : tie.Need-put-corner-requires
+put-point-requires : tie.Need-put-point-requires
 put-point-requires c κs = search needs
 
 same-length-2 : tie.Need-same-length-2
@@ -46,7 +46,7 @@ returns-2 c =
     (c .before .before .before .before .before .before .before .same-point .ensures ∙ ap (λ q. eqPt q (point (a .r))) (c .before .before .before .before .before .before .before .before .point-at .ensures)) (c .before .before .before .before .before .before .if1 .left)
     (c .before .before .before .before .goes-on .ensures) (c .before .before .before .if2 .taken) (c .before .put-point .ensures)
 
-put-point-requires-2 : tie.Need-put-corner-requires-2
+put-point-requires-2 : tie.Need-put-point-requires-2
 put-point-requires-2 c κs = search needs
 
 add-result : tie.Need-add-result
@@ -73,7 +73,7 @@ add-point-spec =
     same-length
     returns
     goes-on-requires
-    sub-put-corner
+    sub-put-point
     put-point-requires
     same-length-2
     returns-2

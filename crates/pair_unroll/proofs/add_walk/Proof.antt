@@ -27,7 +27,7 @@ point-of-requires c κs =
     let s = c .before .before in
     (s .pre .placed, off-nowhere (s .args .contour .now) (s .args .start .index) (s .pre .ranged) (index-inside _ _ (s .pre .placed)))
 
-put-point-requires : tie.Need-put-corner-requires Inv-loop μ-loop
+put-point-requires : tie.Need-put-point-requires Inv-loop μ-loop
 put-point-requires c κs = omega (arith, c .before .before .before .pre .room)
 
 add-count : tie.Need-add-count Inv-loop μ-loop

@@ -87,7 +87,7 @@ sums-of-requires c κs = c .pre
 returns : tie.Need-returns
 returns c = let s = c .before .before .before .before in past (s .args .contour .now) (s .pre .0) (s .pre .1) (c .before .before .before .sums-of .ensures) (c .if1 .taken)
 
-point-at-requires : tie.Need-corner-at-requires
+point-at-requires : tie.Need-point-at-requires
 point-at-requires c κs = let s = c .before .before .before .before in (omega (arith, s .pre .1), grid-of (s .args .contour .now) (s .pre .0 .grid))
 
 tripled-requires : tie.Need-tripled-requires

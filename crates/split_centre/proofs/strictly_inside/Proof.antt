@@ -50,13 +50,13 @@ Inv-loop contour g a₀ i₀ a i = Round contour g a i
 abbrev μ-loop : tie.MeasureT-loop
 μ-loop contour g a₀ i₀ a i = length contour - i
 
-point-at-requires : tie.Need-corner-at-requires Inv-loop μ-loop
+point-at-requires : tie.Need-point-at-requires Inv-loop μ-loop
 point-at-requires c κs = (omega (arith, c .pre .2), c .pre .0)
 
 loop-holds : tie.Need-loop-holds Inv-loop μ-loop
 loop-holds c = let s = c .before in starts (s .args .contour .now) (s .args .g) (s .pre .2) (c .point-at .ensures)
 
-point-at-requires-2 : tie.Need-corner-at-requires-2 Inv-loop μ-loop
+point-at-requires-2 : tie.Need-point-at-requires-2 Inv-loop μ-loop
 point-at-requires-2 c κs = (c .loop-test .taken, c .before .before .before .pre .0)
 
 area-two-requires : tie.Need-area-two-requires Inv-loop μ-loop
@@ -82,7 +82,7 @@ loop-again c =
     turns (s .args .contour .now) (s .args .g) (c .before .before .before .before .loop .i) (c .before .before .before .loop-test .taken) (c .before .before .before .before .loop .inv) (c .before .before .point-at2 .ensures)
     (got w64 (k .result) (k .ok) ∙ k .ensures .0) (c .if1 .left)
 
-point-at-requires-3 : tie.Need-corner-at-requires-3 Inv-loop μ-loop
+point-at-requires-3 : tie.Need-point-at-requires-3 Inv-loop μ-loop
 point-at-requires-3 c κs = (omega (arith, c .before .before .before .pre .2), c .before .before .before .pre .0)
 
 area-two-requires-2 : tie.Need-area-two-requires-2 Inv-loop μ-loop

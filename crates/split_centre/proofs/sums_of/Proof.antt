@@ -57,10 +57,10 @@ Inv-loop contour origin s₀ a₀ i₀ s a i = Going contour s a i
 abbrev μ-loop : tie.MeasureT-loop
 μ-loop contour origin s₀ a₀ i₀ s a i = length contour - i
 
-point-at-requires : tie.Need-corner-at-requires Inv-loop μ-loop
+point-at-requires : tie.Need-point-at-requires Inv-loop μ-loop
 point-at-requires c κs = (omega (arith, c .pre .1), grid-of (c .args .contour .now) (c .pre .0 .grid))
 
-point-at-requires-2 : tie.Need-corner-at-requires-2 Inv-loop μ-loop
+point-at-requires-2 : tie.Need-point-at-requires-2 Inv-loop μ-loop
 point-at-requires-2 c κs = let s = c .before in (omega (arith, s .pre .1), grid-of (s .args .contour .now) (s .pre .0 .grid))
 
 subtract-requires : tie.Need-subtract-requires Inv-loop μ-loop
@@ -71,7 +71,7 @@ loop-holds c =
     let s = c .before .before .before in
     starts (s .args .contour .now) (s .pre .1) (vector-read (s .args .contour .now) 1 0 (c .subtract .ensures .0) (c .before .point-at2 .ensures .0) (c .before .before .point-at .ensures .0)) (c .subtract .ensures .1)
 
-point-at-requires-3 : tie.Need-corner-at-requires-3 Inv-loop μ-loop
+point-at-requires-3 : tie.Need-point-at-requires-3 Inv-loop μ-loop
 point-at-requires-3 c κs = let s = c .before .before .before .before .before in (c .loop-test .taken, grid-of (s .args .contour .now) (s .pre .0 .grid))
 
 subtract-requires-2 : tie.Need-subtract-requires-2 Inv-loop μ-loop

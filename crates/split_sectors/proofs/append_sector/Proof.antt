@@ -13,7 +13,7 @@ use borrow.Author.Needs.{needs}
 use Rattle.split_sectors.proofs.append_sector.Statement.{statement}
 use Rattle.split_sectors.proofs.append_sector.Tie as tie
 
-put-point-requires : tie.Need-put-corner-requires
+put-point-requires : tie.Need-put-point-requires
 put-point-requires c κs =
     let s = c .before .before in
     let g = s .args in

@@ -6,7 +6,7 @@ use borrow.Author.Needs.{needs}
 use Rattle.split_sectors.proofs.corner_round.Statement.{statement}
 use Rattle.split_sectors.proofs.corner_round.Tie as tie
 
-point-at-requires : tie.Need-corner-at-requires
+point-at-requires : tie.Need-point-at-requires
 point-at-requires c κs = search needs
 
 returns : tie.Need-returns
@@ -14,7 +14,7 @@ returns c =
     let g = c .before .before .args in
     (c .point-at .ensures .0 ∙ sym (closed-near (g .contour .now) (g .i) (c .before .if1 .taken)), c .point-at .ensures .1)
 
-point-at-requires-2 : tie.Need-corner-at-requires-2
+point-at-requires-2 : tie.Need-point-at-requires-2
 point-at-requires-2 c κs = search needs
 
 returns-2 : tie.Need-returns-2

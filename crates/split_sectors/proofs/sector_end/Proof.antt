@@ -17,7 +17,7 @@ Inv-loop contour centre start target a end₀ end = (end ≤ target) × (endFrom
 abbrev μ-loop : tie.MeasureT-loop
 μ-loop contour centre start target a end₀ end = target - end
 
-point-at-requires : tie.Need-corner-at-requires Inv-loop μ-loop
+point-at-requires : tie.Need-point-at-requires Inv-loop μ-loop
 point-at-requires c κs = (omega (arith, c .pre .0, c .pre .1), c .pre .2)
 
 add-end : tie.Need-add-end Inv-loop μ-loop
