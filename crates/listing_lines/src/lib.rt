@@ -4,7 +4,8 @@
 ghost use mathlib.Core.List.{[]};
 ghost use Prim.Native.Nat.{_≤_};
 ghost use lib.ListN.{length, getD};
-ghost use Rattle.table.specs.Table.{pointsOf, tableParts};
+ghost use Rattle.corners.specs.Corners.{pointsOf};
+ghost use Rattle.table.specs.Table.{tableParts};
 ghost use Rattle.text.specs.Put.{PutText};
 ghost use Rattle.listing.specs.Listing.{headLine, partLine, listingOf};
 ghost use Rattle.listing_areas.specs.Areas.{Listable};

@@ -66,7 +66,14 @@ pub fn hand_out(
     if starts.len() < contours + 1 {
         return refusal(integers::fault::START_ROOM);
     }
-    if no_room(firsts, points, left, right, most, corners.len() / 2) {
+    if no_room(
+        firsts,
+        points,
+        left,
+        right,
+        most,
+        corners.len() / corners::WIDTH,
+    ) {
         return refusal(integers::fault::CORNER_ROOM);
     }
     let count = minkowski_rows::append_all(firsts, points, left, right, starts, corners);

@@ -11,13 +11,13 @@ use Rattle.minkowski_rows.specs.Rows.{PairsPut, PairsRoom, AllPut}
 use lib.ListN.{length, getD, take, drop, length-take, set, length-append, length-set, take-append-drop}
 use lib.Seq.{take-suc, take-all}
 use Rattle.integers.specs.Lists.{overlay}
-use Rattle.table.specs.Table.{pointsOf, numbersOf}
+use Rattle.corners.specs.Corners.{pointsOf, numbersOf}
 use Rattle.pair_merge.specs.Putting.{RoomAfter, CornersPut}
 use Rattle.pair_walks.specs.Walks.{contoursIn}
 use Rattle.pair_numbers.specs.Numbers.{Keyed}
 use native.Mathlib.Numerals.{add-one}
 use Rattle.integers.proofs.Overlay.{overlay-nil, take-overlay}
-use Rattle.table.proofs.Corners.{points-numbers, length-numbers, length-points}
+use Rattle.corners.proofs.Corners.{points-numbers, length-numbers, length-points}
 use Rattle.minkowski_rows.proofs.Pairs.{pairs-none, pairs-then, room-next, all-put}
 use Rattle.minkowski_order.specs.declared.Place.{Place}
 use Rattle.minkowski_order.specs.Order.{Onward, mostEdges, More}

@@ -7,10 +7,10 @@ use native.Mathlib.Omega.{arith}
 use lib.IntN.{ℤ, pos}
 use lib.ListN.{length, getD, take, drop, length-take, length-drop, set, length-append, length-set}
 use Rattle.integers.specs.Lists.{overlay}
-use Rattle.table.specs.Table.{numbersOf}
+use Rattle.corners.specs.Corners.{numbersOf}
 use Rattle.pair_merge.specs.Putting.{CornersPut}
 use Rattle.integers.proofs.Overlay.{overlay-eq, copy-turn-past}
-use Rattle.table.proofs.Corners.{length-numbers, numbers-append, numbers-points}
+use Rattle.corners.proofs.Corners.{length-numbers, numbers-append, numbers-points}
 use Rattle.minkowski_chains.specs.Contours.{workCorners}
 use Rattle.minkowski_chains.proofs.Contours.{corners-count}
 

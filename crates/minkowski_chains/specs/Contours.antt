@@ -5,7 +5,7 @@ use Prim.Native.Nat.{ℕ, _+_, _*_, _-_, _≤_}
 use lib.ListN.{getD, take}
 use lib.IntN.{ℤ}
 use Rattle.plane.specs.Plane.{Pt}
-use Rattle.table.specs.Table.{pointsOf}
+use Rattle.corners.specs.Corners.{pointsOf}
 use Rattle.minkowski_rows.specs.Rows.{PairsPut}
 use Rattle.minkowski_order.specs.declared.Place.{Place}
 use Rattle.minkowski_order.specs.Order.{InOrder, Onward, PairRoom}

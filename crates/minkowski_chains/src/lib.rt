@@ -16,15 +16,15 @@ use minkowski_order::Place;
 // The most points of two operands whose pairs have short work buffers, and the numbers of a buffer that holds the corners of any pair.
 const SMALL: usize = 512;
 
-const WORK: usize = 4 * table::MAX_CONTOUR;
+const WORK: usize = corners::WIDTH * (2 * table::MAX_CONTOUR);
 
 // The first corners of a work buffer are put after the first `at`.
 fn copy_in(work: &[i32], count: usize, out: &mut [i32], at: usize)
     requires { ⌜ (2 * count ≤ length (now work)) × (2 * (at + count) ≤ length (now out)) ⌝ }
     ensures { λ r. ⌜ CornersPut (workCorners count (now (work .entry))) (now (out .entry)) at (now (out .exit)) (at + count) ⌝ }
 {
-    let n = 2 * count;
-    let from = 2 * at;
+    let n = corners::WIDTH * count;
+    let from = corners::WIDTH * at;
     let mut i: usize = 0;
     while i < n {
         let x = work[i];
@@ -49,7 +49,7 @@ fn append_copied(
 {
     copy_in(work, count, out, at);
     let k = at + count;
-    convex_gather::put_start(starts, n + 1, k);
+    points::put_start(starts, n + 1, k);
     k
 }
 
@@ -74,7 +74,7 @@ fn append_next(
 {
     let x = minkowski_order::pair_next(firsts, points, numbers, left, right, s);
     let k = pair_chains::merge_one(points, numbers, x, out, s.k);
-    convex_gather::put_start(starts, s.n + 1, k);
+    points::put_start(starts, s.n + 1, k);
     minkowski_order::after(s, left, right, k)
 }
 
@@ -106,7 +106,7 @@ fn append_four(
     let t = f.s;
     let n = s.n;
     let r = pair_chains::merge_four(points, numbers, x, out, s.k, wb, wc, wd);
-    convex_gather::put_start(starts, n + 1, r.a);
+    points::put_start(starts, n + 1, r.a);
     let b = append_copied(wb, r.b, starts, n + 1, out, r.a);
     let c = append_copied(wc, r.c, starts, n + 2, out, b);
     let d = append_copied(wd, r.d, starts, n + 3, out, c);
@@ -185,7 +185,7 @@ fn append_used(
         let all = contoursIn (now (firsts .entry)) (now (points .entry)) left right in
         ⌜ AllPut all (now (starts .entry)) (now (out .entry)) (now (starts .exit)) (now (out .exit)) r ⌝ }
 {
-    convex_gather::put_start(starts, 0, 0);
+    points::put_start(starts, 0, 0);
     let all = left * right;
     let mut s = append_fours(
         firsts,
@@ -221,9 +221,9 @@ fn append_small(
         let all = contoursIn (now (firsts .entry)) (now (points .entry)) left right in
         ⌜ AllPut all (now (starts .entry)) (now (out .entry)) (now (starts .exit)) (now (out .exit)) r ⌝ }
 {
-    let mut wb = [0i32; 2 * SMALL];
-    let mut wc = [0i32; 2 * SMALL];
-    let mut wd = [0i32; 2 * SMALL];
+    let mut wb = [0i32; corners::WIDTH * SMALL];
+    let mut wc = [0i32; corners::WIDTH * SMALL];
+    let mut wd = [0i32; corners::WIDTH * SMALL];
     append_used(
         firsts,
         points,

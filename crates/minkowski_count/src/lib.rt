@@ -52,7 +52,7 @@ pub fn count_all(firsts: &[u32], points: &[[i32; 2]], left: usize, right: usize)
     requires { ⌜ Walks (now firsts) (now points) (left + right) × (length (flatten (contoursIn (now firsts) (now points) left right)) < 2 ^ 32) ⌝ }
     ensures { λ r. ⌜ r ≡ length (flatten (contoursIn (now (firsts .entry)) (now (points .entry)) left right)) ⌝ }
 {
-    let mut work = [0i32; 4 * table::MAX_CONTOUR];
+    let mut work = [0i32; corners::WIDTH * (2 * table::MAX_CONTOUR)];
     let mut total: usize = 0;
     let mut p: usize = 0;
     while p < left {

@@ -7,7 +7,8 @@ ghost use lib.Dec.{eqb};
 ghost use lib.IntN.{_+ℤ_, _-ℤ_};
 ghost use Rattle.integers.specs.Faults.{firstFault, faultEmpty, faultResult};
 ghost use Rattle.plane.specs.Machine.{Coordinate};
-ghost use Rattle.table.specs.Table.{offRange, boundsList, partCount};
+ghost use Rattle.corners.specs.Corners.{offRange};
+ghost use Rattle.table.specs.Table.{boundsList, partCount};
 ghost use Rattle.minkowski.specs.Pairs.{resultBounds};
 ghost use Rattle.minkowski_faults.specs.Kinds.{operand, operandKinds};
 use table::IntRect;
@@ -32,7 +33,7 @@ fn bounds_off(b: IntRect) -> bool
 fn operand_off(corners: &[i32], bounds: IntRect) -> bool
     ensures { λ r. ⌜ r ≡ offRange (now (corners .entry) ++ boundsList bounds) ⌝ }
 {
-    if table::off_range(corners) {
+    if corners::off_range(corners) {
         return true;
     }
     bounds_off(bounds)

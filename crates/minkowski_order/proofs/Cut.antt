@@ -13,8 +13,8 @@ use lib.Seq.{getD-take, take-take}
 use Rattle.integers.specs.Lists.{All}
 use Rattle.integers.proofs.Elements.{all-flatten}
 use Rattle.table.specs.Table.{maxContour, partsOf}
-use Rattle.convex_ring.specs.Buffers.{cornerOf, Grid}
-use Rattle.convex_gather.proofs.Reading.{enough-starts}
+use Rattle.points.specs.Points.{cornerOf, Grid, firstPoints}
+use Rattle.points.proofs.Reading.{enough-starts}
 use Rattle.pair_points.specs.Points.{mergedOf, Turning}
 use Rattle.pair_merge.specs.Putting.{CornersPut}
 use Rattle.pair_merge.proofs.Merging.{point-in}
@@ -22,8 +22,7 @@ use Rattle.direction_keys.specs.Marks.{Close}
 use Rattle.pair_walks.specs.Walks.{walksIn, walkIn, pairIn, Walks, contoursIn, mergedAll}
 use Rattle.pair_walks.proofs.Walks.{walk-placed}
 use Rattle.pair_numbers.specs.Numbers.{numberOf, Keyed}
-use Rattle.convex_contour.specs.Contour.{firstPoints}
-use Rattle.convex_gather.specs.Gather.{Gathered}
+use Rattle.points.specs.Gathered.{Gathered}
 use Rattle.minkowski_order.specs.Order.{Used}
 use Rattle.minkowski_order.proofs.Held.{walk-ends}
 

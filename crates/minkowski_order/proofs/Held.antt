@@ -15,8 +15,8 @@ use Rattle.integers.specs.Lists.{All}
 use Rattle.integers.proofs.Order.{by-test}
 use Rattle.integers.proofs.Elements.{all-getD}
 use Rattle.table.specs.Table.{maxContour}
-use Rattle.convex_ring.specs.Buffers.{cornerOf, cornerAt}
-use Rattle.convex_gather.proofs.Reading.{PartPlaced}
+use Rattle.points.specs.Points.{cornerOf, cornerIn}
+use Rattle.points.proofs.Reading.{PartPlaced}
 use Rattle.pair_points.specs.Points.{mergedOf, Turning, nthPoint}
 use Rattle.pair_merge.specs.Putting.{RoomAfter, CornersPut}
 use Rattle.pair_merge.proofs.Merging.{point-in}
@@ -185,7 +185,7 @@ module _ (firsts : List ℕ) (points : List (List ℤ)) (numbers : List ℕ) (le
     pub pair-few : length (pairIn firsts points left right p q) ≤ edgesOf (walkIn firsts points (left + right) p) (walkIn firsts points (left + right) (left + q))
     pair-few =
         let x = pairAt firsts left p q in
-        omega (arith, pair-held .edges, ap length (pair-held .contour), length-map (chainOf numbers x) (λ c. cornerAt points (c .0) +ᵖ cornerAt points (c .1)), chain-short numbers (x .end) (x .end - (x .i + x .j)) (x .i) (x .j))
+        omega (arith, pair-held .edges, ap length (pair-held .contour), length-map (chainOf numbers x) (λ c. cornerIn points (c .0) +ᵖ cornerIn points (c .1)), chain-short numbers (x .end) (x .end - (x .i + x .j)) (x .i) (x .j))
 
     pub pair-room : (work : List ℤ) → PairRoom points work → RoomAfter (pairIn firsts points left right p q) work 0
     pair-room work w = omega (arith, w, pair-few, pair-short)

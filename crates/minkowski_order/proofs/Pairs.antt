@@ -9,7 +9,7 @@ use lib.IntN.{ℤ}
 use Rattle.plane.specs.Plane.{Pt, _+ᵖ_}
 use lib.ListN.{length, getD, length-take, length-drop, length-map, length-append, List·getD-append}
 use lib.Seq.{getD-take, getD-drop, getD-append-add}
-use Rattle.convex_ring.specs.Buffers.{cornerAt}
+use Rattle.points.specs.Points.{cornerIn}
 use Rattle.pair_points.specs.Points.{mergedOf}
 use Rattle.pair_merge.specs.Putting.{RoomAfter, CornersPut}
 use Rattle.pair_walks.specs.Walks.{walksIn, walkIn, leftsIn, rightsIn, contoursIn}
@@ -95,7 +95,7 @@ module _ {points : List (List ℤ)} {numbers : List ℕ} {c : List Pt} {e : ℕ}
 
   -- no more corners than edges
   pub as-count : length (chainOf numbers x) ≡ length c
-  as-count = sym (length-map (chainOf numbers x) (λ p. cornerAt points (p .0) +ᵖ cornerAt points (p .1))) ∙ ap length (a .contour)
+  as-count = sym (length-map (chainOf numbers x) (λ p. cornerIn points (p .0) +ᵖ cornerIn points (p .1))) ∙ ap length (a .contour)
 
   pub as-few : length c ≤ e
   as-few = omega (arith, as-count, a .edges, chain-short numbers (x .end) (x .end - (x .i + x .j)) (x .i) (x .j))

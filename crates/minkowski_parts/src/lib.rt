@@ -30,7 +30,7 @@ fn fits(starts: &[u32], corners: &[i32], places: usize) -> bool
     if starts.len() > places {
         return false;
     }
-    corners.len() / 2 <= places - starts.len()
+    corners.len() / corners::WIDTH <= places - starts.len()
 }
 
 // Whether both have.
@@ -263,8 +263,8 @@ fn few_pairs(
     requires { ⌜ FewAsked (now «left_starts») (now «left_corners») (now «right_starts») (now «right_corners») ⌝ }
     ensures { λ r. ⌜ r ≡ fewPairs (now («left_starts» .entry)) (now («left_corners» .entry)) (now («right_starts» .entry)) (now («right_corners» .entry)) ⌝ }
 {
-    let a = left_corners.len() / 2;
-    let b = right_corners.len() / 2;
+    let a = left_corners.len() / corners::WIDTH;
+    let b = right_corners.len() / corners::WIDTH;
     right_starts.len() * a + left_starts.len() * b < 4 * (a + b)
 }
 

@@ -12,9 +12,10 @@ use Rattle.integers.specs.Lists.{overlay}
 use Rattle.integers.proofs.Overlay.{overlay-eq, overlay-nil, overlay-turn}
 use Rattle.integers.proofs.Sums.{length-flatten-append}
 use Rattle.plane.specs.Plane.{Pt}
-use Rattle.table.specs.Table.{startsFrom, startsOf, numbersOf, cornersOf}
+use Rattle.corners.specs.Corners.{numbersOf}
+use Rattle.table.specs.Table.{startsFrom, startsOf, cornersOf}
 use Rattle.table.proofs.Parts.{length-starts}
-use Rattle.convex_gather.proofs.Gathering.{flatten-more, starts-more}
+use Rattle.points.proofs.Gathering.{flatten-more, starts-more}
 use Rattle.pair_points.specs.Points.{mergedOf}
 use Rattle.pair_merge.specs.Putting.{RoomAfter, CornersPut}
 use Rattle.pair_walks.specs.Walks.{mergedRow, mergedAll}

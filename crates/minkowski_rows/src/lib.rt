@@ -1,6 +1,6 @@
 // All pairs of two operands' walks in one buffer (int/minkowski.rs, `sum_parts`; pair_walks has where walks lie): `append_all` merges each left walk with each right
 // one in order and puts the contours on the front of lent starts and corners; `merge_walks` merges any two of them. By the law `merged-pairs` of pair_walks these are
-// the pairs' contours. Leans on pair_merge, convex_gather and pair_walks' definitions.
+// the pairs' contours. Leans on pair_merge, points and pair_walks' definitions.
 ghost use mathlib.Core.Path.{_≡_};
 ghost use mathlib.Core.List.{_∷_, []};
 ghost use Prim.Native.Nat.{_+_, _<_};
@@ -50,7 +50,7 @@ fn append_one(
         ⌜ PairsPut new (now (starts .entry)) n (now (out .entry)) at (now (starts .exit)) (n + 1) (now (out .exit)) r ⌝ }
 {
     let k = merge_walks(firsts, points, count, p, q, out, at);
-    convex_gather::put_start(starts, n + 1, k);
+    points::put_start(starts, n + 1, k);
     k
 }
 
@@ -98,7 +98,7 @@ pub fn append_all(
         let all = contoursIn (now (firsts .entry)) (now (points .entry)) left right in
         ⌜ AllPut all (now (starts .entry)) (now (out .entry)) (now (starts .exit)) (now (out .exit)) r ⌝ }
 {
-    convex_gather::put_start(starts, 0, 0);
+    points::put_start(starts, 0, 0);
     let mut k: usize = 0;
     let mut n: usize = 0;
     let mut p: usize = 0;

@@ -17,8 +17,8 @@ use Rattle.table.specs.Table.{startsFrom, startsOf, roomKinds, partCount, maxCo
 use Rattle.table.proofs.Rules.{sound, count-parts, count-corners, sound-limits}
 use Rattle.pair_points.specs.Points.{Turning, unrolled}
 use Rattle.pair_points.proofs.Merged.{turning-unrolled, length-unrolled}
-use Rattle.convex_gather.specs.declared.Tally.{Tally}
-use Rattle.convex_gather.specs.Gather.{Gathered}
+use Rattle.points.specs.declared.Tally.{Tally}
+use Rattle.points.specs.Gathered.{Gathered}
 use Rattle.pair_unroll_all.specs.Parts.{unrolledParts, Unrollables, AllUnrolled}
 use Rattle.pair_unroll_all.proofs.Parts.{parts-ranged, unrolled-few}
 use Rattle.minkowski.specs.declared.PairCounts.{PairCounts}

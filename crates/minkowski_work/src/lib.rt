@@ -26,7 +26,7 @@ pub fn most_corners(
 {
     let l = left_starts.len() - 1;
     let r = right_starts.len() - 1;
-    r * (left_corners.len() / 2) + l * (right_corners.len() / 2)
+    r * (left_corners.len() / corners::WIDTH) + l * (right_corners.len() / corners::WIDTH)
 }
 
 // Unrolls two operands that 7, 2 and 9 are not told of, each part to points once, and judges the result: the first of 8, 10 and 20 that holds; 0 for none, and then
@@ -47,7 +47,7 @@ pub fn walks_fault(
         ⌜ WalksTold x (now (points .exit)) (now (firsts .exit)) r ⌝ }
 {
     let reflected = operation.reflected;
-    convex_gather::put_start(firsts, 0, 0);
+    points::put_start(firsts, 0, 0);
     if pair_unroll_all::unroll_all(left_starts, left_corners, false, 0, points, firsts) {
         return integers::fault::WINDING;
     }

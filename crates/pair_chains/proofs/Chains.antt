@@ -12,7 +12,7 @@ use lib.IntN.{ℤ}
 use Rattle.integers.specs.Lists.{All}
 use Rattle.integers.proofs.Order.{by-test}
 use Rattle.plane.specs.Plane.{Pt, _+ᵖ_}
-use Rattle.convex_ring.specs.Buffers.{cornerAt}
+use Rattle.points.specs.Points.{cornerIn}
 use Rattle.pair_merge.specs.Putting.{RoomAfter, CornersPut, Reached}
 use Rattle.pair_merge.proofs.Placing.{reached-start, reached-more, reached-end, reached-room}
 use Rattle.direction_keys.specs.Marks.{stepOver}
@@ -95,7 +95,7 @@ pub record Stands (points : List (List ℤ)) (numbers : List ℕ) (end : ℕ) (w
 
 module _ (points : List (List ℤ)) (numbers : List ℕ) (end : ℕ) where
   abbrev cornerOf : Lane → Pt
-  cornerOf s = cornerAt points (s .i) +ᵖ cornerAt points (s .j)
+  cornerOf s = cornerIn points (s .i) +ᵖ cornerIn points (s .j)
 
   abbrev after : Lane → Lane
   after s = record { i = leftAfter numbers (s .i) (s .j); j = rightAfter numbers (s .i) (s .j); k = s .k + 1 }

@@ -11,7 +11,7 @@ use lib.ListN.{length}
 use lib.IntN.{ℤ}
 use Rattle.integers.proofs.Tests.{both-true}
 use Rattle.plane.specs.Plane.{Pt, _+ᵖ_}
-use Rattle.convex_ring.specs.Buffers.{cornerAt}
+use Rattle.points.specs.Points.{cornerIn}
 use Rattle.pair_merge.specs.Putting.{RoomAfter, CornersPut}
 use Rattle.pair_chains.specs.declared.Lane.{Lane}
 use Rattle.pair_chains.specs.declared.Pair.{Pair}
@@ -44,7 +44,7 @@ module _ (points : List (List ℤ)) (numbers : List ℕ) (x : Pair) where
   Of out₀ k₀ s out = Stands points numbers (x .end) (chainContour points numbers x) out₀ k₀ s out
 
   abbrev cornerOf : Lane → List Pt
-  cornerOf s = (cornerAt points (s .i) +ᵖ cornerAt points (s .j)) ∷ []
+  cornerOf s = (cornerIn points (s .i) +ᵖ cornerIn points (s .j)) ∷ []
 
   pub of-start : {s : Lane} (out : List ℤ) (k : ℕ) → Fits points numbers x out k → s ≡ laneOf x k → Of out k s out
   of-start out k f e = subst (λ s. Of out k s out) (sym e) (stands-start points numbers (x .end) (laneOf x k) out (f .runs))

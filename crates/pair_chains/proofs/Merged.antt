@@ -11,7 +11,7 @@ use lib.IntN.{ℤ}
 use Rattle.integers.specs.Lists.{All}
 use Rattle.integers.proofs.Order.{by-test}
 use Rattle.plane.specs.Plane.{Pt, _+ᵖ_}
-use Rattle.convex_ring.specs.Buffers.{cornerAt}
+use Rattle.points.specs.Points.{cornerIn}
 use Rattle.pair_points.specs.Points.{mergedOf, Turning, nthPoint}
 use Rattle.direction_keys.specs.Marks.{leftNumber, rightNumber, stepOver, Close}
 use Rattle.direction_keys.proofs.Steps.{Stepped, keyed-step, keyed-end}
@@ -21,7 +21,7 @@ use Rattle.pair_chains.proofs.Chains.{chain-next, chain-end}
 -- the walk a lies from place f on, each point with its number
 pub record Lies (numberOf : List Pt → ℕ → ℕ) (points : List (List ℤ)) (numbers : List ℕ) (f : ℕ) (a : List Pt) : Type 0 where
   pub inside : f + length a ≤ length points
-  pub corner : (i : ℕ) → i < length a → cornerAt points (f + i) ≡ nthPoint a i
+  pub corner : (i : ℕ) → i < length a → cornerIn points (f + i) ≡ nthPoint a i
   pub number : (i : ℕ) → i < length a → getD numbers (f + i) 0 ≡ numberOf a i
 
 -- from places i and j of the walks on: the corners are the rest merged, and the places are among those of the buffer

@@ -8,7 +8,7 @@ use lib.ListN.{length, getD}
 use lib.IntN.{ℤ}
 use Rattle.integers.specs.Lists.{All}
 use Rattle.plane.specs.Plane.{Pt, _+ᵖ_}
-use Rattle.convex_ring.specs.Buffers.{cornerAt, Grid}
+use Rattle.points.specs.Points.{cornerIn, Grid}
 use Rattle.pair_merge.specs.Putting.{RoomAfter, CornersPut}
 use Rattle.direction_keys.specs.Marks.{stepOver}
 use Rattle.pair_chains.specs.declared.Lane.{Lane}
@@ -38,7 +38,7 @@ chain numbers end i j = chainFor numbers end (end - (i + j)) i j
 
 -- the sum of the two points at each place
 abbrev pub along : List (List ℤ) → List (ℕ × ℕ) → List Pt
-along points places = map (λ p. cornerAt points (p .0) +ᵖ cornerAt points (p .1)) places
+along points places = map (λ p. cornerIn points (p .0) +ᵖ cornerIn points (p .1)) places
 
 abbrev pub contourFrom : List (List ℤ) → List ℕ → ℕ → ℕ → ℕ → List Pt
 contourFrom points numbers end i j = along points (chain numbers end i j)

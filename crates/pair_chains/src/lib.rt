@@ -9,7 +9,7 @@ ghost use Prim.Native.Nat.{_+_, _<_, _≤_, _^_};
 ghost use lib.Dec.{ltb};
 ghost use lib.ListN.{length, getD};
 ghost use Rattle.plane.specs.Plane.{_+ᵖ_};
-ghost use Rattle.convex_ring.specs.Buffers.{cornerAt};
+ghost use Rattle.points.specs.Points.{cornerIn};
 ghost use Rattle.pair_merge.specs.Putting.{RoomAfter, CornersPut};
 ghost use Rattle.pair_chains.specs.Chains.{leftAfter, rightAfter, contourFrom, chainContour, chain, chainOf, fourLengths, bothGoing, laneOf, Buffers, Runs, Low, Fits, FourFit, Countable};
 
@@ -79,13 +79,13 @@ fn step(points: &[[i32; 2]], numbers: &[u64], s: Lane, out: &mut [i32]) -> Lane
         Buffers (now points) (now numbers)
         × (s .i < length (now points))
         × (s .j < length (now points))
-        × RoomAfter ((cornerAt (now points) (s .i) +ᵖ cornerAt (now points) (s .j)) ∷ []) (now out) (s .k) ⌝ }
+        × RoomAfter ((cornerIn (now points) (s .i) +ᵖ cornerIn (now points) (s .j)) ∷ []) (now out) (s .k) ⌝ }
     ensures places { λ r.
         let i = leftAfter (now (numbers .entry)) (s .i) (s .j) in
         let j = rightAfter (now (numbers .entry)) (s .i) (s .j) in
         ⌜ r ≡ record { i = i; j = j; k = s .k + 1 } ⌝ }
     ensures corner { λ r.
-        let new = (cornerAt (now (points .entry)) (s .i) +ᵖ cornerAt (now (points .entry)) (s .j)) ∷ [] in
+        let new = (cornerIn (now (points .entry)) (s .i) +ᵖ cornerIn (now (points .entry)) (s .j)) ∷ [] in
         ⌜ CornersPut new (now (out .entry)) (s .k) (now (out .exit)) (s .k + 1) ⌝ }
 {
     let i = s.i;

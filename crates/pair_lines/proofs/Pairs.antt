@@ -14,8 +14,9 @@ use Rattle.integers.proofs.Overlay.{overlay-nil, take-overlay}
 use Rattle.plane.specs.Plane.{Pt, _+ᵖ_, onGrid}
 use Rattle.plane.specs.Machine.{Coordinate}
 use Rattle.plane.proofs.Size.{on-grid-both}
-use Rattle.table.specs.Table.{maxContour, pointsOf, numbersOf}
-use Rattle.table.proofs.Corners.{length-numbers, points-numbers}
+use Rattle.corners.specs.Corners.{pointsOf, numbersOf}
+use Rattle.table.specs.Table.{maxContour}
+use Rattle.corners.proofs.Corners.{length-numbers, points-numbers}
 use Rattle.text.proofs.Sizes.{Word32s}
 use Rattle.pair.specs.Pair.{pairContour}
 use Rattle.pair_points.specs.Points.{unrolled, mergedOf}

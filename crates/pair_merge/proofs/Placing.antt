@@ -9,8 +9,8 @@ use lib.IntN.{ℤ}
 use Rattle.integers.specs.Lists.{overlay}
 use Rattle.integers.proofs.Overlay.{overlay-eq, overlay-two}
 use Rattle.plane.specs.Plane.{Pt}
-use Rattle.table.specs.Table.{numbersOf}
-use Rattle.table.proofs.Corners.{length-numbers, numbers-append}
+use Rattle.corners.specs.Corners.{numbersOf}
+use Rattle.corners.proofs.Corners.{length-numbers, numbers-append}
 use Rattle.pair_merge.specs.Putting.{RoomAfter, CornersPut, Reached}
 
 -- two numbers stored are a corner put

@@ -7,8 +7,8 @@ use lib.ListN.{length}
 use lib.IntN.{ℤ}
 use Rattle.integers.specs.Lists.{overlay}
 use Rattle.plane.specs.Plane.{Pt}
-use Rattle.table.specs.Table.{numbersOf}
-use Rattle.convex_ring.specs.Buffers.{cornerOf, Grid}
+use Rattle.corners.specs.Corners.{numbersOf}
+use Rattle.points.specs.Points.{cornerOf, Grid}
 use Rattle.pair_points.specs.Points.{Turning}
 
 -- the points of a buffer

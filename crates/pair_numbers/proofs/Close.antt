@@ -18,8 +18,9 @@ use Rattle.plane.specs.Plane.{Pt, O, inRange}
 use Rattle.plane.specs.Machine.{Coordinate}
 use Rattle.plane.proofs.Size.{in-range-coordinate}
 use Rattle.table.specs.declared.IntRect.{IntRect}
-use Rattle.table.specs.Table.{pointsOf, tableBroken, offRange, boundsList, boundsBroken}
-use Rattle.table.proofs.Rules.{was-taken}
+use Rattle.corners.specs.Corners.{pointsOf, offRange}
+use Rattle.table.specs.Table.{tableBroken, boundsList, boundsBroken}
+use Rattle.corners.proofs.Range.{was-taken}
 use Rattle.pair.specs.Walk.{turned}
 use Rattle.pair_points.specs.Points.{unrolled, nthPoint, edgeAt}
 use Rattle.pair_points.proofs.OnContour.{unrolled-points}

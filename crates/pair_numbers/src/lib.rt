@@ -3,7 +3,7 @@
 ghost use mathlib.Core.Path.{_≡_};
 ghost use Prim.Native.Nat.{_+_, _<_, _^_};
 ghost use lib.ListN.{length};
-ghost use Rattle.convex_ring.specs.Buffers.{Grid};
+ghost use Rattle.points.specs.Points.{Grid};
 ghost use Rattle.pair_points.specs.Points.{edgeAt};
 ghost use Rattle.pair_merge.specs.Putting.{pointsIn, Mergeable};
 ghost use Rattle.direction_keys.specs.Marks.{mark, rightNumber, SmallEdge};

@@ -22,9 +22,8 @@ use Rattle.pair.proofs.FewCorners.{length-handed}
 use Rattle.pair_points.specs.Points.{pointsAlong}
 use Rattle.walk.specs.Calls.{misplaced}
 use Rattle.walk.proofs.Answers.{advance-placed}
-use Rattle.convex_ring.specs.Buffers.{cornerOf, pairOf}
-use Rattle.convex_contour.specs.Contour.{firstPoints, Appended}
-use Rattle.convex_contour.proofs.Contours.{appended-one}
+use Rattle.points.specs.Points.{cornerOf, pairOf, firstPoints, Appended}
+use Rattle.points.proofs.Points.{appended-one}
 use Rattle.pair_unroll.specs.Unroll.{withPoint, Ranged, Adding, PointAdded, pointsFrom}
 use Rattle.pair_unroll.proofs.Along.{lastAlong, last-more, along-more, all-with, few-points, length-along}
 use Rattle.pair_unroll.proofs.Buffered.{all-at}

@@ -22,7 +22,7 @@ pub const ROOM: usize = 1048576;
 const LINE: usize = 47 + 26 * (2 * table::MAX_CONTOUR);
 
 // The numbers of a work buffer that holds the corners of any pair.
-const WORK: usize = 4 * table::MAX_CONTOUR;
+const WORK: usize = corners::WIDTH * (2 * table::MAX_CONTOUR);
 
 // What one call handed over: how many bytes, how many pieces have been handed over with them, and whether more are left.
 pub struct Chunk {

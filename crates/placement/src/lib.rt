@@ -10,12 +10,13 @@ ghost use lib.IntN.{pos};
 ghost use lib.Signed.{leZ, ltZ};
 ghost use Rattle.plane.specs.Plane.{areaTwo, eqPt};
 ghost use Rattle.plane.specs.Machine.{point, OnGrid, CrossSize};
-ghost use Rattle.table.specs.Table.{pointsOf, offRange, tableParts, partCount};
+ghost use Rattle.corners.specs.Corners.{pointsOf, offRange};
+ghost use Rattle.table.specs.Table.{tableParts, partCount};
 ghost use Rattle.pair.specs.Walk.{cornerAt};
 ghost use Rattle.placement.specs.Placement.{among, contactIn, contactBy, placeFault, placedOf, EdgeAt, Placeable};
+use corners::corner_at;
+use corners::corner_count;
 use plane::IntPoint;
-use walk_read::corner_at;
-use walk_read::corner_count;
 
 // Where a place lies: inside no contour, on the rim of one and strictly inside none, strictly inside one.
 pub enum Contact {
@@ -40,7 +41,7 @@ fn place_fault(starts: &[u32], corners: &[i32], z: IntPoint) -> u32
     if !plane::on_grid(z) {
         return integers::fault::RANGE;
     }
-    if table::off_range(corners) {
+    if corners::off_range(corners) {
         return integers::fault::RANGE;
     }
     0

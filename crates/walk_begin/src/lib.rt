@@ -6,14 +6,14 @@ ghost use mathlib.Core.Bool.{true, false};
 ghost use Prim.Native.Nat.{_<_};
 ghost use lib.ListN.{length};
 ghost use Rattle.plane.specs.Plane.{eqPt};
-ghost use Rattle.table.specs.Table.{pointsOf, offRange};
+ghost use Rattle.corners.specs.Corners.{pointsOf, offRange};
 ghost use Rattle.pair.specs.Walk.{cornerAt, endAt, placeBy};
 ghost use Rattle.walk.specs.Calls.{lengthBroken, begunOf};
 ghost use Rattle.walk.specs.Contracts.{BegunBy};
+use corners::corner_at;
+use corners::corner_count;
 use pair::Place;
 use walk::Begun;
-use walk_read::corner_at;
-use walk_read::corner_count;
 use walk_winding::Wound;
 
 // A walk round a contour of n corners from corner s.
@@ -93,7 +93,7 @@ pub fn begin(contour: &[i32], reflected: bool) -> Begun
     if walk_read::length_broken(contour) {
         return Begun::Refused(integers::fault::RULES);
     }
-    if table::off_range(contour) {
+    if corners::off_range(contour) {
         return Begun::Refused(integers::fault::RANGE);
     }
     begin_checked(contour, reflected)

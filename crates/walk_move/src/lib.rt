@@ -6,14 +6,15 @@ ghost use Prim.Native.Nat.{_<_, _≤_};
 ghost use lib.ListN.{length};
 ghost use Rattle.plane.specs.Plane.{negᵖ};
 ghost use Rattle.plane.specs.Machine.{point, vector, OnGrid, Short};
-ghost use Rattle.table.specs.Table.{pointsOf, maxContour};
+ghost use Rattle.corners.specs.Corners.{pointsOf};
+ghost use Rattle.table.specs.Table.{maxContour};
 ghost use Rattle.pair.specs.Walk.{pointOf, edgeOf, nextIndex, advance};
 ghost use Rattle.walk.specs.Calls.{lengthBroken, misplaced, offAt};
+use corners::corner_at;
+use corners::corner_count;
 use pair::Place;
 use plane::IntPoint;
 use plane::IntVector;
-use walk_read::corner_at;
-use walk_read::corner_count;
 use walk_read::next_index;
 
 // p turned through the origin.

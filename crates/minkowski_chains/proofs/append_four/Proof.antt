@@ -7,9 +7,8 @@ use borrow.Author.Needs.{needs}
 use lib.ListN.{getD}
 use Rattle.pair_walks.specs.Walks.{contoursIn}
 use Rattle.minkowski_rows.proofs.Pairs.{pairs-one, pairs-then, room-next}
-use Rattle.minkowski_chains.proofs.Contours.{put-on}
+use Rattle.minkowski_chains.proofs.Contours.{put-on, first-room, first-small, work-size, copied-room, copied-put}
 use Rattle.minkowski_order.proofs.Order.{place-with}
-use Rattle.minkowski_chains.proofs.Contours.{first-room, first-small, work-size, copied-room, copied-put}
 use Rattle.minkowski_order.proofs.Pairs.{as-fits, as-put, as-work}
 use Rattle.minkowski_chains.proofs.append_four.Statement.{statement}
 use Rattle.minkowski_chains.proofs.append_four.Tie as tie

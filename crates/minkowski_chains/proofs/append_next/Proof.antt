@@ -4,8 +4,7 @@ use borrow.Author.Needs.{needs}
 use mathlib.Core.List.{[]}
 use Rattle.minkowski_rows.proofs.Pairs.{pairs-one}
 use Rattle.minkowski_order.specs.Order.{pairContourAt}
-use Rattle.minkowski_chains.proofs.Contours.{put-on}
-use Rattle.minkowski_chains.proofs.Contours.{first-room, first-small, first-starts}
+use Rattle.minkowski_chains.proofs.Contours.{put-on, first-room, first-small, first-starts}
 use Rattle.minkowski_order.proofs.Pairs.{as-fits, as-put}
 use Rattle.minkowski_chains.proofs.append_next.Statement.{statement}
 use Rattle.minkowski_chains.proofs.append_next.Tie as tie

@@ -4,9 +4,8 @@ use Prim.Native.Nat.{ℕ, _+_, _-_, _≤_}
 use native.Mathlib.Omega.{arith}
 use borrow.Author.Needs.{needs}
 use Rattle.minkowski_order.proofs.Pairs.{as-few, as-count}
-use Rattle.minkowski_counted.proofs.Counting.{as-countable}
+use Rattle.minkowski_counted.proofs.Counting.{as-countable, lowered}
 use Rattle.minkowski_order.proofs.Order.{place-with}
-use Rattle.minkowski_counted.proofs.Counting.{lowered}
 use Rattle.minkowski_counted.proofs.lower_four.Statement.{statement}
 use Rattle.minkowski_counted.proofs.lower_four.Tie as tie
 

@@ -3,8 +3,7 @@ use Prim.Native.Nat.{_+_}
 use native.Mathlib.Omega.{arith}
 use borrow.Author.Needs.{needs}
 use Rattle.minkowski_order.proofs.Pairs.{as-few, as-count}
-use Rattle.minkowski_counted.proofs.Counting.{as-countable}
-use Rattle.minkowski_counted.proofs.Counting.{lowered}
+use Rattle.minkowski_counted.proofs.Counting.{as-countable, lowered}
 use Rattle.minkowski_counted.proofs.lower_one.Statement.{statement}
 use Rattle.minkowski_counted.proofs.lower_one.Tie as tie
 

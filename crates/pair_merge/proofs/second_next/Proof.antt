@@ -2,7 +2,7 @@
 use mathlib.Core.Path.{sym, _∙_, ap}
 use lib.ListN.{length-map}
 use Rattle.plane.specs.Plane.{isGreater}
-use Rattle.convex_ring.specs.Buffers.{cornerOf}
+use Rattle.points.specs.Points.{cornerOf}
 use Rattle.pair_points.specs.Points.{edgeAt}
 use Rattle.pair_points.proofs.Turns.{second-last}
 use Rattle.pair_merge.specs.Putting.{pointsIn}

@@ -1,11 +1,11 @@
--- `table::or_off` meets its contract: the code's test is the definition's. Assumes nothing.
+-- `corners::or_off` meets its contract: the code's test is the definition's. Assumes nothing.
 use mathlib.Core.Path.{_≡_, sym, _∙_, ap}
 use mathlib.Core.Bool.{Bool, true, false, cond}
 use borrow.Author.Needs.{needs}
 use Rattle.integers.proofs.Bits.{kept}
 use Rattle.plane.specs.Plane.{inRange}
-use Rattle.table.proofs.or_off.Statement.{statement}
-use Rattle.table.proofs.or_off.Tie as tie
+use Rattle.corners.proofs.or_off.Statement.{statement}
+use Rattle.corners.proofs.or_off.Tie as tie
 
 module _ {t r : Bool} (e : r ≡ t) (b : Bool) where
   passed : r ≡ true → b ≡ cond t b true

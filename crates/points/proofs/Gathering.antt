@@ -11,9 +11,9 @@ use lib.IntN.{ℤ}
 use Rattle.integers.proofs.Sums.{flatten-append, length-flatten-append}
 use Rattle.plane.specs.Plane.{Pt}
 use Rattle.table.specs.Table.{startsFrom, startsOf}
-use Rattle.convex_contour.specs.Contour.{firstPoints, Appended}
-use Rattle.convex_gather.specs.declared.Tally.{Tally}
-use Rattle.convex_gather.specs.Gather.{Gathered, RoomFor, PartsAppended}
+use Rattle.points.specs.Points.{firstPoints, Appended}
+use Rattle.points.specs.declared.Tally.{Tally}
+use Rattle.points.specs.Gathered.{Gathered, RoomFor, PartsAppended}
 
 -- ---- one part more
 

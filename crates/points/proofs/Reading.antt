@@ -13,11 +13,10 @@ use Rattle.integers.proofs.Sums.{flatten-append, length-flatten-append}
 use Rattle.plane.specs.Plane.{Pt}
 use Rattle.table.specs.Table.{startsFrom, startsOf}
 use Rattle.table.proofs.Parts.{length-starts}
-use Rattle.table.proofs.Shown.{take-drop}
-use Rattle.convex_ring.specs.Buffers.{cornerOf}
-use Rattle.convex_contour.specs.Contour.{firstPoints}
-use Rattle.convex_gather.specs.declared.Tally.{Tally}
-use Rattle.convex_gather.specs.Gather.{cornersIn, Gathered}
+use Rattle.corners.proofs.Corners.{take-drop}
+use Rattle.points.specs.Points.{cornerOf, firstPoints, cornersIn}
+use Rattle.points.specs.declared.Tally.{Tally}
+use Rattle.points.specs.Gathered.{Gathered}
 
 -- start j is the number of corners before part j
 starts-at : (k j : ℕ) (ps : List (List Pt)) → j ≤ length ps → getD (startsFrom k ps) j 0 ≡ k + length (flatten (take j ps))

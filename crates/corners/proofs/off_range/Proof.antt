@@ -1,4 +1,4 @@
--- `table::off_range` meets its contract. The loop's invariant: the answer for the whole list is that for what is left of it, or that one before was out of range.
+-- `corners::off_range` meets its contract. The loop's invariant: the answer for the whole list is that for what is left of it, or that one before was out of range.
 -- Assumes nothing.
 use mathlib.Core.Path.{_≡_, refl, sym, _∙_, ap}
 use mathlib.Core.Bool.{Bool, true, false, cond}
@@ -12,9 +12,9 @@ use lib.Seq.{drop-cons}
 use mir.Syntax.{w32}
 use Rattle.integers.proofs.Bits.{got}
 use Rattle.plane.specs.Plane.{inRange}
-use Rattle.table.specs.Table.{offRange}
-use Rattle.table.proofs.off_range.Statement.{statement}
-use Rattle.table.proofs.off_range.Tie as tie
+use Rattle.corners.specs.Corners.{offRange}
+use Rattle.corners.proofs.off_range.Statement.{statement}
+use Rattle.corners.proofs.off_range.Tie as tie
 
 -- number i
 turn : (xs : List ℤ) (i : ℕ) → i < length xs → (off : Bool) {off′ : Bool} {u : ℤ} → u ≡ getD xs i (pos 0) → off′ ≡ cond (inRange u) off true

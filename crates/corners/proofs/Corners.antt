@@ -1,16 +1,19 @@
--- Corners as numbers, "x, y in turn", and as points: laws of `pointsOf` and `numbersOf` of `specs/Table.antt`.
--- In order: lengths; round trips; parts (`points-drop`, `points-take`, `points-slice`); point k (`points-at`, `numbers-at`); numbers of parts
--- (`numbers-slice`) and of joined lists.
+-- Corners as numbers, "x, y in turn", and as points: laws of `pointsOf` and `numbersOf` of `specs/Corners.antt`.
+-- In order: lengths (`is-ragged`, `not-ragged`); round trips; parts (`points-drop`, `points-take`, `points-slice`, `take-drop`); point k (`points-at`, `numbers-at`) and put (`points-put`,
+-- `length-put`); numbers of parts (`numbers-slice`) and of joined lists.
 -- Assumes nothing.
 use mathlib.Core.Path.{_≡_, refl, _∙_, ap}
+use mathlib.Core.Bool.{true, false}
 use mathlib.Core.List.{List, [], _∷_, _++_}
-use Prim.Native.Nat.{ℕ, zero, suc, _+_, _*_, _/_, _%_, _<_}
+use Prim.Native.Nat.{ℕ, zero, suc, _+_, _*_, _-_, _/_, _%_, _<_, _≤_}
 use native.Mathlib.Omega.{arith}
-use lib.ListN.{length, take, drop, getD}
-use lib.Seq.{slice}
+use borrow.Author.Tests.{not-true, not-false}
+use lib.Dec.{eqb}
+use lib.ListN.{length, take, drop, getD, set, length-set}
+use lib.Seq.{slice, take-nil}
 use lib.IntN.{ℤ}
 use Rattle.plane.specs.Plane.{Pt}
-use Rattle.table.specs.Table.{pointsOf, numbersOf}
+use Rattle.corners.specs.Corners.{pointsOf, numbersOf, ragged, withCorner}
 
 -- ---- lengths
 
@@ -24,6 +27,13 @@ pub length-numbers : (ps : List Pt) → length (numbersOf ps) ≡ 2 * length ps
 unfolding numbersOf
 length-numbers [] = refl
 length-numbers (p ∷ ps) = omega (arith, length-numbers ps)
+
+-- a last x without its y, or none
+pub is-ragged : (l : List ℤ) → ragged l ≡ true → eqb (length l % 2) 0 ≡ false
+is-ragged l h = not-true _ h
+
+pub not-ragged : (l : List ℤ) → ragged l ≡ false → eqb (length l % 2) 0 ≡ true
+not-ragged l h = not-false _ h
 
 -- ---- round trips
 
@@ -64,6 +74,15 @@ points-take (suc k) (x ∷ y ∷ l) = rw double-suc (ap (λ r. record { x = x; y
 pub points-slice : (a b : ℕ) (l : List ℤ) → pointsOf (slice (2 * a) (2 * b) l) ≡ slice a b (pointsOf l)
 points-slice a b l = points-drop a (take (2 * b) l) ∙ ap (drop a) (points-take b l)
 
+-- a part of a slice, as the machine takes it
+pub take-drop : {A : Type 0} (a e : ℕ) (l : List A) → a ≤ e → take (e - a) (drop a l) ≡ slice a e l
+take-drop zero e l h = let z : e - 0 ≡ e = omega arith in ap (λ n. take n l) z
+take-drop (suc a) zero l h = absurd (omega arith)
+take-drop (suc a) (suc e) [] h = take-nil (suc e - suc a)
+take-drop (suc a) (suc e) (x ∷ l) h =
+    let z : suc e - suc a ≡ e - a = omega arith in
+    ap (λ n. take n (drop a l)) z ∙ take-drop a e l (omega arith)
+
 -- ---- point k
 
 -- from numbers 2 k and 2 k + 1
@@ -80,6 +99,17 @@ unfolding numbersOf
 numbers-at [] k d z h = absurd (omega arith)
 numbers-at (p ∷ ps) zero d z h = (refl, refl)
 numbers-at (p ∷ ps) (suc k) d z h = rw (double-suc-odd, double-suc) (numbers-at ps k d z (omega arith))
+
+-- point k put
+pub points-put : (l : List ℤ) (k : ℕ) (p : Pt) → k < length (pointsOf l) → pointsOf (withCorner l k p) ≡ set (pointsOf l) k p
+unfolding pointsOf
+points-put [] k p h = absurd (omega arith)
+points-put (x ∷ []) k p h = absurd (omega arith)
+points-put (x ∷ y ∷ l) zero p h = refl
+points-put (x ∷ y ∷ l) (suc k) p h = rw (double-suc-odd, double-suc) (ap (λ r. record { x = x; y = y } ∷ r) (points-put l k p (omega arith)))
+
+pub length-put : (l : List ℤ) (k : ℕ) (p : Pt) → length (withCorner l k p) ≡ length l
+length-put l k p = rw (length-set, length-set)
 
 -- ---- numbers of parts and of joined lists
 
