@@ -19,11 +19,10 @@ module _ (reflected : Bool) (ls : List ℕ) (lc : List ℤ) (lb : Bounds) (rs : 
       → x ≡ pairsCounts reflected (operand ls lc l) (operand rs rc r) s c → s′ ≡ pairsStarts reflected (operand ls lc l) (operand rs rc r) s c
       → c′ ≡ pairsCorners reflected (operand ls lc l) (operand rs rc r) s c
       → (t ≡ toldCounts (pairsCounts reflected (lent ls lc lb) (lent rs rc rb) s c))
-      × ((s′ ≡ pairsStarts reflected (lent ls lc lb) (lent rs rc rb) s c) × (c′ ≡ pairsCorners reflected (lent ls lc lb) (lent rs rc rb) s c))
+      × (s′ ≡ pairsStarts reflected (lent ls lc lb) (lent rs rc rb) s c)
+      × (c′ ≡ pairsCorners reflected (lent ls lc lb) (lent rs rc rb) s c)
   as-told p q e x y z = (
     e ∙ ap toldCounts x ∙ ap₂ (λ a b. toldCounts (pairsCounts reflected (operand ls lc a) (operand rs rc b) s c)) p q,
-    (
-      y ∙ ap₂ (λ a b. pairsStarts reflected (operand ls lc a) (operand rs rc b) s c) p q,
-      z ∙ ap₂ (λ a b. pairsCorners reflected (operand ls lc a) (operand rs rc b) s c) p q,
-    ),
+    y ∙ ap₂ (λ a b. pairsStarts reflected (operand ls lc a) (operand rs rc b) s c) p q,
+    z ∙ ap₂ (λ a b. pairsCorners reflected (operand ls lc a) (operand rs rc b) s c) p q,
   )

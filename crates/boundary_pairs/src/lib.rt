@@ -68,9 +68,14 @@ pub extern "C" fn bezinkwolu_sum_parts(
     starts: &mut [u32],
     corners: &mut [i32],
 ) -> ToldPairs
-    ensures told { λ r. ⌜ r ≡ toldCounts (pairsCounts false (lent (now («left_starts» .entry)) (now («left_corners» .entry)) «left_bounds») (lent (now («right_starts» .entry)) (now («right_corners» .entry)) «right_bounds») (now (starts .entry)) (now (corners .entry))) ⌝ }
-    ensures starts { λ r. ⌜ now (starts .exit) ≡ pairsStarts false (lent (now («left_starts» .entry)) (now («left_corners» .entry)) «left_bounds») (lent (now («right_starts» .entry)) (now («right_corners» .entry)) «right_bounds») (now (starts .entry)) (now (corners .entry)) ⌝ }
-    ensures corners { λ r. ⌜ now (corners .exit) ≡ pairsCorners false (lent (now («left_starts» .entry)) (now («left_corners» .entry)) «left_bounds») (lent (now («right_starts» .entry)) (now («right_corners» .entry)) «right_bounds») (now (starts .entry)) (now (corners .entry)) ⌝ }
+    ensures { λ r.
+        let left = lent (now («left_starts» .entry)) (now («left_corners» .entry)) «left_bounds» in
+        let right = lent (now («right_starts» .entry)) (now («right_corners» .entry)) «right_bounds» in
+        let s = now (starts .entry) in
+        let c = now (corners .entry) in
+        ⌜ (r ≡ toldCounts (pairsCounts false left right s c))
+        × (now (starts .exit) ≡ pairsStarts false left right s c)
+        × (now (corners .exit) ≡ pairsCorners false left right s c) ⌝ }
 {
     let left = rect(left_bounds);
     let right = rect(right_bounds);
@@ -99,9 +104,14 @@ pub extern "C" fn bezinkwolu_difference_parts(
     starts: &mut [u32],
     corners: &mut [i32],
 ) -> ToldPairs
-    ensures told { λ r. ⌜ r ≡ toldCounts (pairsCounts true (lent (now («left_starts» .entry)) (now («left_corners» .entry)) «left_bounds») (lent (now («right_starts» .entry)) (now («right_corners» .entry)) «right_bounds») (now (starts .entry)) (now (corners .entry))) ⌝ }
-    ensures starts { λ r. ⌜ now (starts .exit) ≡ pairsStarts true (lent (now («left_starts» .entry)) (now («left_corners» .entry)) «left_bounds») (lent (now («right_starts» .entry)) (now («right_corners» .entry)) «right_bounds») (now (starts .entry)) (now (corners .entry)) ⌝ }
-    ensures corners { λ r. ⌜ now (corners .exit) ≡ pairsCorners true (lent (now («left_starts» .entry)) (now («left_corners» .entry)) «left_bounds») (lent (now («right_starts» .entry)) (now («right_corners» .entry)) «right_bounds») (now (starts .entry)) (now (corners .entry)) ⌝ }
+    ensures { λ r.
+        let left = lent (now («left_starts» .entry)) (now («left_corners» .entry)) «left_bounds» in
+        let right = lent (now («right_starts» .entry)) (now («right_corners» .entry)) «right_bounds» in
+        let s = now (starts .entry) in
+        let c = now (corners .entry) in
+        ⌜ (r ≡ toldCounts (pairsCounts true left right s c))
+        × (now (starts .exit) ≡ pairsStarts true left right s c)
+        × (now (corners .exit) ≡ pairsCorners true left right s c) ⌝ }
 {
     let left = rect(left_bounds);
     let right = rect(right_bounds);

@@ -79,8 +79,13 @@ pub extern "C" fn bezinkwolu_show_part<'a>(
     right: bool,
     k: u32,
 ) -> ToldPart
-    ensures told { λ r. ⌜ r ≡ toldShown (now («left_starts» .entry)) (now («left_corners» .entry)) (now («right_starts» .entry)) (now («right_corners» .entry)) right k ⌝ }
-    ensures those { λ r. ⌜ slice (r .offset) (r .offset + r .length) (cond right (now («right_corners» .entry)) (now («left_corners» .entry))) ≡ shownPart (now («left_starts» .entry)) (now («left_corners» .entry)) (now («right_starts» .entry)) (now («right_corners» .entry)) right k ⌝ }
+    ensures { λ r.
+        let ls = now («left_starts» .entry) in
+        let lc = now («left_corners» .entry) in
+        let rs = now («right_starts» .entry) in
+        let rc = now («right_corners» .entry) in
+        ⌜ (r ≡ toldShown ls lc rs rc right k)
+        × (slice (r .offset) (r .offset + r .length) (cond right rc lc) ≡ shownPart ls lc rs rc right k) ⌝ }
 {
     let mut fault: u32 = 0;
     let part = table_shown::show_part(

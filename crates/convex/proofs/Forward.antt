@@ -17,7 +17,8 @@ use Rattle.integers.proofs.Signs.{pos-mul, pos-cancel, pos-is, nn-is}
 use Rattle.plane.specs.Plane.{Pt, O, negᵖ, cross, dot, lower, angleCmp, isLess}
 use Rattle.plane.proofs.Terms.{OE, negE, crossE, dotE}
 use Rattle.plane.proofs.Vectors.{negᵖ-negᵖ, cross-neg-neg}
-use Rattle.plane.proofs.Directions.{Up, up-trans, LtAt, Angles, before, beside, after, angle-cases, sgn, Nz, nz-cases, nz-of-up, lower-up, same-refl, same-dot}
+use Rattle.plane.specs.Halves.{Up, sgn, Nz}
+use Rattle.plane.proofs.Directions.{up-trans, LtAt, Angles, before, beside, after, angle-cases, nz-cases, nz-of-up, lower-up, same-refl, same-dot}
 
 -- v goes on from u: to the left, or straight on
 pub data Forward (u v : Pt) : Type 0 where

@@ -23,7 +23,8 @@ use Rattle.plane.specs.Plane.{Pt, O, _+ᵖ_, _-ᵖ_, cross, dot, turn, lower}
 use Rattle.plane.specs.Contour.{lastOf, edges, contourArea}
 use Rattle.plane.proofs.Terms.{OE, _+E_, _-E_, crossE, dotE, turnE}
 use Rattle.plane.proofs.Vectors.{zero-+ᵖ, cross-self}
-use Rattle.plane.proofs.Directions.{Nz, same-dot}
+use Rattle.plane.specs.Halves.{Nz}
+use Rattle.plane.proofs.Directions.{same-dot}
 use Rattle.plane.proofs.Sides.{line-trans}
 use Rattle.convex.specs.Joining.{keptBy, turning, withoutStraight}
 use Rattle.convex.proofs.Forward.{Forward, leftward, onward, forward-nz-l, forward-nz-r, nz-square, times-zero, descent, rises, descent-halves}

@@ -1,5 +1,5 @@
 -- A whole region's contour in its buffer: it is the zipper's from the last corner added (`contour-zipper`). The corners at some places (`between-next`).
--- Points appended (`appended-none`, `appended-one`, `appended-more`). A run along the contour (`ran-one`, `ran-more`), place after place (`ran-start`,
+-- A point appended or not (`kept-yes`, `kept-no`). A run along the contour (`ran-one`, `ran-more`), place after place (`ran-start`,
 -- `ran-next`, `ran-places`). Corners of turn 0 are those that a run round the contour drops (`straight-along`), and the two runs, to the buffer's end and
 -- from the first corner done, are one round (`ran-whole`). Assumes nothing.
 use mathlib.Core.Path.{_≡_, refl, sym, _∙_, ap, ap₂, subst}
@@ -26,9 +26,11 @@ use Rattle.plane.specs.Contour.{lastOf}
 use Rattle.convex.specs.Joining.{keptBy, turning, withoutStraight}
 use Rattle.convex.specs.Zipper.{Zipper, fromLastZ}
 use Rattle.convex_ring.specs.declared.Progress.{Progress}
-use Rattle.convex_ring.specs.Buffers.{cornerOf, cornerAt, pairOf, Holds}
+use Rattle.points.specs.Points.{cornerOf, cornerIn, pairOf, firstPoints, Appended}
+use Rattle.points.proofs.Points.{appended-none, appended-one, appended-more}
+use Rattle.convex_ring.specs.Buffers.{Holds}
 use Rattle.convex_contour.specs.declared.Run.{Run}
-use Rattle.convex_contour.specs.Contour.{contourAt, Whole, placeBefore, firstPoints, Appended, keptIf, bends, keptAlong, wayAlong, between, Runnable, Ran}
+use Rattle.convex_contour.specs.Contour.{contourAt, Whole, placeBefore, keptIf, bends, keptAlong, wayAlong, between, Runnable, Ran}
 use Rattle.convex_ring.proofs.Reading.{length-done}
 
 -- ---- the contour of a zipper
@@ -55,7 +57,7 @@ module _ (cs : List (List ℤ)) where
       let e : j - i ≡ 0 = omega arith in
       ap (λ n. map cornerOf (take n (drop i cs))) e
 
-  between-next : (i j : ℕ) → i ≤ j → j < length cs → between cs i (j + 1) ≡ between cs i j ++ (cornerAt cs j ∷ [])
+  between-next : (i j : ℕ) → i ≤ j → j < length cs → between cs i (j + 1) ≡ between cs i j ++ (cornerIn cs j ∷ [])
   between-next i j h k =
       let l = drop i cs in
       let e : j + 1 - i ≡ suc (j - i) = omega arith in
@@ -65,7 +67,7 @@ module _ (cs : List (List ℤ)) where
       ∙ map-append cornerOf (take (j - i) l) (getD cs j [] ∷ [])
 
   -- the same, by the place after the last
-  between-last : (i j : ℕ) → i < j → j ≤ length cs → between cs i j ≡ between cs i (j - 1) ++ (cornerAt cs (j - 1) ∷ [])
+  between-last : (i j : ℕ) → i < j → j ≤ length cs → between cs i j ≡ between cs i (j - 1) ++ (cornerIn cs (j - 1) ∷ [])
   between-last i j h k =
       let e : j ≡ j - 1 + 1 = omega arith in
       ap (between cs i) e ∙ between-next i (j - 1) (omega arith) (omega arith)
@@ -81,24 +83,7 @@ last-snoc : (b : Pt) (l : List Pt) (c : Pt) → lastOf b (l ++ (c ∷ [])) ≡ c
 unfolding lastOf
 last-snoc b l c = last-append b l (c ∷ [])
 
--- ---- points appended
-
-pub appended-none : (points : List (List ℤ)) (n : ℕ) → Appended [] points n points n
-appended-none points n = record { size = refl; count = omega arith; written = sym (append-nil (firstPoints n points)) }
-
-pub appended-one : (points : List (List ℤ)) (n : ℕ) (p : Pt) → n < length points → Appended (p ∷ []) points n (set points n (pairOf p)) (n + 1)
-appended-one points n p h = record {
-  size = length-set points n (pairOf p);
-  count = refl;
-  written = ap (map cornerOf) (ap (λ k. take k (set points n (pairOf p))) (add-one n) ∙ take-suc-set points n (pairOf p) h) ∙ map-append cornerOf (take n points) (pairOf p ∷ []);
-}
-
-pub appended-more : (a b : List Pt) {p q r : List (List ℤ)} {i j k : ℕ} → Appended a p i q j → Appended b q j r k → Appended (a ++ b) p i r k
-appended-more a b {p} {q} {r} {i} {j} {k} f g = record {
-  size = g .size ∙ f .size;
-  count = omega (arith, f .count, g .count, length-append a b);
-  written = g .written ∙ ap (λ l. l ++ b) (f .written) ∙ append-assoc (firstPoints i p) a b;
-}
+-- ---- a point appended
 
 -- a point that stays, and one that does not
 pub kept-yes : (points : List (List ℤ)) (n : ℕ) (q : Pt) {t : Bool} {points′ : List (List ℤ)} → t ≡ true → n < length points → points′ ≡ set points n (pairOf q) → Appended (keptIf t q) points n points′ (n + 1)
@@ -175,7 +160,7 @@ module _ (cs : List (List ℤ)) (i : ℕ) {points : List (List ℤ)} {r : Run} w
         let n = ran-count (between cs i k) a in
         omega (arith, n .0, n .1, length-between cs i k (omega (arith, h .within)), h .room)
 
-    pub ran-next : (c : IntPoint) {points″ : List (List ℤ)} {t : Run} → point c ≡ cornerAt cs k → Ran (point c ∷ []) points′ s points″ t → Ran (between cs i (k + 1)) points r points″ t
+    pub ran-next : (c : IntPoint) {points″ : List (List ℤ)} {t : Run} → point c ≡ cornerIn cs k → Ran (point c ∷ []) points′ s points″ t → Ran (between cs i (k + 1)) points r points″ t
     ran-next c {points″} {t} e b = subst (λ l. Ran l points r points″ t) (ap (λ q. between cs i k ++ (q ∷ [])) e ∙ sym (between-next cs i k f (omega (arith, h .within)))) (ran-more (between cs i k) (point c ∷ []) a b)
 
 -- ---- corners of turn 0 are dropped
@@ -196,7 +181,7 @@ straight-along b l = turning-along (lastOf b l) b b l
 -- ---- a whole contour: its first corner, those after it to the end of the buffer, and those done before the first one, without it and with it
 
 abbrev first : List (List ℤ) → Progress → Pt
-first cs p = cornerAt cs (p .last - 1)
+first cs p = cornerIn cs (p .last - 1)
 
 abbrev near : List (List ℤ) → Progress → List Pt
 near cs p = between cs (p .last) (length cs)
@@ -226,20 +211,20 @@ module _ (cs : List (List ℤ)) (p : Progress) (w : Whole cs p) where
       ap length contour-shape
       ∙ omega (arith, length-append (near cs p) (inner cs p), length-between cs (p .last) (length cs) (omega arith), length-between cs (p .done) (p .last - 1) (omega (arith, w .ended)), w .placed, w .ended)
 
-  last-near : lastOf (first cs p) (near cs p) ≡ cornerAt cs (length cs - 1)
+  last-near : lastOf (first cs p) (near cs p) ≡ cornerIn cs (length cs - 1)
   unfolding lastOf
   last-near = by-test (ltb (p .last) (length cs))
-      (λ t. ap (lastOf (first cs p)) (between-last cs (p .last) (length cs) (ltb-true (p .last) (length cs) t) (omega arith)) ∙ last-snoc (first cs p) (between cs (p .last) (length cs - 1)) (cornerAt cs (length cs - 1)))
+      (λ t. ap (lastOf (first cs p)) (between-last cs (p .last) (length cs) (ltb-true (p .last) (length cs) t) (omega arith)) ∙ last-snoc (first cs p) (between cs (p .last) (length cs - 1)) (cornerIn cs (length cs - 1)))
       (λ t. let e : p .last ≡ length cs = omega (arith, w .ended, ltb-false (p .last) (length cs) t) in
-      ap (lastOf (first cs p)) (between-none cs (p .last) (length cs) (omega arith)) ∙ ap (λ n. cornerAt cs (n - 1)) e)
+      ap (lastOf (first cs p)) (between-none cs (p .last) (length cs) (omega arith)) ∙ ap (λ n. cornerIn cs (n - 1)) e)
 
-  previous-at : previous cs p ≡ cornerAt cs (placeBefore (length cs) (p .done) (p .last - 1))
+  previous-at : previous cs p ≡ cornerIn cs (placeBefore (length cs) (p .done) (p .last - 1))
   unfolding placeBefore lastOf
   previous-at =
       let x = p .last - 1 in
       let b = lastOf (first cs p) (near cs p) in
       last-append (first cs p) (near cs p) (inner cs p) ∙ by-test (ltb (p .done) x)
-      (λ t. rw t (ap (lastOf b) (between-last cs (p .done) x (ltb-true (p .done) x t) (omega (arith, w .ended))) ∙ last-snoc b (between cs (p .done) (x - 1)) (cornerAt cs (x - 1))))
+      (λ t. rw t (ap (lastOf b) (between-last cs (p .done) x (ltb-true (p .done) x t) (omega (arith, w .ended))) ∙ last-snoc b (between cs (p .done) (x - 1)) (cornerIn cs (x - 1))))
       (λ t. rw t (ap (lastOf b) (between-none cs (p .done) x (ltb-false (p .done) x t)) ∙ last-near))
 
   pub before-below : {k : ℕ} → k ≡ placeBefore (length cs) (p .done) (p .last - 1) → k < length cs
@@ -259,7 +244,7 @@ module _ (cs : List (List ℤ)) (p : Progress) (w : Whole cs p) where
         let n = ran-count (near cs p) f in
         omega (arith, room, n .0, n .1, length-between cs (p .last) (length cs) (omega arith), w .ended)
 
-    pub ran-whole : (a : IntPoint) {k : ℕ} {points″ : List (List ℤ)} {t : Run} → k ≡ placeBefore (length cs) (p .done) (p .last - 1) → point a ≡ cornerAt cs k → point (r .corner) ≡ first cs p → vector (r .way) ≡ point (r .corner) -ᵖ point a → Ran (far cs p) points′ s points″ t → Appended (withoutStraight (contourAt cs p)) points (r .count) points″ (t .count)
+    pub ran-whole : (a : IntPoint) {k : ℕ} {points″ : List (List ℤ)} {t : Run} → k ≡ placeBefore (length cs) (p .done) (p .last - 1) → point a ≡ cornerIn cs k → point (r .corner) ≡ first cs p → vector (r .way) ≡ point (r .corner) -ᵖ point a → Ran (far cs p) points′ s points″ t → Appended (withoutStraight (contourAt cs p)) points (r .count) points″ (t .count)
     ran-whole a {points″ = points″} {t} e h b d g =
-        let v : vector (r .way) ≡ first cs p -ᵖ previous cs p = d ∙ ap₂ _-ᵖ_ b (h ∙ ap (cornerAt cs) e ∙ sym previous-at) in
+        let v : vector (r .way) ≡ first cs p -ᵖ previous cs p = d ∙ ap₂ _-ᵖ_ b (h ∙ ap (cornerIn cs) e ∙ sym previous-at) in
         subst (λ l. Appended l points (r .count) points″ (t .count)) ((λ i. keptAlong (v i) (b i) (near cs p ++ far cs p)) ∙ sym kept-whole) (ran-more (near cs p) (far cs p) f g .appended)

@@ -1,4 +1,4 @@
--- A whole region's contour as it stands in its buffer, a run along it, and the points that it is appended to. Assumes nothing.
+-- A whole region's contour as it stands in its buffer, and a run along it. Assumes nothing.
 use mathlib.Core.Path.{_≡_}
 use mathlib.Core.Bool.{Bool, not, cond}
 use mathlib.Core.List.{List, [], _∷_, _++_, map}
@@ -11,7 +11,7 @@ use Rattle.plane.specs.Plane.{Pt, _-ᵖ_, cross}
 use Rattle.plane.specs.Machine.{point, vector, OnGrid, Short}
 use Rattle.plane.specs.Contour.{lastOf}
 use Rattle.convex_ring.specs.declared.Progress.{Progress}
-use Rattle.convex_ring.specs.Buffers.{cornerOf, Grid}
+use Rattle.points.specs.Points.{cornerOf, Grid, Appended}
 use Rattle.convex_contour.specs.declared.Run.{Run}
 
 -- ---- a region's contour in its buffer: from the last corner added, which stands right before `last`, to the end, then from the first one done
@@ -28,17 +28,6 @@ pub record Whole (cs : List (List ℤ)) (p : Progress) : Type 0 where
 -- the place before place i of the contour, round its part of a buffer of n places, which begins at d
 unfoldable pub placeBefore : ℕ → ℕ → ℕ → ℕ
 placeBefore n d i = cond (ltb d i) (i - 1) (n - 1)
-
--- ---- points gathered: the first n of a buffer
-
-abbrev pub firstPoints : ℕ → List (List ℤ) → List Pt
-firstPoints n points = map cornerOf (take n points)
-
--- some points were put after the first n
-pub record Appended (new : List Pt) (points : List (List ℤ)) (n : ℕ) (points′ : List (List ℤ)) (n′ : ℕ) : Type 0 where
-  pub size : length points′ ≡ length points
-  pub count : n′ ≡ n + length new
-  pub written : firstPoints n′ points′ ≡ firstPoints n points ++ new
 
 -- ---- a run along the contour: one corner after the other is judged by the way to it and the way on
 

@@ -1,12 +1,13 @@
 // A whole region's contour, from the last corner added and without corners of turn 0, appended to the points of the parts before it
 // (`append_contour`). It is run along once, in two stretches of the buffer, and each way from corner to corner is computed once. Leans on
-// convex_ring and plane.
+// convex_ring, points and plane.
 ghost use mathlib.Core.Path.{_≡_};
 ghost use Prim.Native.Nat.{_+_, _<_, _≤_};
 ghost use lib.ListN.{length};
 ghost use Rattle.plane.specs.Machine.{point, vector, Short};
 ghost use Rattle.convex.specs.Joining.{withoutStraight};
-ghost use Rattle.convex_contour.specs.Contour.{contourAt, Whole, placeBefore, Appended, keptIf, bends, between, Runnable, Ran};
+ghost use Rattle.points.specs.Points.{Appended};
+ghost use Rattle.convex_contour.specs.Contour.{contourAt, Whole, placeBefore, keptIf, bends, between, Runnable, Ran};
 use convex_ring::Progress;
 use plane::IntPoint;
 use plane::IntVector;
@@ -50,7 +51,7 @@ fn append_corner(
     ensures { λ r. ⌜ Appended (keptIf (bends (vector d) (vector e)) (point b)) (now (points .entry)) count (now (points .exit)) r ⌝ }
 {
     if bends(d, e) {
-        convex_ring::put_corner(points, count, b);
+        points::put_point(points, count, b);
         return count + 1;
     }
     count
@@ -64,7 +65,7 @@ fn append_run(corners: &[[i32; 2]], from: usize, to: usize, points: &mut [[i32; 
     let mut t = r;
     let mut i = from;
     while i < to {
-        let c = convex_ring::corner_at(corners, i);
+        let c = points::point_at(corners, i);
         let way = plane::subtract(c, t.corner);
         let count = append_corner(points, t.count, t.way, t.corner, way);
         t = Run {
@@ -89,8 +90,8 @@ pub fn append_contour(
 {
     let end = corners.len();
     let last = p.last - 1;
-    let a = convex_ring::corner_at(corners, place_before(end, p.done, last));
-    let b = convex_ring::corner_at(corners, last);
+    let a = points::point_at(corners, place_before(end, p.done, last));
+    let b = points::point_at(corners, last);
     let r = Run {
         corner: b,
         way: plane::subtract(b, a),

@@ -16,32 +16,33 @@ use Rattle.integers.proofs.Overlay.{overlay-two}
 use Rattle.plane.specs.Plane.{Pt}
 use Rattle.mesh.specs.Mesh.{Mesh, meshKinds}
 use Rattle.table.specs.declared.Counts.{Counts}
-use Rattle.table.specs.Table.{numbersOf, startsOf, cornersOf, roomKinds, Answered}
+use Rattle.corners.specs.Corners.{numbersOf}
+use Rattle.table.specs.Table.{startsOf, cornersOf, roomKinds, Answered}
 use Rattle.integers.proofs.Faults.{append-some, append-none}
 use Rattle.table.proofs.Answers.{refused-counts, refused-buffer, accepted-counts, accepted-buffer}
-use Rattle.table.proofs.Corners.{length-numbers, numbers-append}
+use Rattle.corners.proofs.Corners.{length-numbers, numbers-append}
 use Rattle.table.proofs.Parts.{length-startsFrom}
-use Rattle.convex_gather.specs.declared.Tally.{Tally}
-use Rattle.convex_ring.specs.Buffers.{cornerOf, cornerAt}
-use Rattle.convex_contour.specs.Contour.{firstPoints}
-use Rattle.convex_gather.specs.Gather.{Gathered, HandedOut}
+use Rattle.points.specs.declared.Tally.{Tally}
+use Rattle.points.specs.Points.{cornerOf, cornerIn, firstPoints}
+use Rattle.points.specs.Gathered.{Gathered}
+use Rattle.convex_gather.specs.Gather.{HandedOut}
 
 -- ---- copies
 
 length-first : (points : List (List ℤ)) (i : ℕ) → i ≤ length points → length (firstPoints i points) ≡ i
 length-first points i h = length-map (take i points) cornerOf ∙ length-take-le i points h
 
-numbers-more : (points : List (List ℤ)) (i : ℕ) → i < length points → numbersOf (firstPoints (i + 1) points) ≡ numbersOf (firstPoints i points) ++ (cornerAt points i .x ∷ cornerAt points i .y ∷ [])
+numbers-more : (points : List (List ℤ)) (i : ℕ) → i < length points → numbersOf (firstPoints (i + 1) points) ≡ numbersOf (firstPoints i points) ++ (cornerIn points i .x ∷ cornerIn points i .y ∷ [])
 unfolding numbersOf
 numbers-more points i h =
     ap (λ l. numbersOf (map cornerOf l)) (ap (λ n. take n points) (add-one i) ∙ take-suc points i [] h) ∙ ap numbersOf (map-append cornerOf (take i points) (getD points i [] ∷ []))
-    ∙ numbers-append (firstPoints i points) (cornerAt points i ∷ [])
+    ∙ numbers-append (firstPoints i points) (cornerIn points i ∷ [])
 
-pub points-turn : (points : List (List ℤ)) (to₀ : List ℤ) {to to′ : List ℤ} (i : ℕ) → i < length points → 2 * i + 1 < length to₀ → to ≡ overlay (numbersOf (firstPoints i points)) to₀ → to′ ≡ set (set to (2 * i) (cornerAt points i .x)) (2 * i + 1) (cornerAt points i .y) → to′ ≡ overlay (numbersOf (firstPoints (i + 1) points)) to₀
+pub points-turn : (points : List (List ℤ)) (to₀ : List ℤ) {to to′ : List ℤ} (i : ℕ) → i < length points → 2 * i + 1 < length to₀ → to ≡ overlay (numbersOf (firstPoints i points)) to₀ → to′ ≡ set (set to (2 * i) (cornerIn points i .x)) (2 * i + 1) (cornerIn points i .y) → to′ ≡ overlay (numbersOf (firstPoints (i + 1) points)) to₀
 points-turn points to₀ i h k p e =
     let n = numbersOf (firstPoints i points) in
-    let x = cornerAt points i .x in
-    let y = cornerAt points i .y in
+    let x = cornerIn points i .x in
+    let y = cornerIn points i .y in
     let size : length n ≡ 2 * i = omega (arith, length-numbers (firstPoints i points), length-first points i (omega arith)) in
     e ∙ overlay-two n to₀ (2 * i) x y p size k ∙ ap (λ l. overlay l to₀) (sym (numbers-more points i h))
 

@@ -1,4 +1,2 @@
--- Parts gathered, read again, and handed out.
-pub mod Gathering
-pub mod Reading
+-- Parts handed out.
 pub mod Answer

@@ -1,2 +1,2 @@
--- What the contracts cite: parts gathered in work buffers, and handed out.
+-- What the contracts cite: parts handed out.
 pub mod Gather

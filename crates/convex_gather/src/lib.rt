@@ -1,28 +1,14 @@
-// Parts gathered in work buffers, one after another, and handed out to the lent ones once there is room (`hand_out`, which tells 22 and 21
-// before its first store). What is gathered is said in specs/Gather.antt. Leans on table, convex_ring and convex_contour.
+// Parts gathered in work buffers are handed out to the lent ones once there is room (`hand_out`, which tells 22 and 21 before its first store).
+// What is gathered is said in points' specs/. Leans on points, table and corners.
 ghost use mathlib.Core.Path.{_≡_};
 ghost use Prim.Native.Nat.{_+_, _<_, _≤_, _*_, _^_};
 ghost use lib.ListN.{length, getD, set, take};
 ghost use Rattle.integers.specs.Lists.{overlay};
-ghost use Rattle.table.specs.Table.{numbersOf};
-ghost use Rattle.convex_ring.specs.Buffers.{cornerAt};
-ghost use Rattle.convex_contour.specs.Contour.{firstPoints};
+ghost use Rattle.corners.specs.Corners.{numbersOf};
+ghost use Rattle.points.specs.Points.{cornerIn, firstPoints};
 ghost use Rattle.convex_gather.specs.Gather.{HandedOut};
+use points::Tally;
 use table::Counts;
-
-// How many parts and corners are gathered.
-pub struct Tally {
-    pub parts: usize,
-    pub corners: usize,
-}
-
-// Start i.
-pub fn put_start(starts: &mut [u32], i: usize, n: usize)
-    requires { ⌜ (i < length (now starts)) × (n < 2 ^ 32) ⌝ }
-    ensures { λ r. ⌜ now (starts .exit) ≡ set (now (starts .entry)) i n ⌝ }
-{
-    starts[i] = n as u32;
-}
 
 // The first n starts, on the front of the lent ones.
 fn copy_starts(from: &[u32], n: usize, to: &mut [u32])
@@ -40,8 +26,8 @@ fn copy_starts(from: &[u32], n: usize, to: &mut [u32])
 // Point i as two numbers.
 fn put_pair(points: &[[i32; 2]], i: usize, to: &mut [i32])
     requires { ⌜ (i < length (now points)) × (2 * i + 1 < length (now to)) ⌝ }
-    ensures { λ r. ⌜ now (to .exit) ≡ set (set (now (to .entry)) (2 * i) (cornerAt (now (points .entry)) i .x)) (2 * i + 1)
-        (cornerAt (now (points .entry)) i .y) ⌝ }
+    ensures { λ r. ⌜ now (to .exit) ≡ set (set (now (to .entry)) (2 * i) (cornerIn (now (points .entry)) i .x)) (2 * i + 1)
+        (cornerIn (now (points .entry)) i .y) ⌝ }
 {
     let c = points[i];
     let at = 2 * i;

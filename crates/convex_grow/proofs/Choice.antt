@@ -20,7 +20,7 @@ use Rattle.convex.specs.Joining.{joins}
 use Rattle.convex.specs.Zipper.{Slot, joinsZ}
 use Rattle.convex_ring.specs.declared.Progress.{Progress}
 use Rattle.convex_ring.specs.Buffers.{slotAt, around, Sound}
-use Rattle.convex_ring.proofs.Reading.{on-grid-of}
+use Rattle.points.proofs.Points.{on-grid-of}
 
 -- the neighbour to join over the edge of slot x, or none; r are the corners after x round the contour
 unfoldable pub chosen : Mesh → List Bool → Slot → List Pt → ℕ

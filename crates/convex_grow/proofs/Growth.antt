@@ -12,7 +12,8 @@ use Rattle.mesh.specs.Mesh.{Triangle, Mesh, vertex, neighbour, after, before, t
 use Rattle.mesh.proofs.Accepted.{accepted}
 use Rattle.convex.specs.Zipper.{Slot, Zipper, startZ, stepZ, growZ}
 use Rattle.convex_ring.specs.declared.Progress.{Progress}
-use Rattle.convex_ring.specs.Buffers.{cornerOf, pairOf, slotAt, pendingOf, free, Marked, Holds, Ready, Sound}
+use Rattle.points.specs.Points.{cornerOf, pairOf}
+use Rattle.convex_ring.specs.Buffers.{slotAt, pendingOf, free, Marked, Holds, Ready, Sound}
 use Rattle.convex_grow.specs.Growing.{Stepped, Started, Ran, Grown}
 use Rattle.convex_ring.proofs.Reading.{pending-cons}
 use Rattle.mesh.proofs.Sides.{after-side}

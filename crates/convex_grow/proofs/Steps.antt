@@ -21,7 +21,8 @@ use Rattle.convex.specs.Joining.{isIn}
 use Rattle.convex.proofs.Taken.{isIn-append, isIn-one}
 use Rattle.convex.specs.Zipper.{Slot, Zipper, ring, joinsZ, moved, pushed, stepZ}
 use Rattle.convex_ring.specs.declared.Progress.{Progress}
-use Rattle.convex_ring.specs.Buffers.{cornerOf, pairOf, slotAt, pendingOf, free, Marked, Grid, Holds, Sound, around}
+use Rattle.points.specs.Points.{cornerOf, pairOf, Grid}
+use Rattle.convex_ring.specs.Buffers.{slotAt, pendingOf, free, Marked, Holds, Sound, around}
 use Rattle.convex_grow.proofs.Choice.{chosen}
 use Rattle.convex_grow.specs.Growing.{movedBy, pushedBy, Stepped}
 use Rattle.convex_ring.proofs.Reading.{pending-cons, pending-more, pending-set-corner, pending-set-edge, done-move, done-set, length-done, around-ring}

@@ -8,7 +8,8 @@ ghost use lib.ListN.{length, getD, set};
 ghost use Rattle.plane.specs.Machine.{point};
 ghost use Rattle.mesh.specs.Mesh.{vertex, neighbour, before};
 ghost use Rattle.mesh.specs.Rows.{rowTriangle, rowsMesh};
-ghost use Rattle.convex_ring.specs.Buffers.{pairOf, Ready, Sound};
+ghost use Rattle.points.specs.Points.{pairOf};
+ghost use Rattle.convex_ring.specs.Buffers.{Ready, Sound};
 ghost use Rattle.convex_grow.specs.Growing.{movedBy, pushedBy, Stepped, Started, Ran, Grown};
 use convex_ring::Progress;
 use mesh::Far;
@@ -55,7 +56,7 @@ fn push(
     let top = p.pending;
     put_edge(edges, top - 1, k, far.first);
     put_edge(edges, top, k, far.second);
-    convex_ring::put_corner(corners, top, far.vertex);
+    points::put_point(corners, top, far.vertex);
     Progress {
         pending: top + 1,
         done: p.done,
@@ -100,7 +101,7 @@ fn put_vertex(corners: &mut [[i32; 2]], edges: &mut [[usize; 2]], row: Row, k: u
     ensures buffer { λ r. ⌜ now (corners .exit) ≡ set (now (corners .entry)) i (pairOf (vertex (rowTriangle row) i)) ⌝ }
     ensures edge { λ r. ⌜ now (edges .exit) ≡ set (now (edges .entry)) i (k ∷ neighbour (rowTriangle row) (before i) ∷ []) ⌝ }
 {
-    convex_ring::put_corner(corners, i, mesh::vertex_of(row, i));
+    points::put_point(corners, i, mesh::vertex_of(row, i));
     put_edge(
         edges,
         i,

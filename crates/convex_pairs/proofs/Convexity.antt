@@ -22,7 +22,8 @@ use Rattle.plane.specs.Contour.{edges, lastOf, contourArea}
 use Rattle.plane.proofs.Terms.{_+E_, _-E_, crossE, areaTwoE}
 use Rattle.plane.proofs.Vectors.{+ᵖ-zero, area-cycle, area-is-turn}
 use Rattle.plane.proofs.Contours.{contour-triangle, contour-insert}
-use Rattle.plane.proofs.Directions.{Up, Lt, lt-trans, lt-in-half, lower-up, nz-of-up}
+use Rattle.plane.specs.Halves.{Up}
+use Rattle.plane.proofs.Directions.{Lt, lt-trans, lt-in-half, lower-up, nz-of-up}
 use Rattle.convex.specs.Joining.{joins}
 use Rattle.convex.proofs.Round.{Round, round-triangle, round-join}
 use Rattle.convex.proofs.Parts.{StrictlyConvex, convex-three}

@@ -23,12 +23,13 @@ use Rattle.convex.specs.Zipper.{Zipper, zipped, regionsZ, contourZ, partsZ}
 use Rattle.convex.proofs.Sizes.{straight-few}
 use Rattle.convex.proofs.Zipped.{parts-zipped}
 use Rattle.convex_ring.specs.declared.Progress.{Progress}
-use Rattle.convex_gather.specs.declared.Tally.{Tally}
-use Rattle.convex_gather.specs.Gather.{Gathered}
-use Rattle.convex_gather.proofs.Gathering.{part-appended}
-use Rattle.convex_ring.specs.Buffers.{cornerAt, free, Marked, Ready}
+use Rattle.points.specs.declared.Tally.{Tally}
+use Rattle.points.specs.Gathered.{Gathered}
+use Rattle.points.proofs.Gathering.{part-appended}
+use Rattle.points.specs.Points.{cornerIn, Appended}
+use Rattle.convex_ring.specs.Buffers.{free, Marked, Ready}
 use Rattle.convex_grow.specs.Growing.{Grown}
-use Rattle.convex_contour.specs.Contour.{contourAt, Whole, Appended}
+use Rattle.convex_contour.specs.Contour.{contourAt, Whole}
 use Rattle.convex_regions.specs.Parts.{total, inCorner, inEdge, inFlag, Fresh, Room, seenNext, partsNext, Joined, Visited}
 use Rattle.convex_grow.proofs.Growth.{free-le}
 use Rattle.convex_contour.proofs.Contours.{contour-zipper, length-contour}
@@ -214,7 +215,7 @@ module _ (rows : List (List ℤ)) {cs : List (List ℤ)} {es : List (List ℕ)} 
     corners = refl;
     edges = u .for-edges;
     marks = first-flags ∙ sym (length-rows rows);
-    grid = record { at = λ i. at-origin (cornerAt cs i .x) (cornerAt cs i .y) (total-none inCorner [] refl cs (u .no-corners) i) };
+    grid = record { at = λ i. at-origin (cornerIn cs i .x) (cornerIn cs i .y) (total-none inCorner [] refl cs (u .no-corners) i) };
     across = λ i h some d. omega (arith, total-none inEdge [] refl es (u .no-edges) i);
   }
 

@@ -11,10 +11,10 @@ use Rattle.mesh.specs.Rows.{number}
 use Rattle.table.specs.Table.{startsOf}
 use Rattle.convex.specs.Joining.{isIn}
 use Rattle.convex.specs.Zipper.{zipped, contourZ}
-use Rattle.convex_gather.specs.declared.Tally.{Tally}
-use Rattle.convex_gather.specs.Gather.{Gathered}
+use Rattle.points.specs.declared.Tally.{Tally}
+use Rattle.points.specs.Gathered.{Gathered}
 use Rattle.convex_ring.specs.Buffers.{free, Marked, Ready}
-use Rattle.convex_contour.specs.Contour.{firstPoints}
+use Rattle.points.specs.Points.{firstPoints}
 
 -- a mesh of at most so many triangles is tiny, small, or medium: its work arrays are of that size
 abbrev pub tiny : ℕ

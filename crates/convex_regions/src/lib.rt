@@ -11,10 +11,10 @@ ghost use Rattle.mesh.specs.Mesh.{maxTriangles, meshKinds};
 ghost use Rattle.mesh.specs.Rows.{rowsMesh};
 ghost use Rattle.convex.specs.Joining.{parts};
 ghost use Rattle.convex_ring.specs.Buffers.{Marked, Ready};
-ghost use Rattle.convex_gather.specs.Gather.{Gathered};
+ghost use Rattle.points.specs.Gathered.{Gathered};
 ghost use Rattle.convex_regions.specs.Parts.{tiny, small, medium, Fresh, Room, Joined, Visited};
-use convex_gather::Tally;
 use mesh::Row;
+use points::Tally;
 
 // A mesh of at most so many triangles is tiny, small, or medium; `large` is any that is accepted.
 pub const TINY: usize = 16;
@@ -44,7 +44,7 @@ fn append_region(
     let p = convex_grow::grow(mesh, corners, edges, taken, k);
     let count = convex_contour::append_contour(corners, p, points, t.corners);
     let parts = t.parts + 1;
-    convex_gather::put_start(starts, parts, count);
+    points::put_start(starts, parts, count);
     Tally {
         parts: parts,
         corners: count,
@@ -122,7 +122,7 @@ fn gather_within(
         × (r .corners ≤ 3 * length (now (mesh .entry))) ⌝ }
 {
     let n = mesh.len();
-    convex_gather::put_start(starts, 0, 0);
+    points::put_start(starts, 0, 0);
     visit_all(mesh, corners, edges, &mut taken[..n], starts, points)
 }
 

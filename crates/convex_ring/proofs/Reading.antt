@@ -11,16 +11,14 @@ use native.Mathlib.Omega.{arith}
 use lib.ListN.{length, getD, set, take, drop, length-append, length-drop, length-map, length-set, List·getD-append, List·getD-map}
 use lib.Seq.{take-suc, drop-cons, drop-set-lt, getD-set-same, getD-set-other, getD-take, getD-drop, getD-append-add, length-take-le}
 use lib.IntN.{ℤ}
-use Rattle.plane.specs.declared.IntPoint.{IntPoint}
-use Rattle.plane.specs.Plane.{Pt, O, onGrid}
-use Rattle.plane.specs.Machine.{point, OnGrid}
-use Rattle.plane.proofs.Size.{on-grid-both}
+use Rattle.plane.specs.Plane.{Pt, O}
 use Rattle.mesh.specs.Mesh.{Mesh, opposite}
 use Rattle.mesh.specs.Rows.{rowTriangle}
 use Rattle.mesh.proofs.Sides.{opposite-side}
 use Rattle.convex.specs.Zipper.{ring}
 use Rattle.convex_ring.specs.declared.Progress.{Progress}
-use Rattle.convex_ring.specs.Buffers.{cornerOf, cornerAt, slotAt, pendingOf, doneOf, around, Around, Sound}
+use Rattle.points.specs.Points.{cornerOf, cornerIn}
+use Rattle.convex_ring.specs.Buffers.{slotAt, pendingOf, doneOf, around, Around, Sound}
 
 -- ---- pending
 
@@ -47,7 +45,7 @@ module _ (cs : List (List ℤ)) (es : List (List ℕ)) where
   unfolding pendingOf
   pending-set-edge zero i e h = refl
   pending-set-edge (suc n) i e h =
-      ap₂ _∷_ (ap (λ r. record { corner = cornerAt cs n; inside = getD r 0 0; across = getD r 1 0 }) (getD-set-other es i n e [] (λ k. omega arith)))
+      ap₂ _∷_ (ap (λ r. record { corner = cornerIn cs n; inside = getD r 0 0; across = getD r 1 0 }) (getD-set-other es i n e [] (λ k. omega arith)))
       (pending-set-edge n i e (omega arith))
 
   -- the corners of the pending slots, from the first
@@ -55,7 +53,7 @@ module _ (cs : List (List ℤ)) (es : List (List ℕ)) where
   unfolding pendingOf
   pending-corners zero h = refl
   pending-corners (suc n) h =
-      reverse-cons (cornerAt cs n) (map (λ s. s .corner) (pendingOf cs es n)) ∙ ap (λ l. l ++ (cornerAt cs n ∷ [])) (pending-corners n (omega arith)) ∙ sym (ap (map cornerOf) (take-suc cs n [] h) ∙ map-append cornerOf (take n cs) (getD cs n [] ∷ []))
+      reverse-cons (cornerIn cs n) (map (λ s. s .corner) (pendingOf cs es n)) ∙ ap (λ l. l ++ (cornerIn cs n ∷ [])) (pending-corners n (omega arith)) ∙ sym (ap (map cornerOf) (take-suc cs n [] h) ∙ map-append cornerOf (take n cs) (getD cs n [] ∷ []))
 
   pub around-ring : (n d : ℕ) → n ≤ length cs → ring (pendingOf cs es (n - 1)) (doneOf cs d) ≡ around cs n d
   unfolding around
@@ -90,40 +88,37 @@ module _ (cs : List (List ℤ)) where
   unfolding around
   read n d i = List·getD-map cornerOf (drop d cs ++ take (n - 1) cs) i []
 
-  pub around-at : (n d i : ℕ) → d + i < length cs → getD (around cs n d) i O ≡ cornerAt cs (d + i)
+  pub around-at : (n d i : ℕ) → d + i < length cs → getD (around cs n d) i O ≡ cornerIn cs (d + i)
   around-at n d i h = read n d i ∙ ap cornerOf (List·getD-append (drop d cs) (take (n - 1) cs) [] i (omega (arith, length-drop d cs)) ∙ getD-drop d cs i [])
 
-  pub around-past : (n d i j : ℕ) → d ≤ length cs → j + length cs ≡ d + i → j < n - 1 → getD (around cs n d) i O ≡ cornerAt cs j
+  pub around-past : (n d i j : ℕ) → d ≤ length cs → j + length cs ≡ d + i → j < n - 1 → getD (around cs n d) i O ≡ cornerIn cs j
   around-past n d i j h e k =
       read n d i
       ∙ ap cornerOf
       (ap (λ q. getD (drop d cs ++ take (n - 1) cs) q []) (omega (arith, length-drop d cs, e)) ∙ getD-append-add (drop d cs) (take (n - 1) cs) j [] ∙ getD-take (n - 1) cs j [] k)
 
   -- the last: below the top, or the end of those done
-  pub around-end-pending : (n d : ℕ) → 1 < n → n ≤ length cs → d ≤ length cs → getD (around cs n d) (length (around cs n d) - 1) O ≡ cornerAt cs (n - 2)
+  pub around-end-pending : (n d : ℕ) → 1 < n → n ≤ length cs → d ≤ length cs → getD (around cs n d) (length (around cs n d) - 1) O ≡ cornerIn cs (n - 2)
   around-end-pending n d h k l = around-past n d (length (around cs n d) - 1) (n - 2) l (omega (arith, length-around n d k)) (omega arith)
 
-  pub around-end-done : (n d : ℕ) → n ≡ 1 → n ≤ length cs → d < length cs → getD (around cs n d) (length (around cs n d) - 1) O ≡ cornerAt cs (length cs - 1)
+  pub around-end-done : (n d : ℕ) → n ≡ 1 → n ≤ length cs → d < length cs → getD (around cs n d) (length (around cs n d) - 1) O ≡ cornerIn cs (length cs - 1)
   around-end-done n d h k l =
-      around-at n d (length (around cs n d) - 1) (omega (arith, length-around n d k)) ∙ ap (cornerAt cs) (omega (arith, length-around n d k))
+      around-at n d (length (around cs n d) - 1) (omega (arith, length-around n d k)) ∙ ap (cornerIn cs) (omega (arith, length-around n d k))
 
 -- ---- what `Around` gives
 
 module _ (cs : List (List ℤ)) (n d : ℕ) (a : Around cs n d) where
-  pub around-near : (i : ℕ) → d + i < length cs → getD (around cs n d) i O ≡ cornerAt cs (d + i)
+  pub around-near : (i : ℕ) → d + i < length cs → getD (around cs n d) i O ≡ cornerIn cs (d + i)
   around-near i h = around-at cs n d i h
 
-  pub around-far : (i : ℕ) → i < 2 → length cs ≤ d + i → getD (around cs n d) i O ≡ cornerAt cs (d + i - length cs)
+  pub around-far : (i : ℕ) → i < 2 → length cs ≤ d + i → getD (around cs n d) i O ≡ cornerIn cs (d + i - length cs)
   around-far i h k = around-past cs n d i (d + i - length cs) (a .whole) (omega arith) (omega (arith, a .three))
 
-  pub around-below : 1 < n → getD (around cs n d) (length (around cs n d) - 1) O ≡ cornerAt cs (n - 2)
+  pub around-below : 1 < n → getD (around cs n d) (length (around cs n d) - 1) O ≡ cornerIn cs (n - 2)
   around-below h = around-end-pending cs n d h (omega (arith, a .room, a .whole)) (a .whole)
 
-  pub around-back : n ≤ 1 → getD (around cs n d) (length (around cs n d) - 1) O ≡ cornerAt cs (length cs - 1)
+  pub around-back : n ≤ 1 → getD (around cs n d) (length (around cs n d) - 1) O ≡ cornerIn cs (length cs - 1)
   around-back h = around-end-done cs n d (omega (arith, a .some)) (omega (arith, a .room, a .whole)) (omega (arith, a .three))
-
-pub on-grid-of : (p : IntPoint) {q : Pt} → point p ≡ q → onGrid q ≡ true → OnGrid p
-on-grid-of p e h = let b = on-grid-both (point p) (ap onGrid e ∙ h) in record { x-small = b .0; y-small = b .1 }
 
 -- the side of a row that names a triangle
 pub side-below : {j : ℕ} (t : List ℤ) (k : ℕ) → j ≡ opposite (rowTriangle t) k → j < 3

@@ -6,23 +6,14 @@ use Prim.Native.Nat.{ℕ, zero, suc, _+_, _-_, _≤_, _<_}
 use lib.ListN.{length, getD, take, drop}
 use lib.IntN.{ℤ}
 use Rattle.integers.specs.Faults.{firstFault}
-use Rattle.plane.specs.Plane.{Pt, onGrid}
+use Rattle.plane.specs.Plane.{Pt}
 use Rattle.mesh.specs.Mesh.{Mesh, none, meshKinds}
-use Rattle.mesh.specs.Rows.{number}
 use Rattle.convex.specs.Joining.{isIn}
 use Rattle.convex.specs.Zipper.{Slot, Zipper}
+use Rattle.points.specs.Points.{cornerOf, cornerIn, Grid}
 use Rattle.convex_ring.specs.declared.Progress.{Progress}
 
--- ---- corners of two numbers, edges of a triangle inside and a neighbour across
-
-abbrev pub cornerOf : List ℤ → Pt
-cornerOf r = record { x = number r 0; y = number r 1 }
-
-abbrev pub pairOf : Pt → List ℤ
-pairOf p = p .x ∷ p .y ∷ []
-
-abbrev pub cornerAt : List (List ℤ) → ℕ → Pt
-cornerAt cs i = cornerOf (getD cs i [])
+-- ---- corners of two numbers (points/specs/Points.antt), edges of a triangle inside and a neighbour across
 
 abbrev pub insideAt : List (List ℕ) → ℕ → ℕ
 insideAt es i = getD (getD es i []) 0 0
@@ -31,7 +22,7 @@ abbrev pub acrossAt : List (List ℕ) → ℕ → ℕ
 acrossAt es i = getD (getD es i []) 1 0
 
 abbrev pub slotAt : List (List ℤ) → List (List ℕ) → ℕ → Slot
-slotAt cs es i = record { corner = cornerAt cs i; inside = insideAt es i; across = acrossAt es i }
+slotAt cs es i = record { corner = cornerIn cs i; inside = insideAt es i; across = acrossAt es i }
 
 -- the first n entries are pending, the last of them on top; those from d on are done
 unfoldable pub pendingOf : List (List ℤ) → List (List ℕ) → ℕ → List Slot
@@ -50,10 +41,6 @@ free (b ∷ l) = cond b 0 1 + free l
 
 pub record Marked (flags : List Bool) (l : List ℕ) : Type 0 where
   pub at : (k : ℕ) → k < length flags → getD flags k false ≡ isIn k l
-
--- every corner of the buffer is on the grid
-pub record Grid (cs : List (List ℤ)) : Type 0 where
-  pub at : (i : ℕ) → onGrid (cornerAt cs i) ≡ true
 
 -- what reading round the contour asks: n pending, from d on done, at least three in all
 pub record Around (cs : List (List ℤ)) (n d : ℕ) : Type 0 where

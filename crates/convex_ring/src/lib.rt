@@ -1,13 +1,14 @@
 // A region's contour while it grows, in one buffer: pending corners from the front, each with its outgoing edge, done corners from the back
 // (specs/Buffers.antt; convex/specs/Zipper.antt says why this is the paper's contour). Here it is read: the corners round the edge on top, and
-// whether a point joins there (`joins_over`). The buffer is as long as its lender made it. Leans on plane and convex's definitions.
+// whether a point joins there (`joins_over`). The buffer is as long as its lender made it. Leans on points, plane and convex's definitions.
 ghost use mathlib.Core.Path.{_≡_};
 ghost use Prim.Native.Nat.{_-_, _<_};
 ghost use lib.ListN.{length, getD, set};
 ghost use Rattle.plane.specs.Plane.{O};
 ghost use Rattle.plane.specs.Machine.{point, OnGrid};
 ghost use Rattle.convex.specs.Joining.{joins};
-ghost use Rattle.convex_ring.specs.Buffers.{cornerAt, pairOf, Grid, Around, around};
+ghost use Rattle.points.specs.Points.{cornerIn, pairOf, Grid};
+ghost use Rattle.convex_ring.specs.Buffers.{Around, around};
 use plane::IntPoint;
 
 // Where a region stands: how many corners are pending, where the done ones begin, and where they began when the last corner was put: that corner is done right before that place.
@@ -15,15 +16,6 @@ pub struct Progress {
     pub pending: usize,
     pub done: usize,
     pub last: usize,
-}
-
-// The corner at i.
-pub fn corner_at(corners: &[[i32; 2]], i: usize) -> IntPoint
-    requires { ⌜ (i < length (now corners)) × Grid (now corners) ⌝ }
-    ensures { λ r. ⌜ (point r ≡ cornerAt (now (corners .entry)) i) × OnGrid r ⌝ }
-{
-    let c = corners[i];
-    IntPoint { x: c[0], y: c[1] }
 }
 
 // Whether p, put between a and b, leaves no turn to the right at a and at b; a0 is before a, b0 after b.
@@ -43,9 +35,9 @@ fn ring_at(corners: &[[i32; 2]], pending: usize, done: usize, i: usize) -> IntPo
     ensures { λ r. ⌜ (point r ≡ getD (around (now (corners .entry)) pending done) i O) × OnGrid r ⌝ }
 {
     if done + i < corners.len() {
-        return corner_at(corners, done + i);
+        return points::point_at(corners, done + i);
     }
-    corner_at(corners, done + i - corners.len())
+    points::point_at(corners, done + i - corners.len())
 }
 
 // The corner before the top one, round the contour.
@@ -54,29 +46,21 @@ fn ring_end(corners: &[[i32; 2]], pending: usize, done: usize) -> IntPoint
     ensures { λ r. ⌜ (point r ≡ getD (around (now (corners .entry)) pending done) (length (around (now (corners .entry)) pending done) - 1) O) × OnGrid r ⌝ }
 {
     if pending > 1 {
-        return corner_at(corners, pending - 2);
+        return points::point_at(corners, pending - 2);
     }
-    corner_at(corners, corners.len() - 1)
+    points::point_at(corners, corners.len() - 1)
 }
 
 // Whether the point p joins after the top corner.
 pub fn joins_over(corners: &[[i32; 2]], p: IntPoint, pending: usize, done: usize) -> bool
     requires { ⌜ Around (now corners) pending done × OnGrid p ⌝ }
     ensures { λ r. ⌜ r ≡ joins (getD (around (now (corners .entry)) pending done) (length (around (now (corners .entry)) pending done) - 1) O)
-        (cornerAt (now (corners .entry)) (pending - 1)) (point p) (getD (around (now (corners .entry)) pending done) 0 O)
+        (cornerIn (now (corners .entry)) (pending - 1)) (point p) (getD (around (now (corners .entry)) pending done) 0 O)
         (getD (around (now (corners .entry)) pending done) 1 O) ⌝ }
 {
     let a0 = ring_end(corners, pending, done);
-    let a = corner_at(corners, pending - 1);
+    let a = points::point_at(corners, pending - 1);
     let b = ring_at(corners, pending, done, 0);
     let b0 = ring_at(corners, pending, done, 1);
     joins_at(a0, a, p, b, b0)
-}
-
-// The corner p at i.
-pub fn put_corner(corners: &mut [[i32; 2]], i: usize, p: IntPoint)
-    requires { ⌜ i < length (now corners) ⌝ }
-    ensures { λ r. ⌜ now (corners .exit) ≡ set (now (corners .entry)) i (pairOf (point p)) ⌝ }
-{
-    corners[i] = [p.x, p.y];
 }

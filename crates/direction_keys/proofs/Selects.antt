@@ -16,7 +16,7 @@ use Rattle.integers.proofs.Tests.{<-ltZ, ≤-ltZ}
 use Rattle.integers.proofs.Bits.{kept, fits-size}
 use Rattle.plane.specs.Plane.{Pt, lower}
 use Rattle.plane.specs.Machine.{Extent}
-use Rattle.direction_keys.specs.Keys.{one, fraction, turnedAs, turned, keyOf}
+use Rattle.direction_keys.specs.Keys.{one, fraction, turnedAs, turnedBack, keyOf}
 
 -- a short number is read back as it was
 pub read : {z : ℤ} → Extent z → toZ w64 (ofZ w64 z) ≡ z
@@ -81,8 +81,8 @@ module _ (q c d : ℕ) where
 
 pub turned-by :
     (v : Pt) {w h : ℕ} (low first : Bool) → w ≡ natAbs (v .x) → h ≡ natAbs (v .y) → low ≡ lower v → first ≡ cond low (ltZ (v .x) (pos 0)) (ltZ (pos 0) (v .x)) →
-    turned v ≡ turnedAs (cond low 2 0 + cond first 0 1) (cond first w h) (cond first h w)
-unfolding turned
+    turnedBack v ≡ turnedAs (cond low 2 0 + cond first 0 1) (cond first w h) (cond first h w)
+unfolding turnedBack
 turned-by v true true ew eh el ef = rw (sym el, sym ef, ew, eh)
 turned-by v true false ew eh el ef = rw (sym el, sym ef, ew, eh)
 turned-by v false true ew eh el ef = rw (sym el, sym ef, ew, eh)

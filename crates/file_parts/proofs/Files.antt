@@ -22,7 +22,7 @@ use Rattle.table.specs.Table.{startsOf, cornersOf, countsOf, written, roomKinds
 use Rattle.table.specs.declared.Counts.{Counts}
 use Rattle.table.proofs.Answers.{refused-counts, refused-buffer, accepted-counts, accepted-buffer}
 use Rattle.table.proofs.Parts.{length-starts}
-use Rattle.table.proofs.Corners.{length-numbers}
+use Rattle.corners.proofs.Corners.{length-numbers}
 use Rattle.split.specs.declared.ConvexSplitStrategy.{ConvexSplitStrategy}
 use Rattle.split.specs.Splitting.{splitParts, splitFault, splitCounts, splitStarts, splitCorners}
 use Rattle.split.proofs.Sizes.{split-table}

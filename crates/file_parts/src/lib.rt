@@ -22,7 +22,9 @@ fn split_sound(
     requires { ⌜ FileRoom (now bytes) (now rows) (now starts) (now corners) ⌝ }
     ensures counts { λ r. ⌜ r ≡ countsOf (fileFault (now (bytes .entry))) (fileParts (now (bytes .entry))) ⌝ }
     ensures starts { λ _. ⌜ now (starts .exit) ≡ written (fileFault (now (bytes .entry))) (startsOf (fileParts (now (bytes .entry)))) (now (starts .entry)) ⌝ }
-    ensures corners { λ _. ⌜ now (corners .exit) ≡ written (fileFault (now (bytes .entry))) (cornersOf (fileParts (now (bytes .entry)))) (now (corners .entry)) ⌝ }
+    ensures corners { λ _.
+        let b = now (bytes .entry) in
+        ⌜ now (corners .exit) ≡ written (fileFault b) (cornersOf (fileParts b)) (now (corners .entry)) ⌝ }
     ensures within { λ r. ⌜ (r .fault ≡ 0 → Within r (now (starts .exit)) (now (corners .exit))) ⌝ }
 {
     mesh_file::read_rows(&bytes[mesh_file::HEADER..], rows);
@@ -36,7 +38,9 @@ fn split_sound(
 pub fn split_file(bytes: &[u8], starts: &mut [u32; STARTS], corners: &mut [i32; NUMBERS]) -> Counts
     ensures counts { λ r. ⌜ r ≡ countsOf (fileFault (now (bytes .entry))) (fileParts (now (bytes .entry))) ⌝ }
     ensures starts { λ _. ⌜ now (starts .exit) ≡ written (fileFault (now (bytes .entry))) (startsOf (fileParts (now (bytes .entry)))) (now (starts .entry)) ⌝ }
-    ensures corners { λ _. ⌜ now (corners .exit) ≡ written (fileFault (now (bytes .entry))) (cornersOf (fileParts (now (bytes .entry)))) (now (corners .entry)) ⌝ }
+    ensures corners { λ _.
+        let b = now (bytes .entry) in
+        ⌜ now (corners .exit) ≡ written (fileFault b) (cornersOf (fileParts b)) (now (corners .entry)) ⌝ }
     ensures within { λ r. ⌜ (r .fault ≡ 0 → Within r (now (starts .exit)) (now (corners .exit))) ⌝ }
 {
     let fault = mesh_file::header_fault(bytes);

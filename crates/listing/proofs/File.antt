@@ -12,7 +12,7 @@ use Rattle.integers.specs.Faults.{firstFault}
 use Rattle.integers.proofs.Faults.{first-none, append-some, append-none}
 use Rattle.integers.proofs.Tests.{either-false}
 use Rattle.mesh.specs.Mesh.{maxTriangles, meshKinds}
-use Rattle.table.proofs.Rules.{was-taken}
+use Rattle.corners.proofs.Range.{was-taken}
 use Rattle.listing.specs.File.{totalBytes, triangleCount, recordOffset, splitNumber, meshOf, headerBroken, headerKinds, fileFault}
 
 module _ (bytes : List ℕ) where

@@ -18,7 +18,8 @@ use Rattle.integers.proofs.Tests.{zneeds, ltZ-<, ≤-leZ}
 use Rattle.integers.proofs.Elements.{all-getD}
 use Rattle.plane.specs.Plane.{Pt}
 use Rattle.plane.specs.Contour.{contourArea}
-use Rattle.table.specs.Table.{pointsOf, tableParts, partCount}
+use Rattle.corners.specs.Corners.{pointsOf}
+use Rattle.table.specs.Table.{tableParts, partCount}
 use Rattle.table.specs.Shown.{partNumbers}
 use Rattle.table.proofs.Rules.{count-parts}
 use Rattle.table.proofs.Shown.{part-is, part-ranged}

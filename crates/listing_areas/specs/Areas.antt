@@ -7,7 +7,8 @@ use lib.IntN.{ℤ, pos, natAbs, _+ℤ_, _*ℤ_}
 use lib.Signed.{leZ, ltZ}
 use Rattle.integers.specs.Lists.{All}
 use Rattle.plane.specs.Contour.{contourArea}
-use Rattle.table.specs.Table.{pointsOf, tableParts, tableBroken, offRange}
+use Rattle.corners.specs.Corners.{pointsOf, offRange}
+use Rattle.table.specs.Table.{tableParts, tableBroken}
 use Rattle.listing.specs.Listing.{totalArea}
 
 -- r is z but for whole turns of 2^64

@@ -9,7 +9,8 @@ ghost use lib.ListN.{length, getD};
 ghost use lib.IntN.{pos, _+ℤ_};
 ghost use Rattle.plane.specs.Plane.{areaTwo};
 ghost use Rattle.plane.specs.Machine.{CrossSize};
-ghost use Rattle.table.specs.Table.{pointsOf, offRange, tableParts, partCount};
+ghost use Rattle.corners.specs.Corners.{pointsOf, offRange};
+ghost use Rattle.table.specs.Table.{tableParts, partCount};
 ghost use Rattle.pair.specs.Walk.{cornerAt};
 ghost use Rattle.listing.specs.Listing.{areaOf, totalArea, shareOf};
 ghost use Rattle.listing_areas.specs.Areas.{Wraps, Measurable, Listable};
@@ -32,11 +33,13 @@ fn add_wrapped(total: u64, term: i64) -> u64
 // The doubled area of the triangle of the first corner, corner i and the one after it.
 fn wedge(corners: &[i32], i: usize) -> i64
     requires { ⌜ (offRange (now corners) ≡ false) × (i + 1 < length (pointsOf (now corners))) ⌝ }
-    ensures { λ r. ⌜ (r ≡ areaTwo (cornerAt (pointsOf (now (corners .entry))) 0) (cornerAt (pointsOf (now (corners .entry))) i) (cornerAt (pointsOf (now (corners .entry))) (i + 1))) × CrossSize r ⌝ }
+    ensures { λ r.
+        let part = pointsOf (now (corners .entry)) in
+        ⌜ (r ≡ areaTwo (cornerAt part 0) (cornerAt part i) (cornerAt part (i + 1))) × CrossSize r ⌝ }
 {
-    let first = walk_read::corner_at(corners, 0);
-    let a = walk_read::corner_at(corners, i);
-    let b = walk_read::corner_at(corners, i + 1);
+    let first = corners::corner_at(corners, 0);
+    let a = corners::corner_at(corners, i);
+    let b = corners::corner_at(corners, i + 1);
     plane::area_two(first, a, b)
 }
 
@@ -46,7 +49,7 @@ pub fn part_area(corners: &[i32]) -> u64
     requires { ⌜ Measurable (now corners) ⌝ }
     ensures { λ r. ⌜ r ≡ areaOf (pointsOf (now (corners .entry))) ⌝ }
 {
-    let n = walk_read::corner_count(corners);
+    let n = corners::corner_count(corners);
     let mut total: u64 = 0;
     let mut i: usize = 1;
     while i + 1 < n {

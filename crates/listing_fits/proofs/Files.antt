@@ -20,7 +20,8 @@ use Rattle.plane.specs.Plane.{Pt, onGrid}
 use Rattle.plane.specs.Contour.{contourArea}
 use Rattle.plane.proofs.Size.{coordinate-fits, on-grid-both}
 use Rattle.mesh.specs.Mesh.{Mesh, meshKinds}
-use Rattle.table.specs.Table.{startsOf, cornersOf, numbersOf, offRange}
+use Rattle.corners.specs.Corners.{numbersOf, offRange}
+use Rattle.table.specs.Table.{startsOf, cornersOf}
 use Rattle.table.proofs.Rules.{parts-table}
 use Rattle.text.specs.Text.{refusal}
 use Rattle.text.proofs.Sizes.{Word32s}
@@ -32,7 +33,7 @@ use Rattle.listing.proofs.File.{accepted-mesh}
 use Rattle.listing.specs.Listing.{totalArea, listingOf, areasOf}
 use Rattle.convex_pairs.proofs.Convexity.{polygon-area}
 use Rattle.split_pairs.proofs.Theorem.{split-polygons, split-on-grid}
-use Rattle.split_operand.proofs.Operand.{numbers-range}
+use Rattle.corners.proofs.Range.{numbers-range}
 use Rattle.split_operand.proofs.Total.{listing-total}
 use Rattle.listing_areas.specs.Areas.{Listable}
 use Rattle.listing_fits.specs.Fits.{listingRoom, ListingFits, FileListable}

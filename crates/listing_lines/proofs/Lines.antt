@@ -10,9 +10,10 @@ use lib.ListN.{length, drop, getD, length-append, drop-of-length-le}
 use lib.Seq.{drop-cons}
 use lib.IntN.{ℤ}
 use Rattle.plane.specs.Plane.{Pt}
-use Rattle.table.specs.Table.{pointsOf, tableParts, tableBroken, partCount}
+use Rattle.corners.specs.Corners.{pointsOf}
+use Rattle.table.specs.Table.{tableParts, tableBroken, partCount}
 use Rattle.table.specs.Shown.{partNumbers}
-use Rattle.table.proofs.Corners.{length-points}
+use Rattle.corners.proofs.Corners.{length-points}
 use Rattle.table.proofs.Rules.{count-parts, count-corners}
 use Rattle.table.proofs.Shown.{part-is}
 use Rattle.text.specs.Text.{decimal, space, newline, cornersWord, cornersText}

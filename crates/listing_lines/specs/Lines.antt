@@ -5,7 +5,8 @@ use mathlib.Core.List.{List, []}
 use Prim.Native.Nat.{ℕ, _+_, _≤_, _<_}
 use lib.ListN.{length, getD}
 use lib.IntN.{ℤ}
-use Rattle.table.specs.Table.{pointsOf, tableParts, tableBroken, partCount}
+use Rattle.corners.specs.Corners.{pointsOf}
+use Rattle.table.specs.Table.{tableParts, tableBroken, partCount}
 use Rattle.listing.specs.Listing.{areaOf, totalArea, headLine, partLine}
 use Rattle.listing_areas.specs.Areas.{Measurable, Listable}
 

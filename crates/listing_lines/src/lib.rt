@@ -4,7 +4,8 @@
 ghost use mathlib.Core.List.{[]};
 ghost use Prim.Native.Nat.{_≤_};
 ghost use lib.ListN.{length, getD};
-ghost use Rattle.table.specs.Table.{pointsOf, tableParts};
+ghost use Rattle.corners.specs.Corners.{pointsOf};
+ghost use Rattle.table.specs.Table.{tableParts};
 ghost use Rattle.text.specs.Put.{PutText};
 ghost use Rattle.listing.specs.Listing.{headLine, partLine, listingOf};
 ghost use Rattle.listing_areas.specs.Areas.{Listable};
@@ -46,7 +47,9 @@ fn put_line(
     at: usize,
 ) -> usize
     requires { ⌜ LineRoom (now starts) (now corners) k total (now out) at ⌝ }
-    ensures { λ r. ⌜ PutText (partLine total k (getD (tableParts (now (starts .entry)) (now (corners .entry))) k [])) at (now (out .entry)) (now (out .exit)) r ⌝ }
+    ensures { λ r.
+        let part = getD (tableParts (now (starts .entry)) (now (corners .entry))) k [] in
+        ⌜ PutText (partLine total k part) at (now (out .entry)) (now (out .exit)) r ⌝ }
 {
     let part = table_shown::part_of(starts, corners, k);
     put_part(k as u64, part, total, out, at)

@@ -18,7 +18,8 @@ use Rattle.plane.specs.Plane.{Pt, inRange, onGrid}
 use Rattle.mesh.specs.Mesh.{Mesh, Triangle, meshKinds, triangleAt, vertex}
 use Rattle.mesh.proofs.Accepted.{accepted}
 use Rattle.table.specs.declared.IntRect.{IntRect}
-use Rattle.table.specs.Table.{offRange, boundsList, boundsBroken, someOutside, withinBounds}
+use Rattle.corners.specs.Corners.{offRange}
+use Rattle.table.specs.Table.{boundsList, boundsBroken, someOutside, withinBounds}
 use Rattle.listing.specs.File.{headerKinds, meshOf, cornerLimit, splitNumber, strategyOf, fileFault}
 use Rattle.listing.proofs.File.{accepted-mesh}
 use Rattle.split.specs.declared.ConvexSplitStrategy.{ConvexSplitStrategy}

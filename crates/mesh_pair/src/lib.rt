@@ -36,7 +36,9 @@ pub fn take_two(
     right_starts: &mut [u32; STARTS],
     right_corners: &mut [i32; NUMBERS],
 ) -> Two
-    ensures { λ r. ⌜ TwoTaken (now (bytes .entry)) r (now («left_starts» .exit)) (now («left_corners» .exit)) (now («right_starts» .exit)) (now («right_corners» .exit)) ⌝ }
+    ensures { λ r. ⌜ TwoTaken (now (bytes .entry)) r
+        (now («left_starts» .exit)) (now («left_corners» .exit))
+        (now («right_starts» .exit)) (now («right_corners» .exit)) ⌝ }
 {
     let at = left_end(bytes);
     let left = mesh_operand::take_operand(&bytes[..at], left_starts, left_corners);

@@ -17,7 +17,7 @@ use Rattle.table.specs.Table.{startsOf, cornersOf, written}
 use Rattle.table.specs.Stored.{wordBytes, wordAt}
 use Rattle.table.proofs.Answers.{accepted-buffer, refused-buffer}
 use Rattle.table.proofs.Parts.{length-starts}
-use Rattle.table.proofs.Corners.{length-numbers}
+use Rattle.corners.proofs.Corners.{length-numbers}
 use Rattle.table.proofs.Words.{length-wordBytes}
 use Rattle.table_words.specs.Place.{putWords}
 use Rattle.table_words.proofs.Places.{put-front}

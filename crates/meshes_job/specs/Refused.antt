@@ -6,7 +6,8 @@ use Prim.Native.Nat.{ℕ}
 use lib.Dec.{eqb}
 use lib.ListN.{drop}
 use Rattle.integers.specs.Faults.{firstFault, faultEmpty, faultResult}
-use Rattle.table.specs.Table.{offRange, boundsList, partCount}
+use Rattle.corners.specs.Corners.{offRange}
+use Rattle.table.specs.Table.{boundsList, partCount}
 use Rattle.minkowski.specs.Pairs.{resultBounds, pairKinds}
 use Rattle.mesh_pair.specs.Files.{leftOperand, rightOperand}
 use Rattle.meshes_job.specs.Job.{meshesFault}

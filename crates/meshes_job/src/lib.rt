@@ -60,7 +60,10 @@ fn put_job(
     out: &mut [u8],
 ) -> usize
     requires { ⌜ JobRoom (now «left_starts») (now «left_corners») (now «right_starts») (now «right_corners») (now out) ⌝ }
-    ensures { λ r. ⌜ JobPut op (wordsFrom left (now («left_starts» .entry)) (now («left_corners» .entry))) (wordsFrom right (now («right_starts» .entry)) (now («right_corners» .entry))) (now (out .entry)) (now (out .exit)) r ⌝ }
+    ensures { λ r.
+        let l = wordsFrom left (now («left_starts» .entry)) (now («left_corners» .entry)) in
+        let m = wordsFrom right (now («right_starts» .entry)) (now («right_corners» .entry)) in
+        ⌜ JobPut op l m (now (out .entry)) (now (out .exit)) r ⌝ }
 {
     put_word(out, 0, op);
     let at = put_operand(left, left_starts, left_corners, 1, out);

@@ -9,7 +9,8 @@ use lib.IntN.{ℤ, pos, _+ℤ_, _-ℤ_}
 use Rattle.integers.specs.Faults.{Kind, firstFault, faultBounds, faultEmpty, faultRange, faultResult, faultRules, faultWinding}
 use Rattle.plane.specs.Plane.{Pt}
 use Rattle.table.specs.declared.IntRect.{IntRect}
-use Rattle.table.specs.Table.{pointsOf, startsOf, cornersOf, written, tableParts, tableBroken, offRange, boundsList, boundsBroken, roomKinds, partCount}
+use Rattle.corners.specs.Corners.{pointsOf, offRange}
+use Rattle.table.specs.Table.{startsOf, cornersOf, written, tableParts, tableBroken, boundsList, boundsBroken, roomKinds, partCount}
 use Rattle.pair.specs.Walk.{windingLeaves}
 use Rattle.pair.specs.Pair.{pairContour}
 use Rattle.minkowski.specs.declared.PairCounts.{PairCounts}

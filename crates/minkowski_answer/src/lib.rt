@@ -57,13 +57,23 @@ pub fn hand_out(
     corners: &mut [i32],
 ) -> PairCounts
     requires { ⌜ Unrolleds (now firsts) (now points) left right most ⌝ }
-    ensures { λ r. ⌜ WalksAnswered (now (firsts .entry)) (now (points .entry)) left right bounds (now (starts .entry)) (now (corners .entry)) r (now (starts .exit)) (now (corners .exit)) ⌝ }
+    ensures { λ r.
+        let s = now (starts .entry) in
+        let c = now (corners .entry) in
+        ⌜ WalksAnswered (now (firsts .entry)) (now (points .entry)) left right bounds s c r (now (starts .exit)) (now (corners .exit)) ⌝ }
 {
     let contours = left * right;
     if starts.len() < contours + 1 {
         return refusal(integers::fault::START_ROOM);
     }
-    if no_room(firsts, points, left, right, most, corners.len() / 2) {
+    if no_room(
+        firsts,
+        points,
+        left,
+        right,
+        most,
+        corners.len() / corners::WIDTH,
+    ) {
         return refusal(integers::fault::CORNER_ROOM);
     }
     let count = minkowski_rows::append_all(firsts, points, left, right, starts, corners);

@@ -1,18 +1,17 @@
 -- Numbers copied from a work buffer into the lent ones after the first `at` corners, one a turn (`Copied`): from the start (`copied-start`) by turns (`copied-next`) to
 -- corners put (`copied-end`). Assumes nothing.
 use mathlib.Core.Path.{_≡_, refl, sym, _∙_, ap}
-use mathlib.Core.List.{List, [], _∷_, _++_, append-nil}
-use Prim.Native.Nat.{ℕ, _+_, _*_, _≤_, _<_}
+use mathlib.Core.List.{List, _++_, append-nil}
+use Prim.Native.Nat.{ℕ, _+_, _*_, _<_, _-_, _≤_}
 use native.Mathlib.Omega.{arith}
-use lib.ListN.{length, getD, take, drop, set, length-append, length-drop, length-set, length-take}
 use lib.IntN.{ℤ, pos}
+use lib.ListN.{length, getD, take, drop, length-take, length-drop, set, length-append, length-set}
 use Rattle.integers.specs.Lists.{overlay}
+use Rattle.corners.specs.Corners.{numbersOf}
+use Rattle.pair_merge.specs.Putting.{CornersPut}
 use Rattle.integers.proofs.Overlay.{overlay-eq, copy-turn-past}
-use Rattle.plane.specs.Plane.{Pt}
-use Rattle.table.specs.Table.{pointsOf, numbersOf}
-use Rattle.table.proofs.Corners.{length-numbers, numbers-append, numbers-points}
-use Rattle.pair_merge.specs.Putting.{Put}
-use Rattle.minkowski_chains.specs.Contours.{cornersIn}
+use Rattle.corners.proofs.Corners.{length-numbers, numbers-append, numbers-points}
+use Rattle.minkowski_chains.specs.Contours.{workCorners}
 use Rattle.minkowski_chains.proofs.Contours.{corners-count}
 
 -- the first i numbers of `work` are copied
@@ -32,11 +31,11 @@ module _ (work : List ℤ) (at : ℕ) (out₀ : List ℤ) where
         (omega (arith, k, f, ap length (o ∙ overlay-eq front old), length-append front (drop (length front) old), length-drop (length front) old)) (c .written front old f o) e;
   }
 
-  pub copied-end : (count : ℕ) {out : List ℤ} → 2 * count ≤ length work → Copied work at (2 * count) out₀ out → Put (cornersIn count work) out₀ at out (at + count)
+  pub copied-end : (count : ℕ) {out : List ℤ} → 2 * count ≤ length work → Copied work at (2 * count) out₀ out → CornersPut (workCorners count work) out₀ at out (at + count)
   copied-end count h c = record {
     size = c .size;
     count = omega (arith, corners-count count work h);
     written = λ done old f o.
         c .written (numbersOf done) old (omega (arith, length-numbers done, f)) o
-        ∙ ap (λ l. overlay l old) (ap (λ l. numbersOf done ++ l) (sym (numbers-points (take (2 * count) work) (omega (arith, length-take (2 * count) work)))) ∙ sym (numbers-append done (cornersIn count work)));
+        ∙ ap (λ l. overlay l old) (ap (λ l. numbersOf done ++ l) (sym (numbers-points (take (2 * count) work) (omega (arith, length-take (2 * count) work)))) ∙ sym (numbers-append done (workCorners count work)));
   }

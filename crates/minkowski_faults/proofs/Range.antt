@@ -20,8 +20,9 @@ use Rattle.plane.specs.Plane.{inRange}
 use Rattle.plane.specs.Machine.{Coordinate}
 use Rattle.plane.proofs.Size.{in-range-coordinate, coordinate-fits, coordinate-sub-fits}
 use Rattle.table.specs.declared.IntRect.{IntRect}
-use Rattle.table.specs.Table.{offRange, boundsList, partCount}
-use Rattle.table.proofs.Rules.{was-taken}
+use Rattle.corners.specs.Corners.{offRange}
+use Rattle.table.specs.Table.{boundsList, partCount}
+use Rattle.corners.proofs.Range.{was-taken}
 
 -- a signed operand as the machine holds it
 abbrev pub held : ℤ → ℤ

@@ -8,7 +8,8 @@ use Prim.Native.Nat.{ℕ}
 use Rattle.integers.specs.Faults.{Kind, faultBounds, faultEmpty, faultRange, faultResult, faultRules}
 use Rattle.plane.specs.Plane.{Pt}
 use Rattle.table.specs.declared.IntRect.{IntRect}
-use Rattle.table.specs.Table.{pointsOf, tableBroken, offRange, boundsList, boundsBroken, partCount}
+use Rattle.corners.specs.Corners.{pointsOf, offRange}
+use Rattle.table.specs.Table.{tableBroken, boundsList, boundsBroken, partCount}
 use Rattle.minkowski.specs.Pairs.{Operand, operandOff, resultBounds}
 
 -- an operand as it is lent

@@ -7,7 +7,8 @@ ghost use lib.Dec.{eqb};
 ghost use lib.IntN.{_+ℤ_, _-ℤ_};
 ghost use Rattle.integers.specs.Faults.{firstFault, faultEmpty, faultResult};
 ghost use Rattle.plane.specs.Machine.{Coordinate};
-ghost use Rattle.table.specs.Table.{offRange, boundsList, partCount};
+ghost use Rattle.corners.specs.Corners.{offRange};
+ghost use Rattle.table.specs.Table.{boundsList, partCount};
 ghost use Rattle.minkowski.specs.Pairs.{resultBounds};
 ghost use Rattle.minkowski_faults.specs.Kinds.{operand, operandKinds};
 use table::IntRect;
@@ -32,7 +33,7 @@ fn bounds_off(b: IntRect) -> bool
 fn operand_off(corners: &[i32], bounds: IntRect) -> bool
     ensures { λ r. ⌜ r ≡ offRange (now (corners .entry) ++ boundsList bounds) ⌝ }
 {
-    if table::off_range(corners) {
+    if corners::off_range(corners) {
         return true;
     }
     bounds_off(bounds)
@@ -47,7 +48,10 @@ pub fn operands_fault(
     right_corners: &[i32],
     right_bounds: IntRect,
 ) -> u32
-    ensures { λ r. ⌜ r ≡ firstFault (operandKinds (operand (now («left_starts» .entry)) (now («left_corners» .entry)) «left_bounds») (operand (now («right_starts» .entry)) (now («right_corners» .entry)) «right_bounds»)) ⌝ }
+    ensures { λ r.
+        let left = operand (now («left_starts» .entry)) (now («left_corners» .entry)) «left_bounds» in
+        let right = operand (now («right_starts» .entry)) (now («right_corners» .entry)) «right_bounds» in
+        ⌜ r ≡ firstFault (operandKinds left right) ⌝ }
 {
     if table::rules_broken(left_starts, left_corners) {
         return integers::fault::RULES;
@@ -109,7 +113,11 @@ pub fn result_bounds(left: IntRect, right: IntRect, reflected: bool) -> IntRect
 
 // The first of 10 and 20 that holds: `bounds` are the result's, and each operand has one part fewer than starts.
 pub fn result_fault(bounds: IntRect, left_starts: &[u32], right_starts: &[u32]) -> u32
-    ensures { λ r. ⌜ r ≡ firstFault ((faultResult, offRange (boundsList bounds)) ∷ (faultEmpty, eqb (partCount (now («left_starts» .entry))) 0) ∷ (faultEmpty, eqb (partCount (now («right_starts» .entry))) 0) ∷ []) ⌝ }
+    ensures { λ r. ⌜ r ≡ firstFault (
+        (faultResult, offRange (boundsList bounds))
+        ∷ (faultEmpty, eqb (partCount (now («left_starts» .entry))) 0)
+        ∷ (faultEmpty, eqb (partCount (now («right_starts» .entry))) 0)
+        ∷ []) ⌝ }
 {
     if bounds_off(bounds) {
         return integers::fault::RESULT;

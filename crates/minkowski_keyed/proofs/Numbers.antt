@@ -15,7 +15,7 @@ use Rattle.minkowski_pairs.proofs.Bounds.{Unrefused}
 use Rattle.pair_walks.specs.Walks.{walksIn}
 use Rattle.pair_numbers.specs.Numbers.{NumberedTo, Numberable, Keyed}
 use Rattle.pair_numbers.proofs.Close.{operands-keyed}
-use Rattle.minkowski_work.specs.Scratch.{Call, Accepted, walkKinds, Walked}
+use Rattle.minkowski_work.specs.Scratch.{Call, Accepted, walkKinds, BothWalked}
 use Rattle.minkowski_work.proofs.Walked.{left-judged, right-judged}
 
 unrefused-call : (x : Call) → Accepted x → firstFault (walkKinds (x .reflected) (x .left) (x .right)) ≡ 0 → Unrefused (x .reflected) (x .left) (x .right)
@@ -31,7 +31,7 @@ unrefused-call x e h =
     let k = first-none 10 _ _ (omega arith) (j .1) in
     record { left-table = a .0; right-table = b .0; left-bounds = f .0; right-bounds = g .0; result-bounds = k .0 }
 
-module _ (x : Call) (e : Accepted x) {points : List (List ℤ)} {firsts : List ℕ} (w : Walked x points firsts) (few : length points < 2 ^ 32) where
+module _ (x : Call) (e : Accepted x) {points : List (List ℤ)} {firsts : List ℕ} (w : BothWalked x points firsts) (few : length points < 2 ^ 32) where
   abbrev left : ℕ
   left = partCount (x .left .starts)
 

@@ -16,8 +16,10 @@ use Rattle.integers.proofs.Faults.{first-none}
 use Rattle.plane.specs.Plane.{Pt, _+ᵖ_, negᵖ, inRange, onGrid}
 use Rattle.plane.proofs.Size.{in-range-coordinate}
 use Rattle.table.specs.declared.IntRect.{IntRect}
-use Rattle.table.specs.Table.{pointsOf, tableBroken, offRange, boundsList, withinBounds, someOutside, boundsBroken}
-use Rattle.table.proofs.Rules.{was-taken, flatten-whole}
+use Rattle.corners.specs.Corners.{pointsOf, offRange}
+use Rattle.table.specs.Table.{tableBroken, boundsList, withinBounds, someOutside, boundsBroken}
+use Rattle.corners.proofs.Range.{was-taken}
+use Rattle.table.proofs.Rules.{flatten-whole}
 use Rattle.pair.specs.Pair.{pairContour}
 use Rattle.pair.specs.Premise.{throughOrigin}
 use Rattle.pair.specs.Demand.{second}

@@ -30,7 +30,7 @@ fn fits(starts: &[u32], corners: &[i32], places: usize) -> bool
     if starts.len() > places {
         return false;
     }
-    corners.len() / 2 <= places - starts.len()
+    corners.len() / corners::WIDTH <= places - starts.len()
 }
 
 // Whether both have.
@@ -41,7 +41,10 @@ fn both_fit(
     right_corners: &[i32],
     places: usize,
 ) -> bool
-    ensures { λ r. ⌜ (r ≡ true → FitsIn places (now («left_starts» .entry)) (now («left_corners» .entry)) × FitsIn places (now («right_starts» .entry)) (now («right_corners» .entry))) ⌝ }
+    ensures { λ r. ⌜
+        (r ≡ true →
+        FitsIn places (now («left_starts» .entry)) (now («left_corners» .entry))
+        × FitsIn places (now («right_starts» .entry)) (now («right_corners» .entry))) ⌝ }
 {
     if fits(left_starts, left_corners, places) {
         return fits(right_starts, right_corners, places);
@@ -60,7 +63,9 @@ fn pairs_large(
     corners: &mut [i32],
 ) -> PairCounts
     requires accepted { ⌜ Accepted (callOf operation (now «left_starts») (now «left_corners») (now «right_starts») (now «right_corners»)) ⌝ }
-    ensures { λ r. ⌜ Answers (callOf operation (now («left_starts» .entry)) (now («left_corners» .entry)) (now («right_starts» .entry)) (now («right_corners» .entry))) (now (starts .entry)) (now (corners .entry)) r (now (starts .exit)) (now (corners .exit)) ⌝ }
+    ensures { λ r.
+        let x = callOf operation (now («left_starts» .entry)) (now («left_corners» .entry)) (now («right_starts» .entry)) (now («right_corners» .entry)) in
+        ⌜ Answers x (now (starts .entry)) (now (corners .entry)) r (now (starts .exit)) (now (corners .exit)) ⌝ }
 {
     let mut points = [[0i32; 2]; 2 * POINTS];
     let mut firsts = [0u32; 2 * FIRSTS];
@@ -89,7 +94,9 @@ fn pairs_small(
 ) -> PairCounts
     requires accepted { ⌜ Accepted (callOf operation (now «left_starts») (now «left_corners») (now «right_starts») (now «right_corners»)) ⌝ }
     requires places { ⌜ FitsIn smallPlaces (now «left_starts») (now «left_corners») × FitsIn smallPlaces (now «right_starts») (now «right_corners») ⌝ }
-    ensures { λ r. ⌜ Answers (callOf operation (now («left_starts» .entry)) (now («left_corners» .entry)) (now («right_starts» .entry)) (now («right_corners» .entry))) (now (starts .entry)) (now (corners .entry)) r (now (starts .exit)) (now (corners .exit)) ⌝ }
+    ensures { λ r.
+        let x = callOf operation (now («left_starts» .entry)) (now («left_corners» .entry)) (now («right_starts» .entry)) (now («right_corners» .entry)) in
+        ⌜ Answers x (now (starts .entry)) (now (corners .entry)) r (now (starts .exit)) (now (corners .exit)) ⌝ }
 {
     let mut points = [[0i32; 2]; 2 * SMALL];
     let mut firsts = [0u32; 2 * SMALL];
@@ -118,7 +125,9 @@ fn keyed_small(
 ) -> PairCounts
     requires accepted { ⌜ Accepted (callOf operation (now «left_starts») (now «left_corners») (now «right_starts») (now «right_corners»)) ⌝ }
     requires places { ⌜ FitsIn smallPlaces (now «left_starts») (now «left_corners») × FitsIn smallPlaces (now «right_starts») (now «right_corners») ⌝ }
-    ensures { λ r. ⌜ Answers (callOf operation (now («left_starts» .entry)) (now («left_corners» .entry)) (now («right_starts» .entry)) (now («right_corners» .entry))) (now (starts .entry)) (now (corners .entry)) r (now (starts .exit)) (now (corners .exit)) ⌝ }
+    ensures { λ r.
+        let x = callOf operation (now («left_starts» .entry)) (now («left_corners» .entry)) (now («right_starts» .entry)) (now («right_corners» .entry)) in
+        ⌜ Answers x (now (starts .entry)) (now (corners .entry)) r (now (starts .exit)) (now (corners .exit)) ⌝ }
 {
     let mut points = [[0i32; 2]; 2 * SMALL];
     let mut firsts = [0u32; 2 * SMALL];
@@ -149,7 +158,9 @@ fn keyed_medium(
 ) -> PairCounts
     requires accepted { ⌜ Accepted (callOf operation (now «left_starts») (now «left_corners») (now «right_starts») (now «right_corners»)) ⌝ }
     requires places { ⌜ FitsIn mediumPlaces (now «left_starts») (now «left_corners») × FitsIn mediumPlaces (now «right_starts») (now «right_corners») ⌝ }
-    ensures { λ r. ⌜ Answers (callOf operation (now («left_starts» .entry)) (now («left_corners» .entry)) (now («right_starts» .entry)) (now («right_corners» .entry))) (now (starts .entry)) (now (corners .entry)) r (now (starts .exit)) (now (corners .exit)) ⌝ }
+    ensures { λ r.
+        let x = callOf operation (now («left_starts» .entry)) (now («left_corners» .entry)) (now («right_starts» .entry)) (now («right_corners» .entry)) in
+        ⌜ Answers x (now (starts .entry)) (now (corners .entry)) r (now (starts .exit)) (now (corners .exit)) ⌝ }
 {
     let mut points = [[0i32; 2]; 2 * MEDIUM];
     let mut firsts = [0u32; 2 * MEDIUM];
@@ -179,7 +190,9 @@ fn keyed_large(
     corners: &mut [i32],
 ) -> PairCounts
     requires accepted { ⌜ Accepted (callOf operation (now «left_starts») (now «left_corners») (now «right_starts») (now «right_corners»)) ⌝ }
-    ensures { λ r. ⌜ Answers (callOf operation (now («left_starts» .entry)) (now («left_corners» .entry)) (now («right_starts» .entry)) (now («right_corners» .entry))) (now (starts .entry)) (now (corners .entry)) r (now (starts .exit)) (now (corners .exit)) ⌝ }
+    ensures { λ r.
+        let x = callOf operation (now («left_starts» .entry)) (now («left_corners» .entry)) (now («right_starts» .entry)) (now («right_corners» .entry)) in
+        ⌜ Answers x (now (starts .entry)) (now (corners .entry)) r (now (starts .exit)) (now (corners .exit)) ⌝ }
 {
     let mut points = [[0i32; 2]; 2 * POINTS];
     let mut firsts = [0u32; 2 * FIRSTS];
@@ -210,7 +223,9 @@ fn tiny_pairs(
     corners: &mut [i32],
 ) -> PairCounts
     requires { ⌜ FitsIn tinyPlaces (now «left_starts») (now «left_corners») × FitsIn tinyPlaces (now «right_starts») (now «right_corners») ⌝ }
-    ensures { λ r. ⌜ Answers (callOf operation (now («left_starts» .entry)) (now («left_corners» .entry)) (now («right_starts» .entry)) (now («right_corners» .entry))) (now (starts .entry)) (now (corners .entry)) r (now (starts .exit)) (now (corners .exit)) ⌝ }
+    ensures { λ r.
+        let x = callOf operation (now («left_starts» .entry)) (now («left_corners» .entry)) (now («right_starts» .entry)) (now («right_corners» .entry)) in
+        ⌜ Answers x (now (starts .entry)) (now (corners .entry)) r (now (starts .exit)) (now (corners .exit)) ⌝ }
 {
     let fault = minkowski_faults::operands_fault(
         left_starts,
@@ -248,8 +263,8 @@ fn few_pairs(
     requires { ⌜ FewAsked (now «left_starts») (now «left_corners») (now «right_starts») (now «right_corners») ⌝ }
     ensures { λ r. ⌜ r ≡ fewPairs (now («left_starts» .entry)) (now («left_corners» .entry)) (now («right_starts» .entry)) (now («right_corners» .entry)) ⌝ }
 {
-    let a = left_corners.len() / 2;
-    let b = right_corners.len() / 2;
+    let a = left_corners.len() / corners::WIDTH;
+    let b = right_corners.len() / corners::WIDTH;
     right_starts.len() * a + left_starts.len() * b < 4 * (a + b)
 }
 
@@ -264,7 +279,9 @@ fn small_pairs(
     corners: &mut [i32],
 ) -> PairCounts
     requires { ⌜ FitsIn smallPlaces (now «left_starts») (now «left_corners») × FitsIn smallPlaces (now «right_starts») (now «right_corners») ⌝ }
-    ensures { λ r. ⌜ Answers (callOf operation (now («left_starts» .entry)) (now («left_corners» .entry)) (now («right_starts» .entry)) (now («right_corners» .entry))) (now (starts .entry)) (now (corners .entry)) r (now (starts .exit)) (now (corners .exit)) ⌝ }
+    ensures { λ r.
+        let x = callOf operation (now («left_starts» .entry)) (now («left_corners» .entry)) (now («right_starts» .entry)) (now («right_corners» .entry)) in
+        ⌜ Answers x (now (starts .entry)) (now (corners .entry)) r (now (starts .exit)) (now (corners .exit)) ⌝ }
 {
     let fault = minkowski_faults::operands_fault(
         left_starts,
@@ -309,7 +326,9 @@ fn large_pairs(
     starts: &mut [u32],
     corners: &mut [i32],
 ) -> PairCounts
-    ensures { λ r. ⌜ Answers (callOf operation (now («left_starts» .entry)) (now («left_corners» .entry)) (now («right_starts» .entry)) (now («right_corners» .entry))) (now (starts .entry)) (now (corners .entry)) r (now (starts .exit)) (now (corners .exit)) ⌝ }
+    ensures { λ r.
+        let x = callOf operation (now («left_starts» .entry)) (now («left_corners» .entry)) (now («right_starts» .entry)) (now («right_corners» .entry)) in
+        ⌜ Answers x (now (starts .entry)) (now (corners .entry)) r (now (starts .exit)) (now (corners .exit)) ⌝ }
 {
     let fault = minkowski_faults::operands_fault(
         left_starts,
@@ -373,9 +392,14 @@ pub fn sum_parts(
     starts: &mut [u32],
     corners: &mut [i32],
 ) -> PairCounts
-    ensures counts { λ r. ⌜ r ≡ pairsCounts false (operand (now («left_starts» .entry)) (now («left_corners» .entry)) «left_bounds») (operand (now («right_starts» .entry)) (now («right_corners» .entry)) «right_bounds») (now (starts .entry)) (now (corners .entry)) ⌝ }
-    ensures starts { λ r. ⌜ now (starts .exit) ≡ pairsStarts false (operand (now («left_starts» .entry)) (now («left_corners» .entry)) «left_bounds») (operand (now («right_starts» .entry)) (now («right_corners» .entry)) «right_bounds») (now (starts .entry)) (now (corners .entry)) ⌝ }
-    ensures corners { λ r. ⌜ now (corners .exit) ≡ pairsCorners false (operand (now («left_starts» .entry)) (now («left_corners» .entry)) «left_bounds») (operand (now («right_starts» .entry)) (now («right_corners» .entry)) «right_bounds») (now (starts .entry)) (now (corners .entry)) ⌝ }
+    ensures { λ r.
+        let left = operand (now («left_starts» .entry)) (now («left_corners» .entry)) «left_bounds» in
+        let right = operand (now («right_starts» .entry)) (now («right_corners» .entry)) «right_bounds» in
+        let s = now (starts .entry) in
+        let c = now (corners .entry) in
+        ⌜ (r ≡ pairsCounts false left right s c)
+        × (now (starts .exit) ≡ pairsStarts false left right s c)
+        × (now (corners .exit) ≡ pairsCorners false left right s c) ⌝ }
 {
     let operation = Operation {
         reflected: false,
@@ -432,9 +456,14 @@ pub fn difference_parts(
     starts: &mut [u32],
     corners: &mut [i32],
 ) -> PairCounts
-    ensures counts { λ r. ⌜ r ≡ pairsCounts true (operand (now («left_starts» .entry)) (now («left_corners» .entry)) «left_bounds») (operand (now («right_starts» .entry)) (now («right_corners» .entry)) «right_bounds») (now (starts .entry)) (now (corners .entry)) ⌝ }
-    ensures starts { λ r. ⌜ now (starts .exit) ≡ pairsStarts true (operand (now («left_starts» .entry)) (now («left_corners» .entry)) «left_bounds») (operand (now («right_starts» .entry)) (now («right_corners» .entry)) «right_bounds») (now (starts .entry)) (now (corners .entry)) ⌝ }
-    ensures corners { λ r. ⌜ now (corners .exit) ≡ pairsCorners true (operand (now («left_starts» .entry)) (now («left_corners» .entry)) «left_bounds») (operand (now («right_starts» .entry)) (now («right_corners» .entry)) «right_bounds») (now (starts .entry)) (now (corners .entry)) ⌝ }
+    ensures { λ r.
+        let left = operand (now («left_starts» .entry)) (now («left_corners» .entry)) «left_bounds» in
+        let right = operand (now («right_starts» .entry)) (now («right_corners» .entry)) «right_bounds» in
+        let s = now (starts .entry) in
+        let c = now (corners .entry) in
+        ⌜ (r ≡ pairsCounts true left right s c)
+        × (now (starts .exit) ≡ pairsStarts true left right s c)
+        × (now (corners .exit) ≡ pairsCorners true left right s c) ⌝ }
 {
     let operation = Operation {
         reflected: true,

@@ -12,11 +12,12 @@ use Rattle.integers.specs.Lists.{overlay}
 use Rattle.integers.proofs.Overlay.{overlay-eq, overlay-nil, overlay-turn}
 use Rattle.integers.proofs.Sums.{length-flatten-append}
 use Rattle.plane.specs.Plane.{Pt}
-use Rattle.table.specs.Table.{startsFrom, startsOf, numbersOf, cornersOf}
+use Rattle.corners.specs.Corners.{numbersOf}
+use Rattle.table.specs.Table.{startsFrom, startsOf, cornersOf}
 use Rattle.table.proofs.Parts.{length-starts}
-use Rattle.convex_gather.proofs.Gathering.{flatten-more, starts-more}
+use Rattle.points.proofs.Gathering.{flatten-more, starts-more}
 use Rattle.pair_points.specs.Points.{mergedOf}
-use Rattle.pair_merge.specs.Putting.{RoomAfter, Put}
+use Rattle.pair_merge.specs.Putting.{RoomAfter, CornersPut}
 use Rattle.pair_walks.specs.Walks.{mergedRow, mergedAll}
 use Rattle.pair_walks.proofs.Operands.{row-suc, row-whole, all-suc, all-whole}
 use Rattle.minkowski_rows.specs.Rows.{PairsRoom, PairsPut, AllPut}
@@ -25,7 +26,7 @@ use Rattle.minkowski_rows.specs.Rows.{PairsRoom, PairsPut, AllPut}
 
 -- its corners put, and the start after it
 pub pairs-one :
-    (p : List Pt) (starts : List ℕ) (n : ℕ) (out : List ℤ) (k : ℕ) {starts′ : List ℕ} {out′ : List ℤ} {k′ : ℕ} → n + 1 < length starts → Put p out k out′ k′ → starts′ ≡ set starts (n + 1) k′ →
+    (p : List Pt) (starts : List ℕ) (n : ℕ) (out : List ℤ) (k : ℕ) {starts′ : List ℕ} {out′ : List ℤ} {k′ : ℕ} → n + 1 < length starts → CornersPut p out k out′ k′ → starts′ ≡ set starts (n + 1) k′ →
     PairsPut (p ∷ []) starts n out k starts′ (n + 1) out′ k′
 pairs-one p starts n out k {starts′} {out′} {k′} h a e = record {
   starts-size = ap length e ∙ length-set starts (n + 1) k′;
@@ -109,7 +110,7 @@ module _ {p : List Pt} {s : List ℕ} {n : ℕ} {o : List ℤ} {k : ℕ} (r : Pa
   pub one-room : RoomAfter p o k
   one-room = omega (arith, r .for-corners, length-one)
 
-  pub one-small : {o′ : List ℤ} {k′ : ℕ} → Put p o k o′ k′ → k′ < 2 ^ 32
+  pub one-small : {o′ : List ℤ} {k′ : ℕ} → CornersPut p o k o′ k′ → k′ < 2 ^ 32
   one-small a = omega (arith, r .small, a .count, length-one)
 
 -- b is right walk q, and a left walk p
@@ -140,8 +141,8 @@ row-done a rs q {s} {s′} {n} {m} {o} {o′} {k} {k′} e f p =
     (subst (λ l. PairsPut (mergedRow a l) s n o k s′ (n + q) o′ k′) (take-all q rs (omega (arith, e, f))) p)
 
 -- of equal contours
-pub put-equal : {x y : List Pt} {o o′ : List ℤ} {k k′ : ℕ} → x ≡ y → Put x o k o′ k′ → Put y o k o′ k′
-put-equal {o = o} {o′} {k} {k′} e p = subst (λ l. Put l o k o′ k′) e p
+pub put-equal : {x y : List Pt} {o o′ : List ℤ} {k k′ : ℕ} → x ≡ y → CornersPut x o k o′ k′ → CornersPut y o k o′ k′
+put-equal {o = o} {o′} {k} {k′} e p = subst (λ l. CornersPut l o k o′ k′) e p
 
 -- the room is the same once the first start is put
 pub room-resized : {ps : List (List Pt)} (s : List ℕ) {s₀ : List ℕ} {n : ℕ} {o : List ℤ} {k : ℕ} → s₀ ≡ set s 0 0 → PairsRoom ps s n o k → PairsRoom ps s₀ n o k

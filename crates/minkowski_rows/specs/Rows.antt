@@ -1,4 +1,4 @@
--- Merges of two walks of a buffer, and of one with each right one (`mergedIn`, `rowIn`), and contours put one after another into lent starts and corners
+-- Merges of two walks of a buffer, and of one with each right one (`mergedIn`, `mergedRowIn`), and contours put one after another into lent starts and corners
 -- (`PairsRoom`, `PairsPut`, `AllPut`). Assumes nothing.
 use mathlib.Core.Path.{_≡_}
 use mathlib.Core.List.{List, _++_, flatten}
@@ -19,8 +19,8 @@ abbrev pub mergedIn : List ℕ → List (List ℤ) → ℕ → ℕ → ℕ → L
 mergedIn firsts points count m n = mergedOf (walkIn firsts points count m) (walkIn firsts points count n)
 
 -- of left walk p and each right one
-abbrev pub rowIn : List ℕ → List (List ℤ) → ℕ → ℕ → ℕ → List (List Pt)
-rowIn firsts points left right p = mergedRow (walkIn firsts points (left + right) p) (rightsIn firsts points left right)
+abbrev pub mergedRowIn : List ℕ → List (List ℤ) → ℕ → ℕ → ℕ → List (List Pt)
+mergedRowIn firsts points left right p = mergedRow (walkIn firsts points (left + right) p) (rightsIn firsts points left right)
 
 -- ---- contours put into lent starts and corners
 

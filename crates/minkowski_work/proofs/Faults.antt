@@ -11,7 +11,8 @@ use lib.Dec.{eqb, lit<}
 use Rattle.integers.specs.Faults.{Kind, firstFault}
 use Rattle.integers.proofs.Faults.{first-this, first-next, first-none, append-some, append-none}
 use Rattle.table.specs.declared.IntRect.{IntRect}
-use Rattle.table.specs.Table.{tableBroken, offRange, boundsList, partCount, roomKinds}
+use Rattle.corners.specs.Corners.{offRange}
+use Rattle.table.specs.Table.{tableBroken, boundsList, partCount, roomKinds}
 use Rattle.minkowski.specs.Pairs.{Operand, operandOff, operandParts, pairContours, resultBounds, someWindingLeaves, pairKinds, pairsFault}
 use Rattle.minkowski_faults.specs.Kinds.{operandKinds, resultKinds}
 use Rattle.minkowski_work.specs.Scratch.{walkKinds}

@@ -17,8 +17,8 @@ use Rattle.table.specs.Table.{startsFrom, startsOf, roomKinds, partCount, maxCo
 use Rattle.table.proofs.Rules.{sound, count-parts, count-corners, sound-limits}
 use Rattle.pair_points.specs.Points.{Turning, unrolled}
 use Rattle.pair_points.proofs.Merged.{turning-unrolled, length-unrolled}
-use Rattle.convex_gather.specs.declared.Tally.{Tally}
-use Rattle.convex_gather.specs.Gather.{Gathered}
+use Rattle.points.specs.declared.Tally.{Tally}
+use Rattle.points.specs.Gathered.{Gathered}
 use Rattle.pair_unroll_all.specs.Parts.{unrolledParts, Unrollables, AllUnrolled}
 use Rattle.pair_unroll_all.proofs.Parts.{parts-ranged, unrolled-few}
 use Rattle.minkowski.specs.declared.PairCounts.{PairCounts}
@@ -29,13 +29,13 @@ use Rattle.pair_walks.proofs.Operands.{both-lefts, both-rights}
 use Rattle.minkowski_faults.specs.Kinds.{operandKinds}
 use Rattle.minkowski_answer.specs.Answer.{refusalOf, Unrolleds, PairsAnswered, WalksAnswered}
 use Rattle.minkowski_answer.proofs.Answer.{refused}
-use Rattle.minkowski_work.specs.Scratch.{Call, Accepted, Answers, Scratch, Ready, Walked}
+use Rattle.minkowski_work.specs.Scratch.{Call, Accepted, Answers, Scratch, AcceptedWithRoom, BothWalked}
 use Rattle.minkowski_work.proofs.Faults.{Judged, judged, operands-refused}
 use Rattle.minkowski_work.proofs.Counted.{few-pairs, few-contours, few-left, few-right}
 
 -- ---- buffers that hold any two operands: 20,480 = 2 · (8,192 + 2,048) points
 
-pub large : (x : Call) {points : List (List ℤ)} {firsts : List ℕ} → Accepted x → length points ≡ 20480 → length firsts ≡ 4098 → Ready x points firsts
+pub large : (x : Call) {points : List (List ℤ)} {firsts : List ℕ} → Accepted x → length points ≡ 20480 → length firsts ≡ 4098 → AcceptedWithRoom x points firsts
 large x e h k =
     let j = judged (x .left) (x .right) e in
     let s = sound (x .left .starts) (x .left .corners) (j .0 .sound) in
@@ -171,7 +171,7 @@ module _ (x : Call) (e : Accepted x) where
           both-count : length (us ++ vs) ≡ partCount (l .starts) + partCount (r .starts)
           both-count = length-append us vs ∙ ap₂ _+_ count-lefts count-rights
 
-          pub walked : Walked x points₃ firsts₃
+          pub walked : BothWalked x points₃ firsts₃
           walked =
               let same : walksIn firsts₃ points₃ (partCount (l .starts) + partCount (r .starts)) ≡ us ++ vs = ap (walksIn firsts₃ points₃) (sym both-count) ∙ gathered-walks-in firsts₃ points₃ (us ++ vs) both-gathered in
               record {
@@ -187,7 +187,7 @@ module _ (x : Call) (e : Accepted x) where
 
 -- ---- all pairs of both
 
-module _ (x : Call) {points : List (List ℤ)} {firsts : List ℕ} (w : Walked x points firsts) where
+module _ (x : Call) {points : List (List ℤ)} {firsts : List ℕ} (w : BothWalked x points firsts) where
   abbrev left : ℕ
   left = partCount (x .left .starts)
 

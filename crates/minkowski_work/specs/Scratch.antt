@@ -1,5 +1,5 @@
--- A call on two lent tables (`Call`, `callOf`); what it answers and leaves (`Answers`); work buffers for the points of both operands (`Ready`), and what they hold
--- once both are unrolled and the result is judged (`Walked`, `WalksTold`). Assumes nothing.
+-- A call on two lent tables (`Call`, `callOf`); what it answers and leaves (`Answers`); work buffers for the points of both operands (`AcceptedWithRoom`), and what they hold
+-- once both are unrolled and the result is judged (`BothWalked`, `WalksTold`). Assumes nothing.
 use mathlib.Core.Path.{_≡_}
 use mathlib.Core.Bool.{Bool, false}
 use mathlib.Core.List.{List, [], _∷_, _++_}
@@ -49,7 +49,7 @@ pub record Scratch (x : Call) (points : List (List ℤ)) (firsts : List ℕ) : T
   pub for-firsts : length (x .left .starts) + length (x .right .starts) ≤ length firsts + 1
   pub small : length points < 2 ^ 32
 
-pub record Ready (x : Call) (points : List (List ℤ)) (firsts : List ℕ) : Type 0 where
+pub record AcceptedWithRoom (x : Call) (points : List (List ℤ)) (firsts : List ℕ) : Type 0 where
   pub accepted : Accepted x
   pub room : Scratch x points firsts
 
@@ -61,7 +61,7 @@ walkKinds reflected l r =
     ((8, someWindingLeaves false (operandParts l)) ∷ (8, someWindingLeaves reflected (operandParts r)) ∷ []) ++ resultKinds reflected l r
 
 -- the walks of both operands' parts, the left one's first
-pub record Walked (x : Call) (points : List (List ℤ)) (firsts : List ℕ) : Type 0 where
+pub record BothWalked (x : Call) (points : List (List ℤ)) (firsts : List ℕ) : Type 0 where
   pub walks : Walks firsts points (partCount (x .left .starts) + partCount (x .right .starts))
   pub lefts : leftsIn firsts points (partCount (x .left .starts)) (partCount (x .right .starts)) ≡ unrolledParts false (operandParts (x .left))
   pub rights : rightsIn firsts points (partCount (x .left .starts)) (partCount (x .right .starts)) ≡ unrolledParts (x .reflected) (operandParts (x .right))
@@ -69,4 +69,4 @@ pub record Walked (x : Call) (points : List (List ℤ)) (firsts : List ℕ) : Ty
 -- the first fault of those; where there is none, the walks of both operands are there
 pub record WalksTold (x : Call) (points : List (List ℤ)) (firsts : List ℕ) (f : ℕ) : Type 0 where
   pub told : f ≡ firstFault (walkKinds (x .reflected) (x .left) (x .right))
-  pub walked : f ≡ 0 → Walked x points firsts
+  pub walked : f ≡ 0 → BothWalked x points firsts

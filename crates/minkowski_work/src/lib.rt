@@ -6,7 +6,7 @@ ghost use mathlib.Core.Bool.{false};
 ghost use Prim.Native.Nat.{_+_, _*_, _/_};
 ghost use lib.ListN.{length};
 ghost use Rattle.table.specs.Table.{tableBroken, partCount};
-ghost use Rattle.minkowski_work.specs.Scratch.{callOf, Answers, Ready, WalksTold};
+ghost use Rattle.minkowski_work.specs.Scratch.{callOf, Answers, AcceptedWithRoom, WalksTold};
 use minkowski::Operation;
 use minkowski::PairCounts;
 
@@ -17,12 +17,16 @@ pub fn most_corners(
     right_starts: &[u32],
     right_corners: &[i32],
 ) -> usize
-    requires { ⌜ (tableBroken (now «left_starts») (now «left_corners») ≡ false) × (tableBroken (now «right_starts») (now «right_corners») ≡ false) ⌝ }
-    ensures { λ r. ⌜ r ≡ partCount (now («right_starts» .entry)) * (length (now («left_corners» .entry)) / 2) + partCount (now («left_starts» .entry)) * (length (now («right_corners» .entry)) / 2) ⌝ }
+    requires { ⌜
+        (tableBroken (now «left_starts») (now «left_corners») ≡ false)
+        × (tableBroken (now «right_starts») (now «right_corners») ≡ false) ⌝ }
+    ensures { λ r. ⌜ r ≡
+        partCount (now («right_starts» .entry)) * (length (now («left_corners» .entry)) / 2)
+        + partCount (now («left_starts» .entry)) * (length (now («right_corners» .entry)) / 2) ⌝ }
 {
     let l = left_starts.len() - 1;
     let r = right_starts.len() - 1;
-    r * (left_corners.len() / 2) + l * (right_corners.len() / 2)
+    r * (left_corners.len() / corners::WIDTH) + l * (right_corners.len() / corners::WIDTH)
 }
 
 // Unrolls two operands that 7, 2 and 9 are not told of, each part to points once, and judges the result: the first of 8, 10 and 20 that holds; 0 for none, and then
@@ -36,11 +40,14 @@ pub fn walks_fault(
     points: &mut [[i32; 2]],
     firsts: &mut [u32],
 ) -> u32
-    requires { ⌜ Ready (callOf operation (now «left_starts») (now «left_corners») (now «right_starts») (now «right_corners»)) (now points) (now firsts) ⌝ }
-    ensures { λ r. ⌜ WalksTold (callOf operation (now («left_starts» .entry)) (now («left_corners» .entry)) (now («right_starts» .entry)) (now («right_corners» .entry))) (now (points .exit)) (now (firsts .exit)) r ⌝ }
+    requires { let x = callOf operation (now «left_starts») (now «left_corners») (now «right_starts») (now «right_corners») in
+        ⌜ AcceptedWithRoom x (now points) (now firsts) ⌝ }
+    ensures { λ r.
+        let x = callOf operation (now («left_starts» .entry)) (now («left_corners» .entry)) (now («right_starts» .entry)) (now («right_corners» .entry)) in
+        ⌜ WalksTold x (now (points .exit)) (now (firsts .exit)) r ⌝ }
 {
     let reflected = operation.reflected;
-    convex_gather::put_start(firsts, 0, 0);
+    points::put_start(firsts, 0, 0);
     if pair_unroll_all::unroll_all(left_starts, left_corners, false, 0, points, firsts) {
         return integers::fault::WINDING;
     }
@@ -64,8 +71,11 @@ pub fn pairs_over(
     starts: &mut [u32],
     corners: &mut [i32],
 ) -> PairCounts
-    requires { ⌜ Ready (callOf operation (now «left_starts») (now «left_corners») (now «right_starts») (now «right_corners»)) (now points) (now firsts) ⌝ }
-    ensures { λ r. ⌜ Answers (callOf operation (now («left_starts» .entry)) (now («left_corners» .entry)) (now («right_starts» .entry)) (now («right_corners» .entry))) (now (starts .entry)) (now (corners .entry)) r (now (starts .exit)) (now (corners .exit)) ⌝ }
+    requires { let x = callOf operation (now «left_starts») (now «left_corners») (now «right_starts») (now «right_corners») in
+        ⌜ AcceptedWithRoom x (now points) (now firsts) ⌝ }
+    ensures { λ r.
+        let x = callOf operation (now («left_starts» .entry)) (now («left_corners» .entry)) (now («right_starts» .entry)) (now («right_corners» .entry)) in
+        ⌜ Answers x (now (starts .entry)) (now (corners .entry)) r (now (starts .exit)) (now (corners .exit)) ⌝ }
 {
     let fault = walks_fault(
         operation,

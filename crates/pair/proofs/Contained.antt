@@ -17,7 +17,8 @@ use Rattle.integers.proofs.Neighbours.{seconds-neighbours, all-neighbours}
 use Rattle.plane.specs.Plane.{Pt, _+ᵖ_, _-ᵖ_, cross, dot}
 use Rattle.plane.proofs.Terms.{_+E_, _-E_, crossE, dotE}
 use Rattle.plane.proofs.Vectors.{pt-eq}
-use Rattle.plane.proofs.Directions.{Lt, Nz}
+use Rattle.plane.specs.Halves.{Nz}
+use Rattle.plane.proofs.Directions.{Lt}
 use Rattle.pair.specs.Premise.{reach}
 use Rattle.pair.specs.Berg.{cornersFrom}
 use Rattle.plane.proofs.Sides.{sub-zero}

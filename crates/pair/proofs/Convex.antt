@@ -7,7 +7,8 @@ use mathlib.Core.Logic.{inl, inr}
 use Rattle.integers.specs.Lists.{All, Any}
 use Rattle.integers.proofs.Elements.{all-map}
 use Rattle.plane.specs.Plane.{Pt, O}
-use Rattle.plane.proofs.Directions.{Le, Nz}
+use Rattle.plane.specs.Halves.{Nz}
+use Rattle.plane.proofs.Directions.{Le}
 use Rattle.pair.specs.Premise.{reach}
 use Rattle.pair.specs.Berg.{cornersFrom}
 use Rattle.pair.specs.Demand.{sumᵖ}

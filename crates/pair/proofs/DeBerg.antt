@@ -9,12 +9,13 @@ use Rattle.plane.specs.declared.Ordering.{Ordering}
 use Rattle.plane.specs.declared.Ordering.the-variants.{Less, Equal, Greater}
 use Rattle.plane.specs.Plane.{Pt, _+ᵖ_, angleCmp}
 use Rattle.plane.specs.Contour.{edges}
-use Rattle.plane.proofs.Directions.{Lt, Same, before, beside, after, angle-cases, Nz, lt-le, clash, same-le, lt-not-same, same-lt, same-sym, lt-trans}
+use Rattle.plane.specs.Halves.{Nz}
+use Rattle.plane.proofs.Directions.{Lt, Same, before, beside, after, angle-cases, lt-le, clash, same-le, lt-not-same, same-lt, same-sym, lt-trans}
 use Rattle.pair.specs.Walk.{cornerAt}
 use Rattle.pair.specs.Berg.{mergeOne, mergeByAngle, MergeCases, cornersFrom, bergOf}
-use Rattle.pair.proofs.EdgeLists.{stepOne, stepped, runs, grouped}
+use Rattle.pair.specs.EdgeLists.{stepOne, stepped, runs, grouped, join}
 use Rattle.pair.proofs.Convex.{Sorted}
-use Rattle.pair.proofs.Join.{join, step-by, all-stepped, runs-by}
+use Rattle.pair.proofs.Join.{step-by, all-stepped, runs-by}
 
 -- ---- the merge, case by case
 

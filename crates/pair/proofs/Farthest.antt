@@ -8,7 +8,8 @@ use Rattle.integers.specs.Lists.{All, Any}
 use Rattle.integers.proofs.Elements.{all-map, any-map, all-any, all-image}
 use Rattle.integers.proofs.Pigeonhole.{pigeonhole}
 use Rattle.plane.specs.Plane.{Pt, _+ᵖ_}
-use Rattle.plane.proofs.Directions.{Lt, Nz}
+use Rattle.plane.specs.Halves.{Nz}
+use Rattle.plane.proofs.Directions.{Lt}
 use Rattle.pair.specs.Walk.{cornerAt}
 use Rattle.pair.specs.Premise.{reach}
 use Rattle.pair.specs.Berg.{cornersFrom}
@@ -17,7 +18,8 @@ use Rattle.plane.proofs.Sides.{+ᵖ-cross}
 use Rattle.pair.proofs.Convex.{In, in-self, Sorted, Convex, Outline}
 use Rattle.pair.proofs.Totals.{cut}
 use Rattle.pair.proofs.Splits.{corners-cuts}
-use Rattle.pair.proofs.Join.{join, join-strict, cut-join, join-convex}
+use Rattle.pair.specs.EdgeLists.{join}
+use Rattle.pair.proofs.Join.{join-strict, cut-join, join-convex}
 use Rattle.pair.proofs.Reaches.{convex-nonempty, corners-nonempty, cut-corner, reach-join}
 use Rattle.pair.proofs.StrictCorners.{strictly-convex}
 use Rattle.pair.proofs.Upper.{distinct-corners}

@@ -13,7 +13,7 @@ use Rattle.pair.specs.Walk.{begin, pointOf, advance}
 use Rattle.pair.specs.Pair.{pairContour}
 use Rattle.pair.specs.Berg.{cornersFrom}
 use Rattle.pair.specs.Demand.{handed, walkEdges, live}
-use Rattle.pair.proofs.EdgeLists.{stepOne, stepped, runs, grouped}
+use Rattle.pair.specs.EdgeLists.{stepOne, stepped, runs, grouped}
 use Rattle.pair.proofs.Places.{begin-remaining}
 use Rattle.pair.proofs.Live.{length-live}
 use Rattle.pair.proofs.PairSteps.{pair-contour}

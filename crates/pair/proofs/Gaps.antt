@@ -12,7 +12,8 @@ use Rattle.integers.proofs.Arith.{_:≤_, _⇒_, arithℤ}
 use Rattle.integers.proofs.Elements.{all-map, all-map2}
 use Rattle.plane.specs.Plane.{Pt, cross}
 use Rattle.plane.proofs.Terms.{crossE}
-use Rattle.plane.proofs.Directions.{Le, Lt, Nz, lt-le, le-refl}
+use Rattle.plane.specs.Halves.{Nz}
+use Rattle.plane.proofs.Directions.{Le, Lt, lt-le, le-refl}
 use Rattle.plane.proofs.Sides.{past-left, before-left, between-right}
 use Rattle.pair.proofs.Convex.{Sorted, Convex}
 use Rattle.pair.proofs.Totals.{all-line-left, all-line-right}

@@ -10,17 +10,14 @@ use Rattle.integers.proofs.Order.{by-test}
 use Rattle.integers.proofs.Elements.{all-map, all-map2, all-append, all-perm}
 use Rattle.plane.specs.Plane.{Pt, O, _+ᵖ_, isZero, angleCmp, isEqual, isGreater}
 use Rattle.plane.proofs.Vectors.{+ᵖ-assoc, +ᵖ-zero, isZero-true}
-use Rattle.plane.proofs.Directions.{Le, Lt, Nz, Same, before, beside, after, angle-cases, le-trans, lt-le, clash, same-le, same-refl, same-sym, same-trans, same-lt, lt-same, lt-le-trans, nz-not-zero}
+use Rattle.plane.specs.Halves.{Nz}
+use Rattle.plane.proofs.Directions.{Le, Lt, Same, before, beside, after, angle-cases, le-trans, lt-le, clash, same-le, same-refl, same-sym, same-trans, same-lt, lt-same, lt-le-trans, nz-not-zero}
 use Rattle.pair.specs.Demand.{live}
-use Rattle.pair.proofs.EdgeLists.{stepOne, stepped, runs, grouped}
+use Rattle.pair.specs.EdgeLists.{stepOne, stepped, runs, grouped, join}
 use Rattle.plane.proofs.Sides.{Line, line-swap, line-trans, AddSame, add-same}
 use Rattle.pair.proofs.Convex.{Sorted, Convex}
 use Rattle.pair.proofs.Totals.{one, total, total-sum, total-append, total-perm, Dirs, ahead-of, cut, dirs-ahead}
 use Rattle.pair.proofs.Live.{live-zero, live-keep}
-
--- the edges of both lists in the order of their steps, runs of one direction added up
-unfoldable pub join : List Pt → List Pt → List Pt
-join m l = grouped (stepped m l)
 
 -- ---- one step
 

@@ -1,6 +1,5 @@
 -- What holds of walks and pairs; specs/Demand.antt has the statements and Theorem their proofs. In reading order.
 -- From places to lists of edges: where a walk starts, its edges, the pair's steps, the corner count, the premise without repeated corners.
-pub mod EdgeLists
 pub mod Start
 pub mod Places
 pub mod Live

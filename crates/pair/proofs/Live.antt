@@ -11,7 +11,8 @@ use Rattle.integers.proofs.Order.{by-test}
 use Rattle.integers.proofs.Rotation.{rotate-eq, rotate-append}
 use Rattle.plane.specs.Plane.{Pt, O, _+ᵖ_, negᵖ, isZero}
 use Rattle.plane.proofs.Vectors.{zero-+ᵖ, negᵖ-negᵖ, isZero-true}
-use Rattle.plane.proofs.Directions.{Nz, nz-of-test, nz-not-zero}
+use Rattle.plane.specs.Halves.{Nz}
+use Rattle.plane.proofs.Directions.{nz-of-test, nz-not-zero}
 use Rattle.pair.specs.Demand.{live, sumᵖ}
 
 -- a zero edge goes, another stays

@@ -21,7 +21,7 @@ use Rattle.pair.specs.Walk.{begin, pointOf, edgeOf, advance}
 use Rattle.pair.specs.Pair.{none, first, second, lesser, nextStep, stepFirst, stepSecond, Heading, unset, along, Run, belongs, headed, run, stepsLeft, corner, end, sumPoint, emittedBy, pairStep, emit, startOf, pairContour}
 use Rattle.pair.specs.Berg.{cornersFrom}
 use Rattle.pair.specs.Demand.{handed, walkEdges, live}
-use Rattle.pair.proofs.EdgeLists.{stepOne, stepped, runs, grouped}
+use Rattle.pair.specs.EdgeLists.{stepOne, stepped, runs, grouped}
 use Rattle.pair.proofs.Places.{point-advance}
 use Rattle.pair.proofs.Live.{live-zero, live-keep}
 

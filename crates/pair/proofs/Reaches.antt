@@ -16,7 +16,8 @@ use Rattle.integers.proofs.Greatest.{greatest-bound, greatest-attained, greates
 use Rattle.plane.specs.Plane.{Pt, O, _+ᵖ_, cross, dot, rot}
 use Rattle.plane.proofs.Terms.{OE, _+E_, crossE, dotE}
 use Rattle.plane.proofs.Vectors.{pt-eq, +ᵖ-assoc, +ᵖ-zero, cross-add-l, cross-rot}
-use Rattle.plane.proofs.Directions.{level, Le, Lt, Nz, le-trans, le-lt-trans, lt-le, le-refl, nz-of-up, nz-cases}
+use Rattle.plane.specs.Halves.{level, Nz}
+use Rattle.plane.proofs.Directions.{Le, Lt, le-trans, le-lt-trans, lt-le, le-refl, nz-of-up, nz-cases}
 use Rattle.pair.specs.Premise.{reach}
 use Rattle.pair.specs.Berg.{cornersFrom}
 use Rattle.pair.specs.Demand.{sumᵖ}
@@ -24,7 +25,8 @@ use Rattle.plane.proofs.Sides.{+ᵖ-next, Line, Ahead, ahead, behind, ahead-cas
 use Rattle.pair.proofs.Convex.{In, Sorted, Convex}
 use Rattle.pair.proofs.Totals.{sum-cons, total, cut, cut-take, cut-none, cut-whole, sum-left, sum-right, cut-left, cut-most}
 use Rattle.pair.proofs.Splits.{Split, split-start, split-next, split-before, split-all, split-total, split-sum}
-use Rattle.pair.proofs.Join.{join, cut-join, join-convex}
+use Rattle.pair.specs.EdgeLists.{join}
+use Rattle.pair.proofs.Join.{cut-join, join-convex}
 
 -- ---- the reach of a list
 

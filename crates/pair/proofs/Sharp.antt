@@ -21,7 +21,8 @@ use Rattle.integers.proofs.Neighbours.{firsts-neighbours, map-neighbours, perm-
 use Rattle.plane.specs.Plane.{Pt, O, _-ᵖ_, negᵖ, cross, angleCmp, isEqual}
 use Rattle.plane.specs.Contour.{edges, contourArea}
 use Rattle.plane.proofs.Contours.{contour-rotate, contour-shift}
-use Rattle.plane.proofs.Directions.{Le, Lt, Nz, nz-cases, lt-irrefl, lt-asym, lt-trans}
+use Rattle.plane.specs.Halves.{Nz}
+use Rattle.plane.proofs.Directions.{Le, Lt, nz-cases, lt-irrefl, lt-asym, lt-trans}
 use Rattle.pair.specs.Walk.{cornerAt, below, windingTerms}
 use Rattle.pair.specs.Premise.{howMany, forward, descent, left, roundBy, strictlyConvex}
 use Rattle.pair.specs.Demand.{live}

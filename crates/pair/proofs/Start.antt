@@ -19,7 +19,7 @@ use Rattle.integers.proofs.Tests.{differ, <-ltZ, ≤-ltZ}
 use Rattle.integers.proofs.Elements.{all-map, getD-all}
 use Rattle.plane.specs.Plane.{Pt, O, _-ᵖ_, negᵖ}
 use Rattle.plane.proofs.Vectors.{pt-eq}
-use Rattle.plane.proofs.Directions.{Up, above, level}
+use Rattle.plane.specs.Halves.{Up, above, level}
 use Rattle.pair.specs.Walk.{cornerAt, below, leastFrom, greatestFrom, leastAt, greatestAt, startAt, endAt, turned}
 
 -- ---- the order by (y, x)

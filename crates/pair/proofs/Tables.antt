@@ -15,12 +15,12 @@ use Rattle.integers.proofs.Order.{zarith, by-test}
 use Rattle.integers.proofs.Elements.{all-map, all-map2, any-map, all-any, all-append, all-perm, any-append}
 use Rattle.integers.proofs.Tests.{differ, ltZ-<}
 use Rattle.plane.specs.Plane.{Pt, O, _+ᵖ_, _-ᵖ_, negᵖ, cross, isEqual}
-use Rattle.plane.specs.Contour.{edges}
+use Rattle.plane.specs.Contour.{edges, lastOf}
 use Rattle.plane.proofs.Terms.{OE, _+E_, _-E_, crossE}
 use Rattle.plane.proofs.Vectors.{+ᵖ-assoc, +ᵖ-zero, +ᵖ--ᵖ}
-use Rattle.plane.proofs.Directions.{Up, LtAt, Le, Lt, Same, before, beside, after, angle-cases, Nz, le-trans, clash, same-le, lower-up, lower-down, nz-not-zero}
+use Rattle.plane.specs.Halves.{Up, Nz}
+use Rattle.plane.proofs.Directions.{LtAt, Le, Lt, Same, before, beside, after, angle-cases, le-trans, clash, same-le, lower-up, lower-down, nz-not-zero}
 use Rattle.pair.specs.Premise.{howMany, forward, descent}
-use Rattle.plane.specs.Contour.{lastOf}
 use Rattle.pair.specs.Berg.{cornersFrom}
 use Rattle.pair.specs.Demand.{live, sumᵖ}
 use Rattle.plane.proofs.Sides.{+ᵖ-sub, +ᵖ-cancel, sub-zero, sub-self, neg-of-sum, Line, line-swap, line-trans, ahead, behind, ahead-cases, lt-ahead}

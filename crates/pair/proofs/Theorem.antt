@@ -14,20 +14,21 @@ use Rattle.integers.proofs.Tests.{differ, <-ltZ, ≤-ltZ}
 use Rattle.plane.specs.Plane.{Pt, O, _+ᵖ_, negᵖ}
 use Rattle.plane.specs.Contour.{edges, contourArea}
 use Rattle.plane.proofs.Contours.{contour-reverse}
-use Rattle.plane.proofs.Directions.{Lt, Nz}
+use Rattle.plane.specs.Halves.{Nz}
+use Rattle.plane.proofs.Directions.{Lt}
 use Rattle.pair.specs.Walk.{cornerAt, startAt, leastAt, winding, begin, turned, pointOf, windingTerms, below}
 use Rattle.pair.specs.Pair.{pairContour}
 use Rattle.pair.specs.Premise.{howMany, descent, forward, roundBy, withoutRepeats, onceRound, strictlyConvex, throughOrigin}
 use Rattle.pair.specs.Berg.{cornersFrom, anticlockwise, fromLowest, bergOf, deBerg}
 use Rattle.pair.specs.Demand.{second, FarthestReach, Demand3, walkEdges, live, sumᵖ, ascending, WalkedRound, Walked, FewCorners, EitherWay, SumIsDeBerg}
-use Rattle.pair.proofs.EdgeLists.{stepped, grouped}
+use Rattle.pair.specs.EdgeLists.{stepped, grouped, join}
 use Rattle.pair.proofs.Start.{start-inside, start-is-least, least-all, greatest-all, least-is}
 use Rattle.pair.proofs.Places.{backwards, begin-point, walk-onward, walk-backward, turned-edges}
 use Rattle.pair.proofs.PairSteps.{pair-contour}
 use Rattle.pair.proofs.FewCorners.{few-corners}
 use Rattle.pair.proofs.Repeats.{RoundEdges, once-round, live-round, round-live}
 use Rattle.pair.proofs.Convex.{Sorted, Convex, Outline}
-use Rattle.pair.proofs.Join.{join, grouped-live-stepped}
+use Rattle.pair.proofs.Join.{grouped-live-stepped}
 use Rattle.pair.proofs.Counts.{ascending-sorted}
 use Rattle.pair.proofs.Farthest.{farthest-outlines}
 use Rattle.pair.proofs.Tables.{sum-edges}

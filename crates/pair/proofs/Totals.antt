@@ -15,7 +15,8 @@ use Rattle.integers.proofs.Elements.{all-map, all-image}
 use Rattle.plane.specs.Plane.{Pt, O, _+ᵖ_, negᵖ, cross, angleCmp, isLess}
 use Rattle.plane.proofs.Terms.{negE, crossE}
 use Rattle.plane.proofs.Vectors.{+ᵖ-assoc, +ᵖ-zero, zero-+ᵖ, cross-add-l, cross-add-r, cross-swap}
-use Rattle.plane.proofs.Directions.{Le, Lt, Nz, Same, clash}
+use Rattle.plane.specs.Halves.{Nz}
+use Rattle.plane.proofs.Directions.{Le, Lt, Same, clash}
 use Rattle.pair.specs.Demand.{sumᵖ}
 use Rattle.plane.proofs.Sides.{+ᵖ-left, cross-zero-l, cross-zero-r, cross-neg-swap-r, Line, ahead, behind, ahead-cases, ahead-same}
 

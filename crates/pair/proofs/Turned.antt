@@ -22,7 +22,8 @@ use Rattle.plane.specs.Plane.{Pt, O, _-ᵖ_, negᵖ, cross, lower, byHalves, an
 use Rattle.plane.specs.Contour.{edges}
 use Rattle.plane.proofs.Terms.{_-E_, negE, crossE}
 use Rattle.plane.proofs.Vectors.{negᵖ-negᵖ, cross-neg-neg}
-use Rattle.plane.proofs.Directions.{Up, LtAt, before, beside, after, angle-cases, sgn, Nz, lower-up, lower-down}
+use Rattle.plane.specs.Halves.{Up, sgn, Nz}
+use Rattle.plane.proofs.Directions.{LtAt, before, beside, after, angle-cases, lower-up, lower-down}
 use Rattle.pair.specs.Walk.{cornerAt, below, windingTerms}
 use Rattle.pair.specs.Premise.{howMany, forward, descent}
 use Rattle.pair.specs.Demand.{live}

@@ -16,7 +16,8 @@ use Rattle.integers.proofs.Tests.{differ}
 use Rattle.plane.specs.Plane.{Pt, O, _+ᵖ_, negᵖ, cross, lower}
 use Rattle.plane.proofs.Terms.{_+E_, crossE}
 use Rattle.plane.proofs.Vectors.{cross-add-r, cross-self}
-use Rattle.plane.proofs.Directions.{Up, above, level, LeAt, Le, Lt, Nz, lt-le, lt-trans, lt-irrefl, lt-in-half, lower-up, nz-of-up}
+use Rattle.plane.specs.Halves.{Up, above, level, Nz}
+use Rattle.plane.proofs.Directions.{LeAt, Le, Lt, lt-le, lt-trans, lt-irrefl, lt-in-half, lower-up, nz-of-up}
 use Rattle.pair.specs.Demand.{sumᵖ}
 use Rattle.pair.specs.Berg.{cornersFrom}
 use Rattle.plane.proofs.Sides.{+ᵖ-cancel, neg-of-sum, cross-neg-swap-l, nz-up, nz-down, up-add, down-add}

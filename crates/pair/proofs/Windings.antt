@@ -9,7 +9,8 @@ use Rattle.integers.specs.Lists.{All, sumℤ}
 use Rattle.integers.proofs.Order.{≤-or->}
 use Rattle.plane.specs.Plane.{Pt, O, _+ᵖ_, cross}
 use Rattle.plane.proofs.Vectors.{+ᵖ-comm, zero-+ᵖ, cross-self}
-use Rattle.plane.proofs.Directions.{Le, Nz, nz-of-up}
+use Rattle.plane.specs.Halves.{Nz}
+use Rattle.plane.proofs.Directions.{Le, nz-of-up}
 use Rattle.pair.specs.Demand.{sumᵖ}
 use Rattle.plane.proofs.Sides.{Line, line-swap, line-add, line-trans}
 use Rattle.pair.proofs.Convex.{Convex}

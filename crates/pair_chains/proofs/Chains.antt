@@ -12,17 +12,17 @@ use lib.IntN.{ℤ}
 use Rattle.integers.specs.Lists.{All}
 use Rattle.integers.proofs.Order.{by-test}
 use Rattle.plane.specs.Plane.{Pt, _+ᵖ_}
-use Rattle.convex_ring.specs.Buffers.{cornerAt}
-use Rattle.pair_merge.specs.Putting.{RoomAfter, Put, Reached}
+use Rattle.points.specs.Points.{cornerIn}
+use Rattle.pair_merge.specs.Putting.{RoomAfter, CornersPut, Reached}
 use Rattle.pair_merge.proofs.Placing.{reached-start, reached-more, reached-end, reached-room}
-use Rattle.direction_keys.specs.Marks.{step}
+use Rattle.direction_keys.specs.Marks.{stepOver}
 use Rattle.pair_chains.specs.declared.Lane.{Lane}
 use Rattle.pair_chains.specs.Chains.{leftAfter, rightAfter, chainFor, chain, along, contourFrom, Runs}
 
 -- ---- steps
 
 -- a walk steps by one at most
-pub step-small : (x y : ℕ) → step x y ≤ 1
+pub step-small : (x y : ℕ) → stepOver x y ≤ 1
 step-small x y = at (leb x y)
   where
     at : (t : Bool) → cond t 1 0 ≤ 1
@@ -30,7 +30,7 @@ step-small x y = at (leb x y)
     at false = omega arith
 
 -- and one of the two does: x ≤ y or y ≤ x
-step-some : (x y : ℕ) → 1 ≤ step x y + step y x
+step-some : (x y : ℕ) → 1 ≤ stepOver x y + stepOver y x
 step-some x y =
     by-test (leb x y)
     (λ e. rw e (omega arith))
@@ -95,7 +95,7 @@ pub record Stands (points : List (List ℤ)) (numbers : List ℕ) (end : ℕ) (w
 
 module _ (points : List (List ℤ)) (numbers : List ℕ) (end : ℕ) where
   abbrev cornerOf : Lane → Pt
-  cornerOf s = cornerAt points (s .i) +ᵖ cornerAt points (s .j)
+  cornerOf s = cornerIn points (s .i) +ᵖ cornerIn points (s .j)
 
   abbrev after : Lane → Lane
   after s = record { i = leftAfter numbers (s .i) (s .j); j = rightAfter numbers (s .i) (s .j); k = s .k + 1 }
@@ -116,13 +116,13 @@ module _ (points : List (List ℤ)) (numbers : List ℕ) (end : ℕ) where
     stands-room h f = omega (arith, reached-room (contourFrom points numbers end (s .i) (s .j)) (a .put) f, ap length (comes h))
 
     -- it is put, and the lane goes on
-    pub stands-next : {out′ : List ℤ} {r : Lane} → s .i + s .j < end → r ≡ after s → Put (cornerOf s ∷ []) out (s .k) out′ (s .k + 1) → Stands points numbers end whole out₀ k₀ r out′
+    pub stands-next : {out′ : List ℤ} {r : Lane} → s .i + s .j < end → r ≡ after s → CornersPut (cornerOf s ∷ []) out (s .k) out′ (s .k + 1) → Stands points numbers end whole out₀ k₀ r out′
     stands-next {out′} h e p = subst (λ r. Stands points numbers end whole out₀ k₀ r out′) (sym e) (record {
       runs = runs-next numbers end (length points) (s .i) (s .j) (a .runs) h .rest;
       put = reached-more (cornerOf s ∷ []) (contourFrom points numbers end (leftAfter numbers (s .i) (s .j)) (rightAfter numbers (s .i) (s .j))) (subst (λ l. Reached whole l out₀ k₀ out (s .k)) (comes h) (a .put)) p;
     })
 
-    pub stands-end : end ≤ s .i + s .j → Put whole out₀ k₀ out (s .k)
+    pub stands-end : end ≤ s .i + s .j → CornersPut whole out₀ k₀ out (s .k)
     stands-end h = reached-end (subst (λ l. Reached whole l out₀ k₀ out (s .k)) (ap (along points) (chain-end numbers end (s .i) (s .j) h)) (a .put))
 
     -- what is still to come has room
@@ -130,7 +130,7 @@ module _ (points : List (List ℤ)) (numbers : List ℕ) (end : ℕ) where
     stands-left f = reached-room (contourFrom points numbers end (s .i) (s .j)) (a .put) f
 
     -- and once it is put, all is
-    pub stands-rest : {out′ : List ℤ} {k : ℕ} → Put (contourFrom points numbers end (s .i) (s .j)) out (s .k) out′ k → Put whole out₀ k₀ out′ k
+    pub stands-rest : {out′ : List ℤ} {k : ℕ} → CornersPut (contourFrom points numbers end (s .i) (s .j)) out (s .k) out′ k → CornersPut whole out₀ k₀ out′ k
     stands-rest p =
         let left = contourFrom points numbers end (s .i) (s .j) in
         reached-end (reached-more left [] (subst (λ l. Reached whole l out₀ k₀ out (s .k)) (sym (append-nil left)) (a .put)) p)

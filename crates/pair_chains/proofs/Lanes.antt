@@ -11,11 +11,11 @@ use lib.ListN.{length}
 use lib.IntN.{ℤ}
 use Rattle.integers.proofs.Tests.{both-true}
 use Rattle.plane.specs.Plane.{Pt, _+ᵖ_}
-use Rattle.convex_ring.specs.Buffers.{cornerAt}
-use Rattle.pair_merge.specs.Putting.{RoomAfter, Put}
+use Rattle.points.specs.Points.{cornerIn}
+use Rattle.pair_merge.specs.Putting.{RoomAfter, CornersPut}
 use Rattle.pair_chains.specs.declared.Lane.{Lane}
 use Rattle.pair_chains.specs.declared.Pair.{Pair}
-use Rattle.pair_chains.specs.Chains.{leftAfter, rightAfter, chain, chainOf, contourFrom, contourOf, laneOf, isGoing, bothGoing, Buffers, Runs, Low, Fits, Countable}
+use Rattle.pair_chains.specs.Chains.{leftAfter, rightAfter, chain, chainOf, contourFrom, chainContour, laneOf, isGoing, bothGoing, Buffers, Runs, Low, Fits, Countable}
 use Rattle.pair_chains.proofs.Chains.{chain-next, chain-end, chain-short, runs-next, Stands, stands-start, lane-less, stands-room, stands-next, stands-left, stands-rest}
 
 abbrev after : List ℕ → Lane → Lane
@@ -41,10 +41,10 @@ low numbers n end s h r = record { left = omega (arith, h, r .left); right = ome
 
 module _ (points : List (List ℤ)) (numbers : List ℕ) (x : Pair) where
   abbrev pub Of : List ℤ → ℕ → Lane → List ℤ → Type 0
-  Of out₀ k₀ s out = Stands points numbers (x .end) (contourOf points numbers x) out₀ k₀ s out
+  Of out₀ k₀ s out = Stands points numbers (x .end) (chainContour points numbers x) out₀ k₀ s out
 
   abbrev cornerOf : Lane → List Pt
-  cornerOf s = (cornerAt points (s .i) +ᵖ cornerAt points (s .j)) ∷ []
+  cornerOf s = (cornerIn points (s .i) +ᵖ cornerIn points (s .j)) ∷ []
 
   pub of-start : {s : Lane} (out : List ℤ) (k : ℕ) → Fits points numbers x out k → s ≡ laneOf x k → Of out k s out
   of-start out k f e = subst (λ s. Of out k s out) (sym e) (stands-start points numbers (x .end) (laneOf x k) out (f .runs))
@@ -59,13 +59,13 @@ module _ (points : List (List ℤ)) (numbers : List ℕ) (x : Pair) where
         let n = runs-next numbers (x .end) (length points) (s .i) (s .j) (a .runs) h in
         (b, n .left, n .right, stands-room points numbers (x .end) s a h (f .room))
 
-    pub of-next : {out′ : List ℤ} {r : Lane} → isGoing s x ≡ true → r ≡ after numbers s → Put (cornerOf s) out (s .k) out′ (s .k + 1) → Of out₀ k₀ r out′
+    pub of-next : {out′ : List ℤ} {r : Lane} → isGoing s x ≡ true → r ≡ after numbers s → CornersPut (cornerOf s) out (s .k) out′ (s .k + 1) → Of out₀ k₀ r out′
     of-next t e p = stands-next points numbers (x .end) s a (ltb-true (s .i + s .j) (x .end) t) e p
 
     pub of-rest : Buffers points numbers → Fits points numbers x out₀ k₀ → Buffers points numbers × Runs (length points) numbers (x .end) (s .i) (s .j) × RoomAfter (contourFrom points numbers (x .end) (s .i) (s .j)) out (s .k)
     of-rest b f = (b, a .runs, stands-left points numbers (x .end) s a (f .room))
 
-    pub of-done : {out′ : List ℤ} {k : ℕ} → Put (contourFrom points numbers (x .end) (s .i) (s .j)) out (s .k) out′ k → Put (contourOf points numbers x) out₀ k₀ out′ k
+    pub of-done : {out′ : List ℤ} {k : ℕ} → CornersPut (contourFrom points numbers (x .end) (s .i) (s .j)) out (s .k) out′ k → CornersPut (chainContour points numbers x) out₀ k₀ out′ k
     of-done p = stands-rest points numbers (x .end) s a p
 
 -- what is left to add falls

@@ -11,10 +11,9 @@ use lib.IntN.{ℤ}
 use Rattle.integers.specs.Lists.{All}
 use Rattle.integers.proofs.Order.{by-test}
 use Rattle.plane.specs.Plane.{Pt, _+ᵖ_}
-use Rattle.convex_ring.specs.Buffers.{cornerAt}
-use Rattle.pair_points.specs.Points.{mergedOf, Turning}
-use Rattle.pair_points.proofs.Turns.{pointAt}
-use Rattle.direction_keys.specs.Marks.{leftNumber, rightNumber, step, Close}
+use Rattle.points.specs.Points.{cornerIn}
+use Rattle.pair_points.specs.Points.{mergedOf, Turning, nthPoint}
+use Rattle.direction_keys.specs.Marks.{leftNumber, rightNumber, stepOver, Close}
 use Rattle.direction_keys.proofs.Steps.{Stepped, keyed-step, keyed-end}
 use Rattle.pair_chains.specs.Chains.{leftAfter, rightAfter, chain, along, contourFrom, Runs}
 use Rattle.pair_chains.proofs.Chains.{chain-next, chain-end}
@@ -22,7 +21,7 @@ use Rattle.pair_chains.proofs.Chains.{chain-next, chain-end}
 -- the walk a lies from place f on, each point with its number
 pub record Lies (numberOf : List Pt → ℕ → ℕ) (points : List (List ℤ)) (numbers : List ℕ) (f : ℕ) (a : List Pt) : Type 0 where
   pub inside : f + length a ≤ length points
-  pub corner : (i : ℕ) → i < length a → cornerAt points (f + i) ≡ pointAt a i
+  pub corner : (i : ℕ) → i < length a → cornerIn points (f + i) ≡ nthPoint a i
   pub number : (i : ℕ) → i < length a → getD numbers (f + i) 0 ≡ numberOf a i
 
 -- from places i and j of the walks on: the corners are the rest merged, and the places are among those of the buffer
@@ -45,17 +44,17 @@ module _ (points : List (List ℤ)) (numbers : List ℕ) (f g end : ℕ) (a b : 
           inside = subst (All (λ p. (p .0 < length points) × (p .1 < length points))) (sym c) tt;
         }
 
-    left-on : (f + i) + step (getD numbers (f + i) 0) (getD numbers (g + j) 0) ≡ f + (i + step (leftNumber a i) (rightNumber b j))
-    left-on = ap₂ (λ x y. (f + i) + step x y) (la .number i hi) (lb .number j hj) ∙ omega arith
+    left-on : (f + i) + stepOver (getD numbers (f + i) 0) (getD numbers (g + j) 0) ≡ f + (i + stepOver (leftNumber a i) (rightNumber b j))
+    left-on = ap₂ (λ x y. (f + i) + stepOver x y) (la .number i hi) (lb .number j hj) ∙ omega arith
 
-    right-on : (g + j) + step (getD numbers (g + j) 0) (getD numbers (f + i) 0) ≡ g + (j + step (rightNumber b j) (leftNumber a i))
-    right-on = ap₂ (λ y x. (g + j) + step y x) (lb .number j hj) (la .number i hi) ∙ omega arith
+    right-on : (g + j) + stepOver (getD numbers (g + j) 0) (getD numbers (f + i) 0) ≡ g + (j + stepOver (rightNumber b j) (leftNumber a i))
+    right-on = ap₂ (λ y x. (g + j) + stepOver y x) (lb .number j hj) (la .number i hi) ∙ omega arith
 
     -- a corner, and the rest
-    at-turn : (h : i + j + 2 < length a + length b) → Rest (i + step (leftNumber a i) (rightNumber b j)) (j + step (rightNumber b j) (leftNumber a i)) → Rest i j
+    at-turn : (h : i + j + 2 < length a + length b) → Rest (i + stepOver (leftNumber a i) (rightNumber b j)) (j + stepOver (rightNumber b j) (leftNumber a i)) → Rest i j
     at-turn h r =
         let s = keyed-step a b t u z i j hi hj h in
-        let next : chain numbers end (f + i) (g + j) ≡ (f + i, g + j) ∷ chain numbers end (f + (i + step (leftNumber a i) (rightNumber b j))) (g + (j + step (rightNumber b j) (leftNumber a i)))
+        let next : chain numbers end (f + i) (g + j) ≡ (f + i, g + j) ∷ chain numbers end (f + (i + stepOver (leftNumber a i) (rightNumber b j))) (g + (j + stepOver (rightNumber b j) (leftNumber a i)))
         = chain-next numbers end (f + i) (g + j) (omega (arith, e)) ∙ (λ n. (f + i, g + j) ∷ chain numbers end (left-on n) (right-on n)) in
         record {
           corners = ap (along points) next ∙ ap₂ (λ x l. x ∷ l) (ap₂ _+ᵖ_ (la .corner i hi) (lb .corner j hj)) (r .corners) ∙ sym (s .goes);
@@ -69,7 +68,7 @@ module _ (points : List (List ℤ)) (numbers : List ℕ) (f g end : ℕ) (a b : 
       (λ c.
       let k = ltb-true (i + j + 2) (length a + length b) c in
       let s = keyed-step a b t u z i j hi hj k in
-      at-turn i j hi hj k (rest n (i + step (leftNumber a i) (rightNumber b j)) (j + step (rightNumber b j) (leftNumber a i)) (s .left-in) (s .right-in) (omega (arith, s .onward))))
+      at-turn i j hi hj k (rest n (i + stepOver (leftNumber a i) (rightNumber b j)) (j + stepOver (rightNumber b j) (leftNumber a i)) (s .left-in) (s .right-in) (omega (arith, s .onward))))
       (λ c. at-end i j hi hj (ltb-false (i + j + 2) (length a + length b) c))
 
   pub chain-merged : 0 < length a → 0 < length b → MergedFrom points numbers end f g a b 0 0

@@ -8,9 +8,9 @@ use lib.ListN.{length, getD}
 use lib.IntN.{ℤ}
 use Rattle.integers.specs.Lists.{All}
 use Rattle.plane.specs.Plane.{Pt, _+ᵖ_}
-use Rattle.convex_ring.specs.Buffers.{cornerAt, Grid}
-use Rattle.pair_merge.specs.Putting.{RoomAfter, Put}
-use Rattle.direction_keys.specs.Marks.{step}
+use Rattle.points.specs.Points.{cornerIn, Grid}
+use Rattle.pair_merge.specs.Putting.{RoomAfter, CornersPut}
+use Rattle.direction_keys.specs.Marks.{stepOver}
 use Rattle.pair_chains.specs.declared.Lane.{Lane}
 use Rattle.pair_chains.specs.declared.Pair.{Pair}
 use Rattle.pair_chains.specs.declared.Pairs.{Pairs}
@@ -20,10 +20,10 @@ use Rattle.pair_chains.specs.declared.Four.{Four}
 
 -- where the left and the right walk stand after a turn
 abbrev pub leftAfter : List ℕ → ℕ → ℕ → ℕ
-leftAfter numbers i j = i + step (getD numbers i 0) (getD numbers j 0)
+leftAfter numbers i j = i + stepOver (getD numbers i 0) (getD numbers j 0)
 
 abbrev pub rightAfter : List ℕ → ℕ → ℕ → ℕ
-rightAfter numbers i j = j + step (getD numbers j 0) (getD numbers i 0)
+rightAfter numbers i j = j + stepOver (getD numbers j 0) (getD numbers i 0)
 
 -- the places from i and j on until their sum is `end`, at most n of them
 unfoldable pub chainFor : List ℕ → ℕ → ℕ → ℕ → ℕ → List (ℕ × ℕ)
@@ -38,7 +38,7 @@ chain numbers end i j = chainFor numbers end (end - (i + j)) i j
 
 -- the sum of the two points at each place
 abbrev pub along : List (List ℤ) → List (ℕ × ℕ) → List Pt
-along points places = map (λ p. cornerAt points (p .0) +ᵖ cornerAt points (p .1)) places
+along points places = map (λ p. cornerIn points (p .0) +ᵖ cornerIn points (p .1)) places
 
 abbrev pub contourFrom : List (List ℤ) → List ℕ → ℕ → ℕ → ℕ → List Pt
 contourFrom points numbers end i j = along points (chain numbers end i j)
@@ -47,8 +47,17 @@ contourFrom points numbers end i j = along points (chain numbers end i j)
 abbrev pub chainOf : List ℕ → Pair → List (ℕ × ℕ)
 chainOf numbers x = chain numbers (x .end) (x .i) (x .j)
 
-abbrev pub contourOf : List (List ℤ) → List ℕ → Pair → List Pt
-contourOf points numbers x = along points (chainOf numbers x)
+abbrev pub chainContour : List (List ℤ) → List ℕ → Pair → List Pt
+chainContour points numbers x = along points (chainOf numbers x)
+
+-- how many corners each of four pairs has
+abbrev pub fourLengths : List ℕ → Pairs → Four
+fourLengths numbers x = record {
+  a = length (chainOf numbers (x .a));
+  b = length (chainOf numbers (x .b));
+  c = length (chainOf numbers (x .c));
+  d = length (chainOf numbers (x .d));
+}
 
 -- ---- lanes
 
@@ -88,20 +97,14 @@ pub record Low (s : Lane) : Type 0 where
 -- and its corners have room after the first k
 pub record Fits (points : List (List ℤ)) (numbers : List ℕ) (x : Pair) (out : List ℤ) (k : ℕ) : Type 0 where
   pub runs : RunsOf points numbers x
-  pub room : RoomAfter (contourOf points numbers x) out k
+  pub room : RoomAfter (chainContour points numbers x) out k
 
--- of four pairs, and what is put of them
+-- of four pairs
 pub record FourFit (points : List (List ℤ)) (numbers : List ℕ) (x : Pairs) (out : List ℤ) (k : ℕ) (wb wc wd : List ℤ) : Type 0 where
   pub first : Fits points numbers (x .a) out k
   pub second : Fits points numbers (x .b) wb 0
   pub third : Fits points numbers (x .c) wc 0
   pub fourth : Fits points numbers (x .d) wd 0
-
-pub record FourPut (points : List (List ℤ)) (numbers : List ℕ) (x : Pairs) (out : List ℤ) (k : ℕ) (wb wc wd out′ wb′ wc′ wd′ : List ℤ) (r : Four) : Type 0 where
-  pub first : Put (contourOf points numbers (x .a)) out k out′ (r .a)
-  pub second : Put (contourOf points numbers (x .b)) wb 0 wb′ (r .b)
-  pub third : Put (contourOf points numbers (x .c)) wc 0 wc′ (r .c)
-  pub fourth : Put (contourOf points numbers (x .d)) wd 0 wd′ (r .d)
 
 -- what counting asks
 pub record Countable (numbers : List ℕ) (x : Pair) : Type 0 where

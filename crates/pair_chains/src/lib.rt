@@ -9,9 +9,9 @@ ghost use Prim.Native.Nat.{_+_, _<_, _≤_, _^_};
 ghost use lib.Dec.{ltb};
 ghost use lib.ListN.{length, getD};
 ghost use Rattle.plane.specs.Plane.{_+ᵖ_};
-ghost use Rattle.convex_ring.specs.Buffers.{cornerAt};
-ghost use Rattle.pair_merge.specs.Putting.{RoomAfter, Put};
-ghost use Rattle.pair_chains.specs.Chains.{leftAfter, rightAfter, contourFrom, contourOf, chain, chainOf, bothGoing, laneOf, Buffers, Runs, Low, Fits, FourFit, FourPut, Countable};
+ghost use Rattle.points.specs.Points.{cornerIn};
+ghost use Rattle.pair_merge.specs.Putting.{RoomAfter, CornersPut};
+ghost use Rattle.pair_chains.specs.Chains.{leftAfter, rightAfter, contourFrom, chainContour, chain, chainOf, fourLengths, bothGoing, laneOf, Buffers, Runs, Low, Fits, FourFit, Countable};
 
 // Where a pair is being merged: the places of the two walks, and how many corners are put.
 pub struct Lane {
@@ -57,7 +57,10 @@ fn one_if(t: bool) -> usize
 // One turn without a corner: the walk with the lesser number steps, and both where the numbers are equal.
 fn step_on(numbers: &[u64], s: Lane) -> Lane
     requires { ⌜ (s .i < length (now numbers)) × (s .j < length (now numbers)) × (s .k + 1 < 2 ^ 64) ⌝ }
-    ensures { λ r. ⌜ r ≡ record { i = leftAfter (now (numbers .entry)) (s .i) (s .j); j = rightAfter (now (numbers .entry)) (s .i) (s .j); k = s .k + 1 } ⌝ }
+    ensures { λ r.
+        let i = leftAfter (now (numbers .entry)) (s .i) (s .j) in
+        let j = rightAfter (now (numbers .entry)) (s .i) (s .j) in
+        ⌜ r ≡ record { i = i; j = j; k = s .k + 1 } ⌝ }
 {
     let i = s.i;
     let j = s.j;
@@ -72,9 +75,18 @@ fn step_on(numbers: &[u64], s: Lane) -> Lane
 
 // One turn: the corner where the walks stand is put, and they step on.
 fn step(points: &[[i32; 2]], numbers: &[u64], s: Lane, out: &mut [i32]) -> Lane
-    requires { ⌜ Buffers (now points) (now numbers) × (s .i < length (now points)) × (s .j < length (now points)) × RoomAfter ((cornerAt (now points) (s .i) +ᵖ cornerAt (now points) (s .j)) ∷ []) (now out) (s .k) ⌝ }
-    ensures places { λ r. ⌜ r ≡ record { i = leftAfter (now (numbers .entry)) (s .i) (s .j); j = rightAfter (now (numbers .entry)) (s .i) (s .j); k = s .k + 1 } ⌝ }
-    ensures corner { λ r. ⌜ Put ((cornerAt (now (points .entry)) (s .i) +ᵖ cornerAt (now (points .entry)) (s .j)) ∷ []) (now (out .entry)) (s .k) (now (out .exit)) (s .k + 1) ⌝ }
+    requires { ⌜
+        Buffers (now points) (now numbers)
+        × (s .i < length (now points))
+        × (s .j < length (now points))
+        × RoomAfter ((cornerIn (now points) (s .i) +ᵖ cornerIn (now points) (s .j)) ∷ []) (now out) (s .k) ⌝ }
+    ensures places { λ r.
+        let i = leftAfter (now (numbers .entry)) (s .i) (s .j) in
+        let j = rightAfter (now (numbers .entry)) (s .i) (s .j) in
+        ⌜ r ≡ record { i = i; j = j; k = s .k + 1 } ⌝ }
+    ensures corner { λ r.
+        let new = (cornerIn (now (points .entry)) (s .i) +ᵖ cornerIn (now (points .entry)) (s .j)) ∷ [] in
+        ⌜ CornersPut new (now (out .entry)) (s .k) (now (out .exit)) (s .k + 1) ⌝ }
 {
     let i = s.i;
     let j = s.j;
@@ -104,8 +116,11 @@ fn start(x: Pair, k: usize) -> Lane
 
 // A lane to its end; answers how many corners stand there then.
 fn finish(points: &[[i32; 2]], numbers: &[u64], s: Lane, end: usize, out: &mut [i32]) -> usize
-    requires { ⌜ Buffers (now points) (now numbers) × Runs (length (now points)) (now numbers) end (s .i) (s .j) × RoomAfter (contourFrom (now points) (now numbers) end (s .i) (s .j)) (now out) (s .k) ⌝ }
-    ensures { λ r. ⌜ Put (contourFrom (now (points .entry)) (now (numbers .entry)) end (s .i) (s .j)) (now (out .entry)) (s .k) (now (out .exit)) r ⌝ }
+    requires { ⌜
+        Buffers (now points) (now numbers)
+        × Runs (length (now points)) (now numbers) end (s .i) (s .j)
+        × RoomAfter (contourFrom (now points) (now numbers) end (s .i) (s .j)) (now out) (s .k) ⌝ }
+    ensures { λ r. ⌜ CornersPut (contourFrom (now (points .entry)) (now (numbers .entry)) end (s .i) (s .j)) (now (out .entry)) (s .k) (now (out .exit)) r ⌝ }
 {
     let mut a = s;
     while going(a, end) {
@@ -117,7 +132,7 @@ fn finish(points: &[[i32; 2]], numbers: &[u64], s: Lane, end: usize, out: &mut [
 // The corners of a pair are put after the first `at`; answers how many stand there then.
 pub fn merge_one(points: &[[i32; 2]], numbers: &[u64], x: Pair, out: &mut [i32], at: usize) -> usize
     requires { ⌜ Buffers (now points) (now numbers) × Fits (now points) (now numbers) x (now out) at ⌝ }
-    ensures { λ r. ⌜ Put (contourOf (now (points .entry)) (now (numbers .entry)) x) (now (out .entry)) at (now (out .exit)) r ⌝ }
+    ensures { λ r. ⌜ CornersPut (chainContour (now (points .entry)) (now (numbers .entry)) x) (now (out .entry)) at (now (out .exit)) r ⌝ }
 {
     finish(points, numbers, start(x, at), x.end, out)
 }
@@ -144,8 +159,8 @@ pub fn merge_two(
     work: &mut [i32],
 ) -> Two
     requires { ⌜ Buffers (now points) (now numbers) × Fits (now points) (now numbers) x (now out) at × Fits (now points) (now numbers) y (now work) 0 ⌝ }
-    ensures first { λ r. ⌜ Put (contourOf (now (points .entry)) (now (numbers .entry)) x) (now (out .entry)) at (now (out .exit)) (r .a) ⌝ }
-    ensures second { λ r. ⌜ Put (contourOf (now (points .entry)) (now (numbers .entry)) y) (now (work .entry)) 0 (now (work .exit)) (r .b) ⌝ }
+    ensures first { λ r. ⌜ CornersPut (chainContour (now (points .entry)) (now (numbers .entry)) x) (now (out .entry)) at (now (out .exit)) (r .a) ⌝ }
+    ensures second { λ r. ⌜ CornersPut (chainContour (now (points .entry)) (now (numbers .entry)) y) (now (work .entry)) 0 (now (work .exit)) (r .b) ⌝ }
 {
     let mut a = start(x, at);
     let mut b = start(y, 0);
@@ -182,7 +197,13 @@ pub fn merge_four(
     wd: &mut [i32],
 ) -> Four
     requires { ⌜ Buffers (now points) (now numbers) × FourFit (now points) (now numbers) x (now out) at (now wb) (now wc) (now wd) ⌝ }
-    ensures { λ r. ⌜ FourPut (now (points .entry)) (now (numbers .entry)) x (now (out .entry)) at (now (wb .entry)) (now (wc .entry)) (now (wd .entry)) (now (out .exit)) (now (wb .exit)) (now (wc .exit)) (now (wd .exit)) r ⌝ }
+    ensures { λ r.
+        let p = now (points .entry) in
+        let n = now (numbers .entry) in
+        ⌜ CornersPut (chainContour p n (x .a)) (now (out .entry)) at (now (out .exit)) (r .a)
+        × CornersPut (chainContour p n (x .b)) (now (wb .entry)) 0 (now (wb .exit)) (r .b)
+        × CornersPut (chainContour p n (x .c)) (now (wc .entry)) 0 (now (wc .exit)) (r .c)
+        × CornersPut (chainContour p n (x .d)) (now (wd .entry)) 0 (now (wd .exit)) (r .d) ⌝ }
 {
     let p = x.a;
     let q = x.b;
@@ -208,7 +229,10 @@ pub fn merge_four(
 
 // How many corners a lane comes to, those before it counted in.
 fn count_on(numbers: &[u64], s: Lane, end: usize) -> usize
-    requires { ⌜ (length (now numbers) < 2 ^ 32) × Runs (length (now numbers)) (now numbers) end (s .i) (s .j) × (s .k + length (chain (now numbers) end (s .i) (s .j)) < 2 ^ 63) ⌝ }
+    requires { ⌜
+        (length (now numbers) < 2 ^ 32)
+        × Runs (length (now numbers)) (now numbers) end (s .i) (s .j)
+        × (s .k + length (chain (now numbers) end (s .i) (s .j)) < 2 ^ 63) ⌝ }
     ensures { λ r. ⌜ r ≡ s .k + length (chain (now (numbers .entry)) end (s .i) (s .j)) ⌝ }
 {
     let mut a = s;
@@ -228,8 +252,12 @@ pub fn count_one(numbers: &[u64], x: Pair) -> usize
 
 // The same of four pairs side by side.
 pub fn count_four(numbers: &[u64], x: Pairs) -> Four
-    requires { ⌜ Countable (now numbers) (x .a) × Countable (now numbers) (x .b) × Countable (now numbers) (x .c) × Countable (now numbers) (x .d) ⌝ }
-    ensures { λ r. ⌜ r ≡ record { a = length (chainOf (now (numbers .entry)) (x .a)); b = length (chainOf (now (numbers .entry)) (x .b)); c = length (chainOf (now (numbers .entry)) (x .c)); d = length (chainOf (now (numbers .entry)) (x .d)) } ⌝ }
+    requires { ⌜
+        Countable (now numbers) (x .a)
+        × Countable (now numbers) (x .b)
+        × Countable (now numbers) (x .c)
+        × Countable (now numbers) (x .d) ⌝ }
+    ensures { λ r. ⌜ r ≡ fourLengths (now (numbers .entry)) x ⌝ }
 {
     let p = x.a;
     let q = x.b;

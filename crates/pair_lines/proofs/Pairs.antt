@@ -14,14 +14,15 @@ use Rattle.integers.proofs.Overlay.{overlay-nil, take-overlay}
 use Rattle.plane.specs.Plane.{Pt, _+ᵖ_, onGrid}
 use Rattle.plane.specs.Machine.{Coordinate}
 use Rattle.plane.proofs.Size.{on-grid-both}
-use Rattle.table.specs.Table.{maxContour, pointsOf, numbersOf}
-use Rattle.table.proofs.Corners.{length-numbers, points-numbers}
+use Rattle.corners.specs.Corners.{pointsOf, numbersOf}
+use Rattle.table.specs.Table.{maxContour}
+use Rattle.corners.proofs.Corners.{length-numbers, points-numbers}
 use Rattle.text.proofs.Sizes.{Word32s}
 use Rattle.pair.specs.Pair.{pairContour}
 use Rattle.pair_points.specs.Points.{unrolled, mergedOf}
 use Rattle.pair_points.proofs.Merged.{pair-merged, length-merged}
 use Rattle.pair_points.proofs.Sums.{merged-sums}
-use Rattle.pair_merge.specs.Putting.{Put}
+use Rattle.pair_merge.specs.Putting.{CornersPut}
 use Rattle.minkowski_faults.proofs.Range.{coordinate-add-fits}
 use Rattle.pair_walks.specs.Walks.{walksIn, walkIn, leftsIn, rightsIn, pairIn}
 use Rattle.pair_walks.proofs.Walks.{walk-inside, walk-short}
@@ -31,7 +32,7 @@ use Rattle.pair_lines.specs.Putting.{Puttable}
 use Rattle.pair_lines.proofs.Sizes.{line-size}
 
 -- corners put on the front of a buffer are its first numbers
-pub merged-front : {ps : List Pt} {o o′ : List ℤ} {k : ℕ} → Put ps o 0 o′ k → pointsOf (take (2 * k) o′) ≡ ps
+pub merged-front : {ps : List Pt} {o o′ : List ℤ} {k : ℕ} → CornersPut ps o 0 o′ k → pointsOf (take (2 * k) o′) ≡ ps
 unfolding numbersOf
 merged-front {ps} {o} {o′} {k} p =
     let e : o′ ≡ overlay (numbersOf ps) o = p .written [] o refl (sym (overlay-nil o)) in
@@ -76,7 +77,7 @@ module _ (firsts : List ℕ) (points : List (List ℤ)) (numbers : List ℕ) (le
   pair-room = omega (arith, line-size p q (pairIn firsts points left right p q) pair-words pair-few, h .for-line)
 
   -- merged into a buffer as long as the work buffer
-  module _ {o o′ : List ℤ} {k : ℕ} (m : Put (pairIn firsts points left right p q) o 0 o′ k) where
+  module _ {o o′ : List ℤ} {k : ℕ} (m : CornersPut (pairIn firsts points left right p q) o 0 o′ k) where
     pub pair-count : k ≤ 2 * maxContour
     pair-count = omega (arith, m .count, pair-few)
 

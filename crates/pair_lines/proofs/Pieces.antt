@@ -8,8 +8,8 @@ use lib.IntN.{ℤ}
 use lib.ListN.{length, length-append}
 use Rattle.plane.specs.Plane.{Pt}
 use Rattle.table.specs.declared.IntRect.{IntRect}
-use Rattle.table.specs.Table.{pointsOf}
-use Rattle.table.proofs.Corners.{length-points}
+use Rattle.corners.specs.Corners.{pointsOf}
+use Rattle.corners.proofs.Corners.{length-points}
 use Rattle.text.specs.Text.{decimal, signedDecimal, space, newline, cornersWord, cornersText}
 use Rattle.text.specs.Put.{PutText}
 use Rattle.text.proofs.Puts.{put-after, put-as}

@@ -1,9 +1,9 @@
 // The lines that the pairs program prints (specs/Lines.antt), put on the front of lent bytes: `put_head` the head line, `put_line` the line of one pair of
 // unrolled walks, merged by numbers into a work buffer. By the law `line-of-pair` it is the line of the pair's contour, and a buffer of 53,399 bytes holds any. Leans
-// on text and minkowski_chains.
+// on text and minkowski_order.
 ghost use Prim.Native.Nat.{_+_, _≤_};
 ghost use lib.ListN.{length};
-ghost use Rattle.table.specs.Table.{pointsOf};
+ghost use Rattle.corners.specs.Corners.{pointsOf};
 ghost use Rattle.text.specs.Put.{PutText};
 ghost use Rattle.pair_walks.specs.Walks.{pairIn};
 ghost use Rattle.pair_lines.specs.Lines.{boundsText, pairsHead, pairLine};
@@ -37,7 +37,7 @@ fn put_contour(i: u64, j: u64, corners: &[i32], out: &mut [u8]) -> usize
     requires { ⌜ length (pairLine i j (pointsOf (now corners))) ≤ length (now out) ⌝ }
     ensures { λ r. ⌜ PutText (pairLine i j (pointsOf (now (corners .entry)))) 0 (now (out .entry)) (now (out .exit)) r ⌝ }
 {
-    let count = corners.len() / 2;
+    let count = corners.len() / corners::WIDTH;
     let left = text::put_decimal(i, out, 0);
     let right = text::put_word_decimal(b" ", j, out, left);
     let size = text::put_word_decimal(b" ", count as u64, out, right);
@@ -60,6 +60,6 @@ pub fn put_line(
     requires { ⌜ Puttable (now firsts) (now points) (now numbers) left right p q (now work) (now out) ⌝ }
     ensures { λ r. ⌜ PutText (pairLine p q (pairIn (now (firsts .entry)) (now (points .entry)) left right p q)) 0 (now (out .entry)) (now (out .exit)) r ⌝ }
 {
-    let count = minkowski_chains::merge_one(firsts, points, numbers, left, right, p, q, work);
-    put_contour(p as u64, q as u64, &work[..2 * count], out)
+    let count = minkowski_order::merge_pair(firsts, points, numbers, left, right, p, q, work);
+    put_contour(p as u64, q as u64, &work[..corners::WIDTH * count], out)
 }

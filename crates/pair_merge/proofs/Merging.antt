@@ -12,17 +12,17 @@ use Rattle.integers.proofs.Order.{by-test}
 use Rattle.plane.specs.declared.Ordering.{Ordering}
 use Rattle.plane.specs.declared.Ordering.the-variants.{Less, Equal, Greater}
 use Rattle.plane.specs.Plane.{Pt, _+ᵖ_, _-ᵖ_, angleCmp, isGreater}
-use Rattle.convex_ring.specs.Buffers.{cornerOf, cornerAt}
-use Rattle.pair_points.specs.Points.{edgesAlong, mergedOf, secondNext, restOf}
-use Rattle.pair_points.proofs.Turns.{pointAt, edgeAt, second-more, rest-more, rest-last, at-less, at-greater, at-both, at-first, at-rest}
-use Rattle.pair_merge.specs.Putting.{pointsIn, Mergeable, RoomAfter, Put, Reached}
+use Rattle.points.specs.Points.{cornerOf, cornerIn}
+use Rattle.pair_points.specs.Points.{edgesAlong, mergedOf, secondNext, restOf, nthPoint, edgeAt}
+use Rattle.pair_points.proofs.Turns.{second-more, rest-more, rest-last, at-less, at-greater, at-both, at-first, at-rest}
+use Rattle.pair_merge.specs.Putting.{pointsIn, Mergeable, RoomAfter, CornersPut, Reached}
 use Rattle.pair_merge.proofs.Placing.{reached-start, reached-more, reached-end, reached-room}
 
 -- point i of a buffer, and the edge from it
-pub point-in : (a : List (List ℤ)) (i : ℕ) → pointAt (pointsIn a) i ≡ cornerAt a i
+pub point-in : (a : List (List ℤ)) (i : ℕ) → nthPoint (pointsIn a) i ≡ cornerIn a i
 point-in a i = List·getD-map cornerOf a i []
 
-pub edge-in : (a : List (List ℤ)) (i : ℕ) {p q : Pt} → p ≡ cornerAt a (i + 1) → q ≡ cornerAt a i → p -ᵖ q ≡ edgeAt (pointsIn a) i
+pub edge-in : (a : List (List ℤ)) (i : ℕ) {p q : Pt} → p ≡ cornerIn a (i + 1) → q ≡ cornerIn a i → p -ᵖ q ≡ edgeAt (pointsIn a) i
 edge-in a i e f = ap₂ _-ᵖ_ (e ∙ sym (point-in a (i + 1))) (f ∙ sym (point-in a i))
 
 -- after a tie, with an edge left in the first list
@@ -37,7 +37,7 @@ module _ (a b : List (List ℤ)) (ma : Mergeable a) (mb : Mergeable b) (i j : �
   toCome i j = mergedOf (drop i (pointsIn a)) (drop j (pointsIn b))
 
   abbrev corner : Pt
-  corner = cornerAt a i +ᵖ cornerAt b j
+  corner = cornerIn a i +ᵖ cornerIn b j
 
   inside-a : i + 1 < length (pointsIn a)
   inside-a = omega (arith, length-map a cornerOf)
@@ -46,7 +46,7 @@ module _ (a b : List (List ℤ)) (ma : Mergeable a) (mb : Mergeable b) (i j : �
   inside-b = omega (arith, length-map b cornerOf)
 
   -- the corner as it is read
-  as-read : (l : List Pt) → (pointAt (pointsIn a) i +ᵖ pointAt (pointsIn b) j) ∷ l ≡ corner ∷ l
+  as-read : (l : List Pt) → (nthPoint (pointsIn a) i +ᵖ nthPoint (pointsIn b) j) ∷ l ≡ corner ∷ l
   as-read l = λ k. (point-in a i k +ᵖ point-in b j k) ∷ l
 
   come-less : angleCmp (edgeAt (pointsIn a) i) (edgeAt (pointsIn b) j) ≡ Less → toCome i j ≡ corner ∷ toCome (i + 1) j
@@ -76,7 +76,7 @@ module _ (a b : List (List ℤ)) (ma : Mergeable a) (mb : Mergeable b) (i j : �
   turn-room r h = omega (arith, reached-room (toCome i j) r h, come-some)
 
   -- it is put, and the merge goes on
-  module _ {whole : List Pt} {out out′ out″ : List ℤ} {n k : ℕ} (r : Reached whole (toCome i j) out n out′ k) (p : Put (corner ∷ []) out′ k out″ (k + 1)) where
+  module _ {whole : List Pt} {out out′ out″ : List ℤ} {n k : ℕ} (r : Reached whole (toCome i j) out n out′ k) (p : CornersPut (corner ∷ []) out′ k out″ (k + 1)) where
     turned : (left : List Pt) → toCome i j ≡ corner ∷ left → Reached whole left out n out″ (k + 1)
     turned left e = reached-more (corner ∷ []) left (subst (λ l. Reached whole l out n out′ k) e r) p
 
@@ -101,28 +101,28 @@ both-fall n m i j h k = omega arith
 module _ (a b : List (List ℤ)) (p j : ℕ) where
   -- what is still to come from point p on
   abbrev restFrom : ℕ → List Pt
-  restFrom p = restOf (cornerAt b j) (drop p (pointsIn a))
+  restFrom p = restOf (cornerIn b j) (drop p (pointsIn a))
 
-  rest-next : p + 1 < length a → restFrom p ≡ (cornerAt a p +ᵖ cornerAt b j) ∷ restFrom (p + 1)
-  rest-next h = rest-more (cornerAt b j) (pointsIn a) p (omega (arith, length-map a cornerOf)) ∙ (λ k. (point-in a p k +ᵖ cornerAt b j) ∷ restFrom (p + 1))
+  rest-next : p + 1 < length a → restFrom p ≡ (cornerIn a p +ᵖ cornerIn b j) ∷ restFrom (p + 1)
+  rest-next h = rest-more (cornerIn b j) (pointsIn a) p (omega (arith, length-map a cornerOf)) ∙ (λ k. (point-in a p k +ᵖ cornerIn b j) ∷ restFrom (p + 1))
 
-  pub rest-room : {whole : List Pt} {out out′ : List ℤ} {n k : ℕ} → p + 1 < length a → Reached whole (restFrom p) out n out′ k → RoomAfter whole out n → RoomAfter ((cornerAt a p +ᵖ cornerAt b j) ∷ []) out′ k
+  pub rest-room : {whole : List Pt} {out out′ : List ℤ} {n k : ℕ} → p + 1 < length a → Reached whole (restFrom p) out n out′ k → RoomAfter whole out n → RoomAfter ((cornerIn a p +ᵖ cornerIn b j) ∷ []) out′ k
   rest-room h r f = omega (arith, reached-room (restFrom p) r f, ap length (rest-next h))
 
-  pub rest-turn : {whole : List Pt} {out out′ out″ : List ℤ} {n k : ℕ} → p + 1 < length a → Reached whole (restFrom p) out n out′ k → Put ((cornerAt a p +ᵖ cornerAt b j) ∷ []) out′ k out″ (k + 1) → Reached whole (restFrom (p + 1)) out n out″ (k + 1)
-  rest-turn {whole} {out} {out′} {n = n} {k = k} h r q = reached-more ((cornerAt a p +ᵖ cornerAt b j) ∷ []) (restFrom (p + 1)) (subst (λ l. Reached whole l out n out′ k) (rest-next h) r) q
+  pub rest-turn : {whole : List Pt} {out out′ out″ : List ℤ} {n k : ℕ} → p + 1 < length a → Reached whole (restFrom p) out n out′ k → CornersPut ((cornerIn a p +ᵖ cornerIn b j) ∷ []) out′ k out″ (k + 1) → Reached whole (restFrom (p + 1)) out n out″ (k + 1)
+  rest-turn {whole} {out} {out′} {n = n} {k = k} h r q = reached-more ((cornerIn a p +ᵖ cornerIn b j) ∷ []) (restFrom (p + 1)) (subst (λ l. Reached whole l out n out′ k) (rest-next h) r) q
 
-  pub rest-end : {whole : List Pt} {out out′ : List ℤ} {n k : ℕ} → p + 1 ≡ length a → Reached whole (restFrom p) out n out′ k → Put whole out n out′ k
-  rest-end {whole} {out} {out′} {n} {k} e r = reached-end (subst (λ l. Reached whole l out n out′ k) (rest-last (cornerAt b j) (pointsIn a) p (omega (arith, length-map a cornerOf))) r)
+  pub rest-end : {whole : List Pt} {out out′ : List ℤ} {n k : ℕ} → p + 1 ≡ length a → Reached whole (restFrom p) out n out′ k → CornersPut whole out n out′ k
+  rest-end {whole} {out} {out′} {n} {k} e r = reached-end (subst (λ l. Reached whole l out n out′ k) (rest-last (cornerIn b j) (pointsIn a) p (omega (arith, length-map a cornerOf))) r)
 
 -- ---- where one list has no edge left, and where a list is empty
 
 module _ (a b : List (List ℤ)) (ma : Mergeable a) (mb : Mergeable b) (i j : ℕ) (hi : i < length a) (hj : j < length b) (h : (i + 1 ≡ length a) ⊎ (j + 1 ≡ length b)) {whole : List Pt} {out out′ : List ℤ} {n k : ℕ} (r : Reached whole (mergedOf (drop i (pointsIn a)) (drop j (pointsIn b))) out n out′ k) where
   abbrev ofFirst : List Pt
-  ofFirst = restOf (cornerAt b j) (drop i (pointsIn a))
+  ofFirst = restOf (cornerIn b j) (drop i (pointsIn a))
 
   abbrev ofSecond : List Pt
-  ofSecond = restOf (cornerAt a (length a - 1)) (drop j (pointsIn b))
+  ofSecond = restOf (cornerIn a (length a - 1)) (drop j (pointsIn b))
 
   halted : Reached whole (ofFirst ++ ofSecond) out n out′ k
   halted =
@@ -131,26 +131,26 @@ module _ (a b : List (List ℤ)) (ma : Mergeable a) (mb : Mergeable b) (i j : �
       (⊎-elim (λ e. inl (e ∙ sym (length-map a cornerOf))) (λ e. inr (e ∙ sym (length-map b cornerOf))) h)
       ∙ (λ t. restOf (point-in b j t) (drop i (pointsIn a)) ++ restOf (last t) (drop j (pointsIn b)))) r
     where
-      last : pointAt (pointsIn a) (length (pointsIn a) - 1) ≡ cornerAt a (length a - 1)
-      last = ap (λ m. pointAt (pointsIn a) (m - 1)) (length-map a cornerOf) ∙ point-in a (length a - 1)
+      last : nthPoint (pointsIn a) (length (pointsIn a) - 1) ≡ cornerIn a (length a - 1)
+      last = ap (λ m. nthPoint (pointsIn a) (m - 1)) (length-map a cornerOf) ∙ point-in a (length a - 1)
 
   pub first-room : RoomAfter whole out n → RoomAfter ofFirst out′ k
   first-room f = omega (arith, reached-room (ofFirst ++ ofSecond) halted f, length-append ofFirst ofSecond)
 
-  module _ {out″ : List ℤ} {m : ℕ} (p : Put ofFirst out′ k out″ m) where
+  module _ {out″ : List ℤ} {m : ℕ} (p : CornersPut ofFirst out′ k out″ m) where
     pub second-room : RoomAfter whole out n → RoomAfter ofSecond out″ m
     second-room f = reached-room ofSecond (reached-more ofFirst ofSecond halted p) f
 
-    pub both-put : {out‴ : List ℤ} {q : ℕ} → Put ofSecond out″ m out‴ q → Put whole out n out‴ q
+    pub both-put : {out‴ : List ℤ} {q : ℕ} → CornersPut ofSecond out″ m out‴ q → CornersPut whole out n out‴ q
     both-put g = reached-end (reached-more ofSecond [] (subst (λ l. Reached whole l out n out″ m) (sym (append-nil ofSecond)) (reached-more ofFirst ofSecond halted p)) g)
 
 -- no point, no corner
-pub none-first : (a b : List (List ℤ)) (out : List ℤ) (n : ℕ) → length a ≡ 0 → Put (mergedOf (pointsIn a) (pointsIn b)) out n out n
+pub none-first : (a b : List (List ℤ)) (out : List ℤ) (n : ℕ) → length a ≡ 0 → CornersPut (mergedOf (pointsIn a) (pointsIn b)) out n out n
 unfolding mergedOf
 none-first [] b out n e = reached-end (reached-start [] out n)
 none-first (p ∷ a) b out n e = absurd (omega arith)
 
-pub none-second : (a b : List (List ℤ)) (out : List ℤ) (n : ℕ) → length b ≡ 0 → Put (mergedOf (pointsIn a) (pointsIn b)) out n out n
+pub none-second : (a b : List (List ℤ)) (out : List ℤ) (n : ℕ) → length b ≡ 0 → CornersPut (mergedOf (pointsIn a) (pointsIn b)) out n out n
 unfolding mergedOf
 none-second [] b out n e = reached-end (reached-start [] out n)
 none-second (p ∷ a) [] out n e = reached-end (reached-start [] out n)

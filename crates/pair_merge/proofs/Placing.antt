@@ -9,12 +9,12 @@ use lib.IntN.{ℤ}
 use Rattle.integers.specs.Lists.{overlay}
 use Rattle.integers.proofs.Overlay.{overlay-eq, overlay-two}
 use Rattle.plane.specs.Plane.{Pt}
-use Rattle.table.specs.Table.{numbersOf}
-use Rattle.table.proofs.Corners.{length-numbers, numbers-append}
-use Rattle.pair_merge.specs.Putting.{RoomAfter, Put, Reached}
+use Rattle.corners.specs.Corners.{numbersOf}
+use Rattle.corners.proofs.Corners.{length-numbers, numbers-append}
+use Rattle.pair_merge.specs.Putting.{RoomAfter, CornersPut, Reached}
 
 -- two numbers stored are a corner put
-pub put-one : (p : Pt) (out : List ℤ) (k : ℕ) {out′ : List ℤ} → RoomAfter (p ∷ []) out k → out′ ≡ set (set out (2 * k) (p .x)) (2 * k + 1) (p .y) → Put (p ∷ []) out k out′ (k + 1)
+pub put-one : (p : Pt) (out : List ℤ) (k : ℕ) {out′ : List ℤ} → RoomAfter (p ∷ []) out k → out′ ≡ set (set out (2 * k) (p .x)) (2 * k + 1) (p .y) → CornersPut (p ∷ []) out k out′ (k + 1)
 unfolding numbersOf
 put-one p out k {out′} h e = record {
   size = ap length e ∙ length-set (set out (2 * k) (p .x)) (2 * k + 1) (p .y) ∙ length-set out (2 * k) (p .x);
@@ -38,7 +38,7 @@ reached-start whole out n = record {
 }
 
 -- the next ones put
-pub reached-more : {whole : List Pt} (x left : List Pt) {out out′ out″ : List ℤ} {n k m : ℕ} → Reached whole (x ++ left) out n out′ k → Put x out′ k out″ m → Reached whole left out n out″ m
+pub reached-more : {whole : List Pt} (x left : List Pt) {out out′ out″ : List ℤ} {n k m : ℕ} → Reached whole (x ++ left) out n out′ k → CornersPut x out′ k out″ m → Reached whole left out n out″ m
 reached-more x left {n = n} {k = k} r p = record {
   done = r .done ++ x;
   split = r .split ∙ sym (append-assoc (r .done) x left);
@@ -52,7 +52,7 @@ reached-more x left {n = n} {k = k} r p = record {
 }
 
 -- all put
-pub reached-end : {whole : List Pt} {out out′ : List ℤ} {n k : ℕ} → Reached whole [] out n out′ k → Put whole out n out′ k
+pub reached-end : {whole : List Pt} {out out′ : List ℤ} {n k : ℕ} → Reached whole [] out n out′ k → CornersPut whole out n out′ k
 reached-end {whole} r =
     let e : r .done ≡ whole = sym (r .split ∙ append-nil (r .done)) in
     record {

@@ -1,4 +1,4 @@
--- Corners put into lent numbers, x and y in turn, one after another (`Put`), how far that has come (`Reached`), and what merging asks of a list of points
+-- Corners put into lent numbers, x and y in turn, one after another (`CornersPut`), how far that has come (`Reached`), and what merging asks of a list of points
 -- (`Mergeable`). Assumes nothing.
 use mathlib.Core.Path.{_≡_}
 use mathlib.Core.List.{List, _++_, map}
@@ -7,8 +7,8 @@ use lib.ListN.{length}
 use lib.IntN.{ℤ}
 use Rattle.integers.specs.Lists.{overlay}
 use Rattle.plane.specs.Plane.{Pt}
-use Rattle.table.specs.Table.{numbersOf}
-use Rattle.convex_ring.specs.Buffers.{cornerOf, Grid}
+use Rattle.corners.specs.Corners.{numbersOf}
+use Rattle.points.specs.Points.{cornerOf, Grid}
 use Rattle.pair_points.specs.Points.{Turning}
 
 -- the points of a buffer
@@ -25,7 +25,7 @@ abbrev pub RoomAfter : List Pt → List ℤ → ℕ → Type 0
 RoomAfter new out n = 2 * (n + length new) ≤ length out
 
 -- the corners `new` were put after the first n, whatever those are
-pub record Put (new : List Pt) (out : List ℤ) (n : ℕ) (out′ : List ℤ) (n′ : ℕ) : Type 0 where
+pub record CornersPut (new : List Pt) (out : List ℤ) (n : ℕ) (out′ : List ℤ) (n′ : ℕ) : Type 0 where
   pub size : length out′ ≡ length out
   pub count : n′ ≡ n + length new
   pub written : (done : List Pt) (old : List ℤ) → length done ≡ n → out ≡ overlay (numbersOf done) old → out′ ≡ overlay (numbersOf (done ++ new)) old
@@ -34,4 +34,4 @@ pub record Put (new : List Pt) (out : List ℤ) (n : ℕ) (out′ : List ℤ) (n
 pub record Reached (whole left : List Pt) (out : List ℤ) (n : ℕ) (out′ : List ℤ) (n′ : ℕ) : Type 0 where
   pub done : List Pt
   pub split : whole ≡ done ++ left
-  pub put : Put done out n out′ n′
+  pub put : CornersPut done out n out′ n′

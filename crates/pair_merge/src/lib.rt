@@ -1,6 +1,6 @@
 // Two unrolled walks merged (the Rust's `ConvexSum` from its first step to its last; pair_points has the definitions): `append_pair` puts the corners of
 // `mergedOf` into lent numbers after those put before, a corner a turn, and answers how many stand there then. By the law `pair-merged` they are the
-// pair's contour. Leans on pair_points, convex_ring (points read) and plane.
+// pair's contour. Leans on pair_points, points (points read) and plane.
 ghost use mathlib.Core.Path.{_≡_};
 ghost use mathlib.Core.List.{_∷_, []};
 ghost use mathlib.Core.Logic.{_⊎_};
@@ -9,10 +9,10 @@ ghost use lib.ListN.{length, drop};
 ghost use lib.IntN.{_+ℤ_};
 ghost use Rattle.plane.specs.Plane.{_+ᵖ_, angleCmp};
 ghost use Rattle.plane.specs.Machine.{Coordinate, vector, Short};
-ghost use Rattle.convex_ring.specs.Buffers.{cornerAt, Grid};
-ghost use Rattle.pair_points.specs.Points.{edgesAlong, mergedOf, secondNext, restOf};
-ghost use Rattle.pair_points.proofs.Turns.{edgeAt};
-ghost use Rattle.pair_merge.specs.Putting.{pointsIn, Mergeable, RoomAfter, Put, Reached};
+ghost use Rattle.points.specs.Points.{cornerIn, Grid};
+ghost use Rattle.pair_points.specs.Points.{edgesAlong, mergedOf, secondNext, restOf, edgeAt};
+ghost use Rattle.pair_merge.specs.Putting.{pointsIn, Mergeable, RoomAfter, CornersPut, Reached};
+use plane::IntPoint;
 use plane::IntVector;
 use plane::Ordering;
 
@@ -33,14 +33,21 @@ fn sum(a: i32, b: i32) -> i32
 
 // The sum of point i of a and point j of b is put as corner k.
 pub fn put_sum(a: &[[i32; 2]], i: usize, b: &[[i32; 2]], j: usize, out: &mut [i32], k: usize)
-    requires { ⌜ (i < length (now a)) × Grid (now a) × (j < length (now b)) × Grid (now b) × RoomAfter ((cornerAt (now a) i +ᵖ cornerAt (now b) j) ∷ []) (now out) k ⌝ }
-    ensures { λ r. ⌜ Put ((cornerAt (now (a .entry)) i +ᵖ cornerAt (now (b .entry)) j) ∷ []) (now (out .entry)) k (now (out .exit)) (k + 1) ⌝ }
+    requires { ⌜
+        (i < length (now a))
+        × Grid (now a)
+        × (j < length (now b))
+        × Grid (now b)
+        × RoomAfter ((cornerIn (now a) i +ᵖ cornerIn (now b) j) ∷ []) (now out) k ⌝ }
+    ensures { λ r. ⌜ CornersPut ((cornerIn (now (a .entry)) i +ᵖ cornerIn (now (b .entry)) j) ∷ []) (now (out .entry)) k (now (out .exit)) (k + 1) ⌝ }
 {
-    let p = convex_ring::corner_at(a, i);
-    let q = convex_ring::corner_at(b, j);
-    let at = 2 * k;
-    out[at] = sum(p.x, q.x);
-    out[at + 1] = sum(p.y, q.y);
+    let p = points::point_at(a, i);
+    let q = points::point_at(b, j);
+    let s = IntPoint {
+        x: sum(p.x, q.x),
+        y: sum(p.y, q.y),
+    };
+    corners::put_corner(out, k, s);
 }
 
 // From point i to the next.
@@ -48,10 +55,7 @@ pub fn edge(a: &[[i32; 2]], i: usize) -> IntVector
     requires { ⌜ (i + 1 < length (now a)) × Grid (now a) ⌝ }
     ensures { λ r. ⌜ (vector r ≡ edgeAt (pointsIn (now (a .entry))) i) × Short r ⌝ }
 {
-    plane::subtract(
-        convex_ring::corner_at(a, i + 1),
-        convex_ring::corner_at(a, i),
-    )
+    plane::subtract(points::point_at(a, i + 1), points::point_at(a, i))
 }
 
 // The direction of a's edge i against that of b's edge j.
@@ -80,9 +84,21 @@ fn second_next(a: &[[i32; 2]], i: usize, b: &[[i32; 2]], j: usize) -> bool
 
 // The corners up to where one list has no edge left.
 fn merge(a: &[[i32; 2]], b: &[[i32; 2]], out: &mut [i32], at: usize) -> Halt
-    requires { ⌜ (0 < length (now a)) × Mergeable (now a) × (0 < length (now b)) × Mergeable (now b) × RoomAfter (mergedOf (pointsIn (now a)) (pointsIn (now b))) (now out) at ⌝ }
-    ensures places { λ r. ⌜ (r .i < length (now (a .entry))) × (r .j < length (now (b .entry))) × ((r .i + 1 ≡ length (now (a .entry))) ⊎ (r .j + 1 ≡ length (now (b .entry)))) ⌝ }
-    ensures corners { λ r. ⌜ Reached (mergedOf (pointsIn (now (a .entry))) (pointsIn (now (b .entry)))) (mergedOf (drop (r .i) (pointsIn (now (a .entry)))) (drop (r .j) (pointsIn (now (b .entry))))) (now (out .entry)) at (now (out .exit)) (r .k) ⌝ }
+    requires { ⌜
+        (0 < length (now a))
+        × Mergeable (now a)
+        × (0 < length (now b))
+        × Mergeable (now b)
+        × RoomAfter (mergedOf (pointsIn (now a)) (pointsIn (now b))) (now out) at ⌝ }
+    ensures places { λ r. ⌜
+        (r .i < length (now (a .entry)))
+        × (r .j < length (now (b .entry)))
+        × ((r .i + 1 ≡ length (now (a .entry))) ⊎ (r .j + 1 ≡ length (now (b .entry)))) ⌝ }
+    ensures corners { λ r.
+        let left = pointsIn (now (a .entry)) in
+        let right = pointsIn (now (b .entry)) in
+        let rest = mergedOf (drop (r .i) left) (drop (r .j) right) in
+        ⌜ Reached (mergedOf left right) rest (now (out .entry)) at (now (out .exit)) (r .k) ⌝ }
 {
     let n = a.len() - 1;
     let m = b.len() - 1;
@@ -116,8 +132,13 @@ fn merge(a: &[[i32; 2]], b: &[[i32; 2]], out: &mut [i32], at: usize) -> Halt
 
 // The corners of a's points from i on, but the last, at b's point j.
 fn rest(a: &[[i32; 2]], i: usize, b: &[[i32; 2]], j: usize, out: &mut [i32], at: usize) -> usize
-    requires { ⌜ (i < length (now a)) × Grid (now a) × (j < length (now b)) × Grid (now b) × RoomAfter (restOf (cornerAt (now b) j) (drop i (pointsIn (now a)))) (now out) at ⌝ }
-    ensures { λ r. ⌜ Put (restOf (cornerAt (now (b .entry)) j) (drop i (pointsIn (now (a .entry))))) (now (out .entry)) at (now (out .exit)) r ⌝ }
+    requires { ⌜
+        (i < length (now a))
+        × Grid (now a)
+        × (j < length (now b))
+        × Grid (now b)
+        × RoomAfter (restOf (cornerIn (now b) j) (drop i (pointsIn (now a)))) (now out) at ⌝ }
+    ensures { λ r. ⌜ CornersPut (restOf (cornerIn (now (b .entry)) j) (drop i (pointsIn (now (a .entry))))) (now (out .entry)) at (now (out .exit)) r ⌝ }
 {
     let n = a.len() - 1;
     let mut p = i;
@@ -133,7 +154,7 @@ fn rest(a: &[[i32; 2]], i: usize, b: &[[i32; 2]], j: usize, out: &mut [i32], at:
 // The corners of two walks merged are put after the first `at`; answers how many stand there then.
 pub fn append_pair(a: &[[i32; 2]], b: &[[i32; 2]], out: &mut [i32], at: usize) -> usize
     requires { ⌜ Mergeable (now a) × Mergeable (now b) × RoomAfter (mergedOf (pointsIn (now a)) (pointsIn (now b))) (now out) at ⌝ }
-    ensures { λ r. ⌜ Put (mergedOf (pointsIn (now (a .entry))) (pointsIn (now (b .entry)))) (now (out .entry)) at (now (out .exit)) r ⌝ }
+    ensures { λ r. ⌜ CornersPut (mergedOf (pointsIn (now (a .entry))) (pointsIn (now (b .entry)))) (now (out .entry)) at (now (out .exit)) r ⌝ }
 {
     if a.len() == 0 {
         return at;

@@ -18,11 +18,11 @@ use Rattle.plane.specs.Plane.{Pt, O, inRange}
 use Rattle.plane.specs.Machine.{Coordinate}
 use Rattle.plane.proofs.Size.{in-range-coordinate}
 use Rattle.table.specs.declared.IntRect.{IntRect}
-use Rattle.table.specs.Table.{pointsOf, tableBroken, offRange, boundsList, boundsBroken}
-use Rattle.table.proofs.Rules.{was-taken}
+use Rattle.corners.specs.Corners.{pointsOf, offRange}
+use Rattle.table.specs.Table.{tableBroken, boundsList, boundsBroken}
+use Rattle.corners.proofs.Range.{was-taken}
 use Rattle.pair.specs.Walk.{turned}
-use Rattle.pair_points.specs.Points.{unrolled}
-use Rattle.pair_points.proofs.Turns.{pointAt, edgeAt}
+use Rattle.pair_points.specs.Points.{unrolled, nthPoint, edgeAt}
 use Rattle.pair_points.proofs.OnContour.{unrolled-points}
 use Rattle.minkowski.specs.Pairs.{Operand, operandParts, sumBounds, resultBounds}
 use Rattle.minkowski_pairs.proofs.Bounds.{InBounds, turnedBounds, inside-neg, parts-inside, Unrefused}
@@ -89,13 +89,13 @@ module _ (b c : IntRect) (ub : Upright b) (uc : Upright c) (s : Ranges (sumBound
   edge-x d a k n h =
       let u = all-getD (InBounds d) a O k (n + 1) h in
       let v = all-getD (InBounds d) a O k n (omega arith) in
-      span (d .«min_x») (d .«max_x») (pointAt a (n + 1) .x) (pointAt a n .x) (u .left) (u .right) (v .left) (v .right)
+      span (d .«min_x») (d .«max_x») (nthPoint a (n + 1) .x) (nthPoint a n .x) (u .left) (u .right) (v .left) (v .right)
 
   edge-y : (d : IntRect) (a : List Pt) → All (InBounds d) a → (n : ℕ) → n + 1 < length a → natAbs (edgeAt a n .y) ≤ width-y d
   edge-y d a k n h =
       let u = all-getD (InBounds d) a O k (n + 1) h in
       let v = all-getD (InBounds d) a O k n (omega arith) in
-      span (d .«min_y») (d .«max_y») (pointAt a (n + 1) .y) (pointAt a n .y) (u .low) (u .high) (v .low) (v .high)
+      span (d .«min_y») (d .«max_y») (nthPoint a (n + 1) .y) (nthPoint a n .y) (u .low) (u .high) (v .low) (v .high)
 
   close-within : Close p q
   close-within = record {

@@ -3,8 +3,8 @@
 ghost use mathlib.Core.Path.{_≡_};
 ghost use Prim.Native.Nat.{_+_, _<_, _^_};
 ghost use lib.ListN.{length};
-ghost use Rattle.convex_ring.specs.Buffers.{Grid};
-ghost use Rattle.pair_points.proofs.Turns.{edgeAt};
+ghost use Rattle.points.specs.Points.{Grid};
+ghost use Rattle.pair_points.specs.Points.{edgeAt};
 ghost use Rattle.pair_merge.specs.Putting.{pointsIn, Mergeable};
 ghost use Rattle.direction_keys.specs.Marks.{mark, rightNumber, SmallEdge};
 ghost use Rattle.pair_walks.specs.Walks.{walksIn};
@@ -75,7 +75,9 @@ pub fn number_walks(
 )
     requires { ⌜ Numberable (now firsts) (now points) left right (now numbers) ⌝ }
     ensures size { λ r. ⌜ length (now (numbers .exit)) ≡ length (now (numbers .entry)) ⌝ }
-    ensures numbered { λ r. ⌜ NumberedTo (left + right) (walksIn (now (firsts .entry)) (now (points .entry)) (left + right)) (now (firsts .entry)) (now (numbers .exit)) left ⌝ }
+    ensures numbered { λ r.
+        let walks = walksIn (now (firsts .entry)) (now (points .entry)) (left + right) in
+        ⌜ NumberedTo (left + right) walks (now (firsts .entry)) (now (numbers .exit)) left ⌝ }
 {
     let all = left + right;
     let mut n: usize = 0;

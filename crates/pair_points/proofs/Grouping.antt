@@ -10,10 +10,11 @@ use Rattle.integers.proofs.Order.{by-test}
 use Rattle.integers.proofs.Tests.{differ}
 use Rattle.plane.specs.Plane.{Pt, _+ᵖ_, angleCmp, isEqual}
 use Rattle.plane.proofs.Vectors.{+ᵖ-assoc}
-use Rattle.plane.proofs.Directions.{Le, Lt, Nz, Same, before, beside, after, angle-cases, le-or-lt, le-trans, clash, same-le, same-refl, same-sym, same-trans, lt-not-same, lt-same, same-lt}
+use Rattle.plane.specs.Halves.{Nz}
+use Rattle.plane.proofs.Directions.{Le, Lt, Same, before, beside, after, angle-cases, le-or-lt, le-trans, clash, same-le, same-refl, same-sym, same-trans, lt-not-same, lt-same, same-lt}
 use Rattle.plane.proofs.Sides.{AddSame, add-same}
-use Rattle.pair.proofs.EdgeLists.{stepOne, stepped, runs, grouped}
-use Rattle.pair.proofs.Join.{join, step-by, all-stepped}
+use Rattle.pair.specs.EdgeLists.{stepOne, stepped, runs, grouped, join}
+use Rattle.pair.proofs.Join.{step-by, all-stepped}
 
 -- ---- one direction, by the test
 

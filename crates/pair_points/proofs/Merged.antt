@@ -10,14 +10,15 @@ use Rattle.integers.specs.Lists.{All}
 use Rattle.integers.proofs.Order.{by-test}
 use Rattle.integers.proofs.Tests.{differ}
 use Rattle.plane.specs.Plane.{Pt, _+ᵖ_, _-ᵖ_, angleCmp, isEqual}
-use Rattle.plane.proofs.Directions.{Nz, Same, same-refl, same-sym, same-trans}
+use Rattle.plane.specs.Halves.{Nz}
+use Rattle.plane.proofs.Directions.{Same, same-refl, same-sym, same-trans}
 use Rattle.plane.proofs.Sides.{AddSame, add-same, +ᵖ-sub}
 use Rattle.pair.specs.Walk.{begin, pointOf}
 use Rattle.pair.specs.Pair.{pairContour}
 use Rattle.pair.specs.Demand.{live, walkEdges}
 use Rattle.pair.specs.Berg.{cornersFrom}
-use Rattle.pair.proofs.EdgeLists.{stepped, runs, grouped}
-use Rattle.pair.proofs.Join.{join, grouped-live-stepped}
+use Rattle.pair.specs.EdgeLists.{stepped, runs, grouped, join}
+use Rattle.pair.proofs.Join.{grouped-live-stepped}
 use Rattle.pair.proofs.Live.{live-nz, length-live}
 use Rattle.pair.proofs.Places.{begin-remaining}
 use Rattle.pair.proofs.PairSteps.{pair-contour}

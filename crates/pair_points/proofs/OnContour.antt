@@ -13,7 +13,7 @@ use Rattle.plane.proofs.Vectors.{+ᵖ-assoc, +ᵖ-zero, isZero-true}
 use Rattle.pair.specs.declared.Place.{Place}
 use Rattle.pair.specs.Walk.{begin, pointOf, advance, turned, cornerAt}
 use Rattle.pair.specs.Demand.{live, handed, walkEdges}
-use Rattle.pair.proofs.EdgeLists.{runs, grouped}
+use Rattle.pair.specs.EdgeLists.{runs, grouped}
 use Rattle.pair.proofs.Places.{Valid, valid-advance, valid-begin, begin-by, point-advance}
 use Rattle.pair_points.specs.Points.{pointsAlong, unrolled}
 use Rattle.pair_points.proofs.Grouping.{runs-on, runs-turn}

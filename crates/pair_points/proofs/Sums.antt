@@ -7,8 +7,7 @@ use Rattle.integers.proofs.Elements.{all-map}
 use Rattle.plane.specs.Plane.{Pt, _+ᵖ_, isZero, angleCmp, isGreater}
 use Rattle.plane.proofs.Vectors.{+ᵖ-assoc, +ᵖ-comm, +ᵖ--ᵖ}
 use Rattle.pair.specs.Berg.{cornersFrom}
-use Rattle.pair.proofs.EdgeLists.{stepOne, stepped}
-use Rattle.pair.proofs.Join.{join}
+use Rattle.pair.specs.EdgeLists.{stepOne, stepped, join}
 use Rattle.pair_points.specs.Points.{pointsAlong, edgesAlong, mergedOf}
 use Rattle.pair_points.proofs.OnContour.{first-along, along-grouped}
 

@@ -18,11 +18,12 @@ use Rattle.plane.specs.declared.Ordering.the-variants.{Less, Equal, Greater}
 use Rattle.plane.specs.Plane.{Pt, O, _+ᵖ_, _-ᵖ_, angleCmp, isEqual, isGreater}
 use Rattle.plane.proofs.Terms.{_+E_, _-E_}
 use Rattle.plane.proofs.Vectors.{+ᵖ-comm}
-use Rattle.plane.proofs.Directions.{Lt, Nz, Same, before, beside, after, angle-cases, lt-le, lt-not-same, lt-asym, same-le, same-sym}
+use Rattle.plane.specs.Halves.{Nz}
+use Rattle.plane.proofs.Directions.{Lt, Same, before, beside, after, angle-cases, lt-le, lt-not-same, lt-asym, same-le, same-sym}
 use Rattle.pair.specs.Berg.{cornersFrom}
-use Rattle.pair.proofs.EdgeLists.{stepOne, stepped, runs, grouped}
-use Rattle.pair.proofs.Join.{join, step-by}
-use Rattle.pair_points.specs.Points.{edgesAlong, mergedOf, Off, Turning, secondNext, restOf}
+use Rattle.pair.specs.EdgeLists.{stepOne, stepped, runs, grouped, join}
+use Rattle.pair.proofs.Join.{step-by}
+use Rattle.pair_points.specs.Points.{edgesAlong, nthPoint, edgeAt, mergedOf, Off, Turning, secondNext, restOf}
 use Rattle.pair_points.proofs.Grouping.{same-test, test-same, runs-on, runs-turn, steps-first, steps-second}
 use Rattle.pair_points.proofs.Merged.{as-off}
 
@@ -190,48 +191,41 @@ rest-second p (q ∷ s ∷ b) t =
 
 -- ---- by index
 
--- the point at i, and the edge from it
-abbrev pub pointAt : List Pt → ℕ → Pt
-pointAt a i = getD a i O
-
-abbrev pub edgeAt : List Pt → ℕ → Pt
-edgeAt a i = pointAt a (i + 1) -ᵖ pointAt a i
-
 -- what holds of the points from i on, and from i + 1 on, written out
 two-ind :
     (a : List Pt) (i : ℕ) (Q : List Pt → List Pt → Type 0) → i + 1 < length a →
-    Q (pointAt a i ∷ pointAt a (i + 1) ∷ drop (i + 1 + 1) a) (pointAt a (i + 1) ∷ drop (i + 1 + 1) a) → Q (drop i a) (drop (i + 1) a)
+    Q (nthPoint a i ∷ nthPoint a (i + 1) ∷ drop (i + 1 + 1) a) (nthPoint a (i + 1) ∷ drop (i + 1 + 1) a) → Q (drop i a) (drop (i + 1) a)
 two-ind a i Q h =
-    let one : drop (i + 1) a ≡ pointAt a (i + 1) ∷ drop (i + 1 + 1) a = drop-at a (i + 1) h in
-    let two : drop i a ≡ pointAt a i ∷ pointAt a (i + 1) ∷ drop (i + 1 + 1) a = drop-at a i (omega arith) ∙ ap (λ r. pointAt a i ∷ r) one in
+    let one : drop (i + 1) a ≡ nthPoint a (i + 1) ∷ drop (i + 1 + 1) a = drop-at a (i + 1) h in
+    let two : drop i a ≡ nthPoint a i ∷ nthPoint a (i + 1) ∷ drop (i + 1 + 1) a = drop-at a i (omega arith) ∙ ap (λ r. nthPoint a i ∷ r) one in
     subst₂ Q (sym two) (sym one)
   where
-    drop-at : (a : List Pt) (i : ℕ) → i < length a → drop i a ≡ pointAt a i ∷ drop (i + 1) a
+    drop-at : (a : List Pt) (i : ℕ) → i < length a → drop i a ≡ nthPoint a i ∷ drop (i + 1) a
     drop-at a i h = rw (add-one) (drop-cons a i O h)
 
 module _ (a b : List Pt) (i j : ℕ) (t : Turning a) (u : Turning b) (hi : i + 1 < length a) (hj : j + 1 < length b) where
   abbrev here : List Pt → List Pt → List Pt
-  here x y = (pointAt a i +ᵖ pointAt b j) ∷ mergedOf x y
+  here x y = (nthPoint a i +ᵖ nthPoint b j) ∷ mergedOf x y
 
   -- a statement over the points from each place on, with the lists written out
   by-two : (Q : List Pt → List Pt → List Pt → List Pt → Type 0) →
-      ((A B : List Pt) → Turning (pointAt a i ∷ pointAt a (i + 1) ∷ A) → Turning (pointAt b j ∷ pointAt b (j + 1) ∷ B) →
-      Q (pointAt a i ∷ pointAt a (i + 1) ∷ A) (pointAt a (i + 1) ∷ A) (pointAt b j ∷ pointAt b (j + 1) ∷ B) (pointAt b (j + 1) ∷ B)) →
+      ((A B : List Pt) → Turning (nthPoint a i ∷ nthPoint a (i + 1) ∷ A) → Turning (nthPoint b j ∷ nthPoint b (j + 1) ∷ B) →
+      Q (nthPoint a i ∷ nthPoint a (i + 1) ∷ A) (nthPoint a (i + 1) ∷ A) (nthPoint b j ∷ nthPoint b (j + 1) ∷ B) (nthPoint b (j + 1) ∷ B)) →
       Q (drop i a) (drop (i + 1) a) (drop j b) (drop (j + 1) b)
   by-two Q f =
       two-ind a i (λ x y. Turning x → Q x y (drop j b) (drop (j + 1) b)) hi
-      (λ v. two-ind b j (λ x y. Turning x → Q (pointAt a i ∷ pointAt a (i + 1) ∷ drop (i + 1 + 1) a) (pointAt a (i + 1) ∷ drop (i + 1 + 1) a) x y) hj
+      (λ v. two-ind b j (λ x y. Turning x → Q (nthPoint a i ∷ nthPoint a (i + 1) ∷ drop (i + 1 + 1) a) (nthPoint a (i + 1) ∷ drop (i + 1 + 1) a) x y) hj
       (λ w. f (drop (i + 1 + 1) a) (drop (j + 1 + 1) b) v w) (turning-drop j b u)) (turning-drop i a t)
 
   -- the lesser edge steps
   pub at-less : angleCmp (edgeAt a i) (edgeAt b j) ≡ Less → mergedOf (drop i a) (drop j b) ≡ here (drop (i + 1) a) (drop j b)
-  at-less e = by-two (λ x x' y y'. mergedOf x y ≡ here x' y) (λ A B v w. merged-less (pointAt a i) (pointAt a (i + 1)) (pointAt b j) (pointAt b (j + 1)) A B v w (less e))
+  at-less e = by-two (λ x x' y y'. mergedOf x y ≡ here x' y) (λ A B v w. merged-less (nthPoint a i) (nthPoint a (i + 1)) (nthPoint b j) (nthPoint b (j + 1)) A B v w (less e))
     where
       less : {f g : Pt} → angleCmp f g ≡ Less → Lt f g
       less {f} {g} e = elim (angle-cases f g) [ before t x ↦ x | beside t x ↦ differ (sym (ap isEqual e) ∙ ap isEqual t) | after t x ↦ differ (sym (ap isGreater e) ∙ ap isGreater t) ]
 
   pub at-greater : angleCmp (edgeAt a i) (edgeAt b j) ≡ Greater → mergedOf (drop i a) (drop j b) ≡ here (drop i a) (drop (j + 1) b)
-  at-greater e = by-two (λ x x' y y'. mergedOf x y ≡ here x y') (λ A B v w. merged-greater (pointAt a i) (pointAt a (i + 1)) (pointAt b j) (pointAt b (j + 1)) A B v w (greater e))
+  at-greater e = by-two (λ x x' y y'. mergedOf x y ≡ here x y') (λ A B v w. merged-greater (nthPoint a i) (nthPoint a (i + 1)) (nthPoint b j) (nthPoint b (j + 1)) A B v w (greater e))
     where
       greater : {f g : Pt} → angleCmp f g ≡ Greater → Lt g f
       greater {f} {g} e = elim (angle-cases f g) [ before t x ↦ differ (sym (ap isGreater t) ∙ ap isGreater e) | beside t x ↦ differ (sym (ap isGreater t) ∙ ap isGreater e) | after t x ↦ x ]
@@ -242,18 +236,18 @@ module _ (a b : List Pt) (i j : ℕ) (t : Turning a) (u : Turning b) (hi : i + 1
       mergedOf (drop i a) (drop j b) ≡ here (drop (i + 1) a) (drop (j + 1) b)
   at-both e =
       by-two (λ x x' y y'. secondNext (edgesAlong x') (edgeAt b j) ≡ true → mergedOf x y ≡ here x' y')
-      (λ A B v w k. merged-both (pointAt a i) (pointAt a (i + 1)) (pointAt b j) (pointAt b (j + 1)) A B v w (test-same (ap isEqual e)) k)
+      (λ A B v w k. merged-both (nthPoint a i) (nthPoint a (i + 1)) (nthPoint b j) (nthPoint b (j + 1)) A B v w (test-same (ap isEqual e)) k)
 
   pub at-first :
       angleCmp (edgeAt a i) (edgeAt b j) ≡ Equal → secondNext (edgesAlong (drop (i + 1) a)) (edgeAt b j) ≡ false →
       mergedOf (drop i a) (drop j b) ≡ here (drop (i + 1) a) (drop j b)
   at-first e =
       by-two (λ x x' y y'. secondNext (edgesAlong x') (edgeAt b j) ≡ false → mergedOf x y ≡ here x' y)
-      (λ A B v w k. merged-first (pointAt a i) (pointAt a (i + 1)) (pointAt b j) (pointAt b (j + 1)) A B v w (test-same (ap isEqual e)) k)
+      (λ A B v w k. merged-first (nthPoint a i) (nthPoint a (i + 1)) (nthPoint b j) (nthPoint b (j + 1)) A B v w (test-same (ap isEqual e)) k)
 
 -- the last point
-drop-last : (a : List Pt) (i : ℕ) → i + 1 ≡ length a → drop i a ≡ pointAt a i ∷ []
-drop-last a i e = drop-cons a i O (omega arith) ∙ ap (λ r. pointAt a i ∷ r) (drop-of-length-le a {i = suc i} (omega arith))
+drop-last : (a : List Pt) (i : ℕ) → i + 1 ≡ length a → drop i a ≡ nthPoint a i ∷ []
+drop-last a i e = drop-cons a i O (omega arith) ∙ ap (λ r. nthPoint a i ∷ r) (drop-of-length-le a {i = suc i} (omega arith))
 
 -- after a tie, with no edge left, and with one
 pub second-last : (a : List Pt) (i : ℕ) (f : Pt) → i + 1 ≡ length a → secondNext (edgesAlong (drop i a)) f ≡ true
@@ -265,9 +259,9 @@ unfolding secondNext edgesAlong
 second-more a i f h = two-ind a i (λ x y. secondNext (edgesAlong x) f ≡ isGreater (angleCmp (edgeAt a i) f)) h refl
 
 -- the points of one list, moved: one, and none at the last
-pub rest-more : (q : Pt) (a : List Pt) (i : ℕ) → i + 1 < length a → restOf q (drop i a) ≡ (pointAt a i +ᵖ q) ∷ restOf q (drop (i + 1) a)
+pub rest-more : (q : Pt) (a : List Pt) (i : ℕ) → i + 1 < length a → restOf q (drop i a) ≡ (nthPoint a i +ᵖ q) ∷ restOf q (drop (i + 1) a)
 unfolding restOf
-rest-more q a i h = two-ind a i (λ x y. restOf q x ≡ (pointAt a i +ᵖ q) ∷ restOf q y) h refl
+rest-more q a i h = two-ind a i (λ x y. restOf q x ≡ (nthPoint a i +ᵖ q) ∷ restOf q y) h refl
 
 pub rest-last : (q : Pt) (a : List Pt) (i : ℕ) → i + 1 ≡ length a → restOf q (drop i a) ≡ []
 unfolding restOf
@@ -276,10 +270,10 @@ rest-last q a i e = ap (restOf q) (drop-last a i e)
 -- where one list has one point left, the other's points, moved by it
 pub at-rest :
     (a b : List Pt) (i j : ℕ) → Turning a → Turning b → i < length a → j < length b → (i + 1 ≡ length a) ⊎ (j + 1 ≡ length b) →
-    mergedOf (drop i a) (drop j b) ≡ restOf (pointAt b j) (drop i a) ++ restOf (pointAt a (length a - 1)) (drop j b)
+    mergedOf (drop i a) (drop j b) ≡ restOf (nthPoint b j) (drop i a) ++ restOf (nthPoint a (length a - 1)) (drop j b)
 at-rest a b i j t u hi hj = ⊎-elim
     (λ e. let k : length a - 1 ≡ i = omega arith in
-    ap (λ l. mergedOf l (drop j b)) (drop-last a i e) ∙ rest-second (pointAt a i) (drop j b) (turning-drop j b u) ∙ ap (λ n. restOf (pointAt a n) (drop j b)) (sym k)
-    ∙ ap (λ l. l ++ restOf (pointAt a (length a - 1)) (drop j b)) (sym (rest-last (pointAt b j) a i e)))
-    (λ e. ap (mergedOf (drop i a)) (drop-last b j e) ∙ rest-first (pointAt b j) (drop i a) (turning-drop i a t) ∙ sym (append-nil (restOf (pointAt b j) (drop i a)))
-    ∙ ap (λ l. restOf (pointAt b j) (drop i a) ++ l) (sym (rest-last (pointAt a (length a - 1)) b j e)))
+    ap (λ l. mergedOf l (drop j b)) (drop-last a i e) ∙ rest-second (nthPoint a i) (drop j b) (turning-drop j b u) ∙ ap (λ n. restOf (nthPoint a n) (drop j b)) (sym k)
+    ∙ ap (λ l. l ++ restOf (nthPoint a (length a - 1)) (drop j b)) (sym (rest-last (nthPoint b j) a i e)))
+    (λ e. ap (mergedOf (drop i a)) (drop-last b j e) ∙ rest-first (nthPoint b j) (drop i a) (turning-drop i a t) ∙ sym (append-nil (restOf (nthPoint b j) (drop i a)))
+    ∙ ap (λ l. restOf (nthPoint b j) (drop i a) ++ l) (sym (rest-last (nthPoint a (length a - 1)) b j e)))

@@ -3,14 +3,15 @@
 use mathlib.Core.Path.{_≡_}
 use mathlib.Core.Bool.{Bool, true, false}
 use mathlib.Core.List.{List, [], _∷_}
+use Prim.Native.Nat.{ℕ, _+_}
+use lib.ListN.{getD}
 use Rattle.integers.specs.Lists.{All}
-use Rattle.plane.specs.Plane.{Pt, _+ᵖ_, _-ᵖ_, angleCmp, isEqual, isGreater}
-use Rattle.plane.proofs.Directions.{Nz}
+use Rattle.plane.specs.Plane.{Pt, O, _+ᵖ_, _-ᵖ_, angleCmp, isEqual, isGreater}
+use Rattle.plane.specs.Halves.{Nz}
 use Rattle.pair.specs.Walk.{begin, pointOf}
 use Rattle.pair.specs.Demand.{live, walkEdges}
 use Rattle.pair.specs.Berg.{cornersFrom}
-use Rattle.pair.proofs.EdgeLists.{grouped}
-use Rattle.pair.proofs.Join.{join}
+use Rattle.pair.specs.EdgeLists.{grouped, join}
 
 -- p, and where each edge leads to in turn
 unfoldable pub pointsAlong : Pt → List Pt → List Pt
@@ -22,6 +23,13 @@ unfoldable pub edgesAlong : List Pt → List Pt
 edgesAlong [] = []
 edgesAlong (p ∷ []) = []
 edgesAlong (p ∷ q ∷ l) = (q -ᵖ p) ∷ edgesAlong (q ∷ l)
+
+-- the point at i, and the edge from it to the next
+abbrev pub nthPoint : List Pt → ℕ → Pt
+nthPoint a i = getD a i O
+
+abbrev pub edgeAt : List Pt → ℕ → Pt
+edgeAt a i = nthPoint a (i + 1) -ᵖ nthPoint a i
 
 -- a walk's points: its zero edges dropped, its edges of one direction in a row made one. A segment has three, a point one, an empty contour none.
 unfoldable pub unrolled : Bool → List Pt → List Pt

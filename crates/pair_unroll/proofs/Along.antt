@@ -12,11 +12,12 @@ use Rattle.integers.proofs.Order.{by-test}
 use Rattle.integers.proofs.Tests.{differ}
 use Rattle.plane.specs.Plane.{Pt, O, _+ᵖ_, eqPt, isZero, angleCmp, isEqual}
 use Rattle.plane.proofs.Vectors.{+ᵖ-assoc, +ᵖ-zero, isZero-true}
-use Rattle.plane.proofs.Directions.{Nz, Same, before, beside, after, angle-cases, same-refl, same-sym, same-trans, lt-not-same, nz-of-test}
+use Rattle.plane.specs.Halves.{Nz}
+use Rattle.plane.proofs.Directions.{Same, before, beside, after, angle-cases, same-refl, same-sym, same-trans, lt-not-same, nz-of-test}
 use Rattle.plane.proofs.Sides.{+ᵖ-sub, add-same}
 use Rattle.plane.proofs.Edges.{eqPt-refl, isZero-sub}
 use Rattle.pair.specs.Demand.{live}
-use Rattle.pair.proofs.EdgeLists.{runs, grouped}
+use Rattle.pair.specs.EdgeLists.{runs, grouped}
 use Rattle.pair.proofs.Live.{live-zero, live-keep, live-append, live-nz, length-live}
 use Rattle.pair.proofs.FewCorners.{length-grouped}
 use Rattle.pair_points.specs.Points.{pointsAlong}

@@ -12,15 +12,13 @@ use lib.Seq.{getD-take, getD-append-add, length-take-le, take-take, take-append-
 use lib.IntN.{ℤ}
 use Rattle.integers.proofs.Order.{by-test}
 use Rattle.integers.proofs.Tests.{differ}
-use Rattle.integers.proofs.Elements.{map-take}
+use Rattle.integers.proofs.Elements.{map-take, all-getD}
 use Rattle.integers.specs.Lists.{All}
-use Rattle.integers.proofs.Elements.{all-getD}
 use Rattle.plane.specs.Plane.{Pt, O, eqPt}
 use Rattle.plane.specs.declared.IntPoint.{IntPoint}
 use Rattle.plane.specs.Machine.{point, OnGrid}
-use Rattle.convex_ring.specs.Buffers.{cornerOf, cornerAt, pairOf}
-use Rattle.convex_contour.specs.Contour.{firstPoints, Appended}
-use Rattle.convex_contour.proofs.Contours.{appended-one, appended-more}
+use Rattle.points.specs.Points.{cornerOf, cornerIn, pairOf, firstPoints, Appended}
+use Rattle.points.proofs.Points.{appended-one, appended-more}
 use Rattle.pair_unroll.specs.Unroll.{straightOn, withPoint, Ranged, Adding, goesOn, PointAdded}
 use Rattle.pair_unroll.proofs.Along.{with-repeated, with-straight, with-turning, with-second}
 
@@ -29,7 +27,7 @@ module _ {new : List Pt} {points₀ : List (List ℤ)} {from : ℕ} {points : Li
   length-front = length-map (take from points₀) cornerOf ∙ length-take-le from points₀ (omega (arith, a .size, a .count))
 
   -- point i of those appended
-  pub new-at : (i : ℕ) → i < length new → cornerAt points (from + i) ≡ getD new i O
+  pub new-at : (i : ℕ) → i < length new → cornerIn points (from + i) ≡ getD new i O
   new-at i h =
       ap cornerOf (sym (getD-take count points (from + i) [] (omega (arith, a .count)))) ∙ sym (List·getD-map cornerOf (take count points) (from + i) [])
       ∙ ap₂ (λ l n. getD l (n + i) O) (a .written) (sym length-front) ∙ getD-append-add (firstPoints from points₀) new i O
@@ -45,11 +43,11 @@ module _ {new : List Pt} {points₀ : List (List ℤ)} {from : ℕ} {points : Li
   }
 
   -- what holds of those appended, at their places
-  pub all-at : (Q : Pt → Type 0) → All Q new → (i : ℕ) → from ≤ i → i < count → Q (cornerAt points i)
+  pub all-at : (Q : Pt → Type 0) → All Q new → (i : ℕ) → from ≤ i → i < count → Q (cornerIn points i)
   all-at Q q i h k =
       let e : from + (i - from) ≡ i = omega arith in
       let l : i - from < length new = omega (arith, a .count) in
-      subst (λ j. Q (cornerAt points j)) e (subst Q (sym (new-at (i - from) l)) (all-getD Q new O q (i - from) l))
+      subst (λ j. Q (cornerIn points j)) e (subst Q (sym (new-at (i - from) l)) (all-getD Q new O q (i - from) l))
 
 -- a point of the code, in range
 pub ranged-on-grid : {p : IntPoint} {q : Pt} → point p ≡ q → Ranged q → OnGrid p
@@ -61,7 +59,7 @@ module _ (r : Pt) (from : ℕ) (points : List (List ℤ)) (count : ℕ) where
   unfolding goesOn
   goes-few h = sym (rw (lt-ltb (count - from) 2 h))
 
-  pub goes-some : 2 ≤ count - from → straightOn (cornerAt points (count - 2)) (cornerAt points (count - 1)) r ≡ goesOn points from count r
+  pub goes-some : 2 ≤ count - from → straightOn (cornerIn points (count - 2)) (cornerIn points (count - 1)) r ≡ goesOn points from count r
   unfolding goesOn
   goes-some h = sym (rw (le-ltb (count - from) 2 h))
 
@@ -72,18 +70,18 @@ module _ (r : Pt) (from : ℕ) (points : List (List ℤ)) (count : ℕ) (w : Add
   abbrev last : ℕ
   last = count - from - 1
 
-  at-last : {new : List Pt} {points₀ : List (List ℤ)} → Appended new points₀ from points count → cornerAt points (count - 1) ≡ getD new last O
+  at-last : {new : List Pt} {points₀ : List (List ℤ)} → Appended new points₀ from points count → cornerIn points (count - 1) ≡ getD new last O
   at-last a =
       let e : count - 1 ≡ from + last = omega (arith, w .some) in
-      ap (cornerAt points) e ∙ new-at a (omega (arith, w .room)) last (omega (arith, a .count, w .some))
+      ap (cornerIn points) e ∙ new-at a (omega (arith, w .room)) last (omega (arith, a .count, w .some))
 
-  pub added-repeated : {t : Bool} → t ≡ eqPt (cornerAt points (count - 1)) r → t ≡ true → PointAdded r from points count points count
+  pub added-repeated : {t : Bool} → t ≡ eqPt (cornerIn points (count - 1)) r → t ≡ true → PointAdded r from points count points count
   added-repeated e t = record {
     added = λ points₀ new a. subst (λ l. Appended l points₀ from points count)
         (sym (with-repeated r new last (omega (arith, a .count, w .some)) (ap (λ q. eqPt q r) (sym (at-last a)) ∙ sym e ∙ t))) a;
   }
 
-  module _ {t s : Bool} (e : t ≡ eqPt (cornerAt points (count - 1)) r) (no : t ≡ false) (f : s ≡ goesOn points from count r) where
+  module _ {t s : Bool} (e : t ≡ eqPt (cornerIn points (count - 1)) r) (no : t ≡ false) (f : s ≡ goesOn points from count r) where
     other : {new : List Pt} {points₀ : List (List ℤ)} → Appended new points₀ from points count → eqPt (getD new last O) r ≡ false
     other a = ap (λ q. eqPt q r) (sym (at-last a)) ∙ sym e ∙ no
 
@@ -98,19 +96,19 @@ module _ (r : Pt) (from : ℕ) (points : List (List ℤ)) (count : ℕ) (w : Add
       other-two : eqPt (getD new (suc second) O) r ≡ false
       other-two = let n : suc second ≡ last = omega arith in ap (λ k. eqPt (getD new k O) r) n ∙ other a
 
-      straight-two : straightOn (getD new second O) (getD new (suc second) O) r ≡ straightOn (cornerAt points (count - 2)) (cornerAt points (count - 1)) r
+      straight-two : straightOn (getD new second O) (getD new (suc second) O) r ≡ straightOn (cornerIn points (count - 2)) (cornerIn points (count - 1)) r
       straight-two =
           let m : count - 2 ≡ from + second = omega arith in
           let n : last ≡ suc second = omega arith in
-          ap₂ (λ p q. straightOn p q r) (sym (ap (cornerAt points) m ∙ new-at a (omega (arith, w .room)) second (omega (arith, a .count))))
+          ap₂ (λ p q. straightOn p q r) (sym (ap (cornerIn points) m ∙ new-at a (omega (arith, w .room)) second (omega (arith, a .count))))
           (sym (at-last a ∙ ap (λ k. getD new k O) n))
 
-    goes-two : s ≡ true → (from + 2 ≤ count) × (straightOn (cornerAt points (count - 2)) (cornerAt points (count - 1)) r ≡ true)
+    goes-two : s ≡ true → (from + 2 ≤ count) × (straightOn (cornerIn points (count - 2)) (cornerIn points (count - 1)) r ≡ true)
     goes-two y = by-test (ltb (count - from) 2)
         (λ b. differ (goes-few r from points count (ltb-true (count - from) 2 b) ∙ sym f ∙ y))
         (λ b. let l : 2 ≤ count - from = ltb-false (count - from) 2 b in (omega arith, goes-some r from points count l ∙ sym f ∙ y))
 
-    goes-not : s ≡ false → from + 2 ≤ count → straightOn (cornerAt points (count - 2)) (cornerAt points (count - 1)) r ≡ false
+    goes-not : s ≡ false → from + 2 ≤ count → straightOn (cornerIn points (count - 2)) (cornerIn points (count - 1)) r ≡ false
     goes-not n h = goes-some r from points count (omega arith) ∙ sym f ∙ n
 
     pub added-straight : {points′ : List (List ℤ)} → s ≡ true → points′ ≡ set points (count - 1) (pairOf r) → PointAdded r from points count points′ count
@@ -118,7 +116,7 @@ module _ (r : Pt) (from : ℕ) (points : List (List ℤ)) (count : ℕ) (w : Add
       where
         straight :
             (points₀ : List (List ℤ)) (new : List Pt) → Appended new points₀ from points count →
-            (from + 2 ≤ count) × (straightOn (cornerAt points (count - 2)) (cornerAt points (count - 1)) r ≡ true) → Appended (withPoint new r) points₀ from points′ count
+            (from + 2 ≤ count) × (straightOn (cornerIn points (count - 2)) (cornerIn points (count - 1)) r ≡ true) → Appended (withPoint new r) points₀ from points′ count
         straight points₀ new a q =
             let n = second a (q .0) in
             let before : from + suc n ≡ count - 1 = omega (arith, q .0) in

@@ -14,7 +14,7 @@ use Rattle.integers.proofs.Order.{by-test}
 use Rattle.integers.proofs.Sizes.{abs-neg}
 use Rattle.plane.specs.Plane.{Pt}
 use Rattle.plane.proofs.Size.{on-grid-both}
-use Rattle.table.specs.Table.{pointsOf, offRange}
+use Rattle.corners.specs.Corners.{pointsOf, offRange}
 use Rattle.pair.specs.declared.Place.{Place}
 use Rattle.pair.specs.Walk.{cornerAt, startAt, greatestAt, leastAt, windingTerms, totalLeaves, windingLeaves, begin, turned, pointOf, advance}
 use Rattle.pair.specs.Demand.{handed}
@@ -25,8 +25,8 @@ use Rattle.walk.specs.Calls.{lengthBroken, misplaced, begunOf}
 use Rattle.walk.proofs.Answers.{some-corner, index-inside, advance-placed, begin-placed}
 use Rattle.walk_read.proofs.Grid.{off-nowhere}
 use Rattle.walk_begin.proofs.Begins.{begin-8, begin-at}
-use Rattle.convex_contour.specs.Contour.{Appended}
-use Rattle.convex_contour.proofs.Contours.{appended-none}
+use Rattle.points.specs.Points.{Appended}
+use Rattle.points.proofs.Points.{appended-none}
 use Rattle.pair_unroll.specs.declared.Unrolled.the-variants.{To, Leaves}
 use Rattle.pair_unroll.specs.Unroll.{Ranged, pointsFrom, Walkable, Unrollable, UnrolledTo, UnrolledBy}
 use Rattle.pair_unroll.proofs.Along.{every-point}

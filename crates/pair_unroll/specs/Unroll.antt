@@ -9,15 +9,14 @@ use lib.ListN.{length}
 use lib.IntN.{ℤ}
 use Rattle.plane.specs.Plane.{Pt, _-ᵖ_, eqPt, angleCmp, isEqual}
 use Rattle.plane.specs.Machine.{Coordinate}
-use Rattle.table.specs.Table.{pointsOf, offRange}
+use Rattle.corners.specs.Corners.{pointsOf, offRange}
 use Rattle.pair.specs.declared.Place.{Place}
 use Rattle.pair.specs.Walk.{windingLeaves, pointOf}
 use Rattle.pair.specs.Demand.{handed, live}
-use Rattle.pair.proofs.EdgeLists.{grouped}
+use Rattle.pair.specs.EdgeLists.{grouped}
 use Rattle.pair_points.specs.Points.{pointsAlong, unrolled}
 use Rattle.walk.specs.Calls.{lengthBroken, misplaced}
-use Rattle.convex_ring.specs.Buffers.{cornerAt}
-use Rattle.convex_contour.specs.Contour.{Appended}
+use Rattle.points.specs.Points.{cornerIn, Appended}
 use Rattle.pair_unroll.specs.declared.Unrolled.{Unrolled}
 use Rattle.pair_unroll.specs.declared.Unrolled.the-variants as answer
 
@@ -42,12 +41,12 @@ Ranged p = Coordinate (p .x) × Coordinate (p .y)
 pub record Adding (points : List (List ℤ)) (from count : ℕ) : Type 0 where
   pub some : from < count
   pub room : count < length points
-  pub ranged : (i : ℕ) → from ≤ i → i < count → Ranged (cornerAt points i)
+  pub ranged : (i : ℕ) → from ≤ i → i < count → Ranged (cornerIn points i)
 
 -- whether the point r lies straight on from the last two of them; it does not where there is one only
 unfoldable pub goesOn : List (List ℤ) → ℕ → ℕ → Pt → Bool
 goesOn points from count r =
-    cond (ltb (count - from) 2) false (straightOn (cornerAt points (count - 2)) (cornerAt points (count - 1)) r)
+    cond (ltb (count - from) 2) false (straightOn (cornerIn points (count - 2)) (cornerIn points (count - 1)) r)
 
 -- the point r was added, whichever points they are
 pub record PointAdded (r : Pt) (from : ℕ) (points : List (List ℤ)) (count : ℕ) (points′ : List (List ℤ)) (count′ : ℕ) : Type 0 where

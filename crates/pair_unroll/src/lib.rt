@@ -1,13 +1,12 @@
 // A contour's walk unrolled once to points in walk order, the start again at the end (`unroll`): repeated points dropped, an in-line point replaced by
 // the next, a reflected walk negated; a segment is three points, a point one, an empty contour none. It promises `unrolled` of pair_points, or tells
-// that the winding leaves 64 bits (fault 8). Corners are read through walk_read alone. Leans on walk_begin, walk_move, walk_read, plane and convex_ring.
+// that the winding leaves 64 bits (fault 8). Corners are read through corners alone. Leans on walk_begin, walk_move, walk_read, corners, plane and points.
 ghost use mathlib.Core.Path.{_≡_};
 ghost use Prim.Native.Nat.{_<_};
 ghost use lib.ListN.{length};
 ghost use Rattle.plane.specs.Machine.{point, OnGrid};
-ghost use Rattle.table.specs.Table.{pointsOf};
-ghost use Rattle.convex_ring.specs.Buffers.{cornerAt};
-ghost use Rattle.convex_contour.specs.Contour.{Appended};
+ghost use Rattle.corners.specs.Corners.{pointsOf};
+ghost use Rattle.points.specs.Points.{cornerIn, Appended};
 ghost use Rattle.pair_unroll.specs.Unroll.{straightOn, goesOn, Adding, PointAdded, pointsFrom, Walkable, Unrollable, UnrolledBy};
 use pair::Place;
 use plane::IntPoint;
@@ -24,7 +23,7 @@ pub enum Unrolled {
 // Point i.
 pub fn point_at(points: &[[i32; 2]], i: usize) -> IntPoint
     requires { ⌜ i < length (now points) ⌝ }
-    ensures { λ r. ⌜ point r ≡ cornerAt (now (points .entry)) i ⌝ }
+    ensures { λ r. ⌜ point r ≡ cornerIn (now (points .entry)) i ⌝ }
 {
     let c = points[i];
     IntPoint { x: c[0], y: c[1] }
@@ -63,10 +62,10 @@ fn add_point(points: &mut [[i32; 2]], from: usize, count: usize, r: IntPoint) ->
         return count;
     }
     if goes_on(points, from, count, r) {
-        convex_ring::put_corner(points, count - 1, r);
+        points::put_point(points, count - 1, r);
         return count;
     }
-    convex_ring::put_corner(points, count, r);
+    points::put_point(points, count, r);
     count + 1
 }
 
@@ -75,8 +74,8 @@ fn add_walk(contour: &[i32], start: Place, points: &mut [[i32; 2]], from: usize)
     requires { ⌜ Walkable (now contour) start (now points) from ⌝ }
     ensures { λ n. ⌜ Appended (pointsFrom (pointsOf (now (contour .entry))) start) (now (points .entry)) from (now (points .exit)) n ⌝ }
 {
-    let n = walk_read::corner_count(contour);
-    convex_ring::put_corner(points, from, point_of(contour, start));
+    let n = corners::corner_count(contour);
+    points::put_point(points, from, point_of(contour, start));
     let mut w = start;
     let mut count = from + 1;
     while w.remaining > 0 {

@@ -14,14 +14,15 @@ use Rattle.integers.specs.Lists.{All}
 use Rattle.integers.proofs.Tests.{differ}
 use Rattle.integers.proofs.Elements.{all-image, getD-all}
 use Rattle.plane.specs.Plane.{Pt}
-use Rattle.table.specs.Table.{tableParts, tableBroken, partCount, offRange, maxContour}
+use Rattle.corners.specs.Corners.{offRange}
+use Rattle.table.specs.Table.{tableParts, tableBroken, partCount, maxContour}
 use Rattle.table.specs.Shown.{partNumbers}
 use Rattle.table.proofs.Rules.{sound, count-parts}
 use Rattle.table.proofs.Shown.{part-is, part-ranged}
 use Rattle.pair.specs.Walk.{windingLeaves}
 use Rattle.walk.specs.Calls.{lengthBroken}
-use Rattle.convex_gather.specs.Gather.{PartsAppended}
-use Rattle.convex_gather.proofs.Gathering.{part-appended, none-appended, then-appended}
+use Rattle.points.specs.Gathered.{PartsAppended}
+use Rattle.points.proofs.Gathering.{part-appended, none-appended, then-appended}
 use Rattle.pair_points.specs.Points.{unrolled}
 use Rattle.pair_points.proofs.Merged.{length-unrolled}
 use Rattle.minkowski.specs.Pairs.{someWindingLeaves}

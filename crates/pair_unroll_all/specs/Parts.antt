@@ -7,9 +7,10 @@ use Prim.Native.Nat.{ℕ, _+_, _/_, _≤_, _<_, _^_}
 use lib.ListN.{length, getD}
 use lib.IntN.{ℤ}
 use Rattle.plane.specs.Plane.{Pt}
-use Rattle.table.specs.Table.{tableParts, tableBroken, partCount, offRange}
-use Rattle.convex_gather.specs.declared.Tally.{Tally}
-use Rattle.convex_gather.specs.Gather.{PartsAppended}
+use Rattle.corners.specs.Corners.{offRange}
+use Rattle.table.specs.Table.{tableParts, tableBroken, partCount}
+use Rattle.points.specs.declared.Tally.{Tally}
+use Rattle.points.specs.Gathered.{PartsAppended}
 use Rattle.pair_points.specs.Points.{unrolled}
 use Rattle.minkowski.specs.Pairs.{someWindingLeaves}
 

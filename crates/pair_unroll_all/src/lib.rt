@@ -1,5 +1,5 @@
 // All parts of a sound table unrolled to points, one after another, after walks that are there (`unroll_all`): walk n is the points from firsts[n] up to
-// firsts[n + 1]. Or it is told that some winding leaves 64 bits (fault 8), and then what the buffers hold is of no matter. Leans on pair_unroll and convex_gather.
+// firsts[n + 1]. Or it is told that some winding leaves 64 bits (fault 8), and then what the buffers hold is of no matter. Leans on pair_unroll and points.
 ghost use mathlib.Core.List.{[]};
 ghost use lib.ListN.{getD};
 ghost use Rattle.table.specs.Table.{tableParts};
@@ -17,10 +17,12 @@ fn unroll_part(
     from: usize,
 ) -> Unrolled
     requires { ⌜ PartAt (now starts) (now corners) p (now points) from ⌝ }
-    ensures { λ r. ⌜ UnrolledBy reflected (getD (tableParts (now (starts .entry)) (now (corners .entry))) p []) (now (points .entry)) from (now (points .exit)) r ⌝ }
+    ensures { λ r.
+        let part = getD (tableParts (now (starts .entry)) (now (corners .entry))) p [] in
+        ⌜ UnrolledBy reflected part (now (points .entry)) from (now (points .exit)) r ⌝ }
 {
-    let a = 2 * (starts[p] as usize);
-    let e = 2 * (starts[p + 1] as usize);
+    let a = corners::WIDTH * (starts[p] as usize);
+    let e = corners::WIDTH * (starts[p + 1] as usize);
     pair_unroll::unroll(&corners[a..e], reflected, points, from)
 }
 
@@ -34,7 +36,9 @@ pub fn unroll_all(
     firsts: &mut [u32],
 ) -> bool
     requires { ⌜ Unrollables (now starts) (now corners) done (now points) (now firsts) ⌝ }
-    ensures { λ r. ⌜ AllUnrolled reflected (tableParts (now (starts .entry)) (now (corners .entry))) done (now (points .entry)) (now (firsts .entry)) (now (points .exit)) (now (firsts .exit)) r ⌝ }
+    ensures { λ r.
+        let parts = tableParts (now (starts .entry)) (now (corners .entry)) in
+        ⌜ AllUnrolled reflected parts done (now (points .entry)) (now (firsts .entry)) (now (points .exit)) (now (firsts .exit)) r ⌝ }
 {
     let parts = starts.len() - 1;
     let mut count = firsts[done] as usize;
@@ -46,7 +50,7 @@ pub fn unroll_all(
         };
         count = n;
         p += 1;
-        convex_gather::put_start(firsts, done + p, count);
+        points::put_start(firsts, done + p, count);
     }
     false
 }

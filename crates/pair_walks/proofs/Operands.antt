@@ -11,7 +11,7 @@ use lib.Seq.{length-take-le, getD-take, getD-drop, take-suc, drop-cons, take-app
 use lib.IntN.{ℤ}
 use Rattle.integers.proofs.Sums.{flatten-append}
 use Rattle.plane.specs.Plane.{Pt}
-use Rattle.convex_gather.proofs.Reading.{enough-starts}
+use Rattle.points.proofs.Reading.{enough-starts}
 use Rattle.pair_points.specs.Points.{mergedOf}
 use Rattle.pair_walks.specs.Walks.{walksIn, Walks, leftsIn, rightsIn, mergedRow, mergedAll, contoursIn, walkIn}
 

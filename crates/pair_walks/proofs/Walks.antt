@@ -18,10 +18,9 @@ use Rattle.plane.specs.Machine.{Coordinate}
 use Rattle.table.specs.Table.{partsOf, maxContour}
 use Rattle.table.proofs.Parts.{parts-starts}
 use Rattle.pair.specs.Pair.{pairContour}
-use Rattle.convex_ring.specs.Buffers.{cornerOf}
-use Rattle.convex_contour.specs.Contour.{firstPoints}
-use Rattle.convex_gather.specs.Gather.{Gathered}
-use Rattle.convex_gather.proofs.Reading.{PartPlaced, enough-starts, part-placed, start-at}
+use Rattle.points.specs.Points.{cornerOf, firstPoints}
+use Rattle.points.specs.Gathered.{Gathered}
+use Rattle.points.proofs.Reading.{PartPlaced, enough-starts, part-placed, start-at}
 use Rattle.pair_points.specs.Points.{unrolled, Turning}
 use Rattle.pair_points.proofs.Merged.{pair-merged, turning-unrolled, length-unrolled}
 use Rattle.pair_merge.specs.Putting.{Mergeable}

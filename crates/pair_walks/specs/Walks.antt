@@ -9,8 +9,8 @@ use lib.IntN.{ℤ}
 use Rattle.integers.specs.Lists.{All}
 use Rattle.plane.specs.Plane.{Pt, onGrid}
 use Rattle.table.specs.Table.{partsOf, maxContour}
-use Rattle.convex_contour.specs.Contour.{firstPoints}
-use Rattle.convex_gather.specs.Gather.{Gathered}
+use Rattle.points.specs.Points.{firstPoints}
+use Rattle.points.specs.Gathered.{Gathered}
 use Rattle.pair_points.specs.Points.{mergedOf, Turning}
 
 -- ---- walks in a buffer

@@ -17,12 +17,14 @@ use Rattle.integers.proofs.Order.{by-test}
 use Rattle.integers.proofs.Tests.{differ, either-false}
 use Rattle.plane.specs.Plane.{Pt}
 use Rattle.table.specs.declared.IntRect.{IntRect}
-use Rattle.table.specs.Table.{pointsOf, maxContour, partCount, stepsBroken, startsBroken, tableBroken, offRange, withinBounds, boundsList, someOutside, boundsBroken}
+use Rattle.corners.specs.Corners.{pointsOf, offRange}
+use Rattle.table.specs.Table.{maxContour, partCount, stepsBroken, startsBroken, tableBroken, withinBounds, boundsList, someOutside, boundsBroken}
 use Rattle.table.specs.Stored.{wordsOf, wordBytes, wordAt, signed}
 use Rattle.table.specs.Shown.{partNumbers}
-use Rattle.table.proofs.Rules.{was-taken, step, tests}
+use Rattle.corners.proofs.Range.{was-taken}
+use Rattle.table.proofs.Rules.{step, tests}
 use Rattle.table.proofs.Shown.{part-ranged}
-use Rattle.table.proofs.Corners.{points-slice}
+use Rattle.corners.proofs.Corners.{points-slice}
 use Rattle.pair.specs.Walk.{windingLeaves}
 use Rattle.minkowski.specs.Pairs.{Operand, operandParts, operandOff, resultBounds, someWindingLeaves, pairKinds}
 use Rattle.minkowski_faults.proofs.Range.{off-append-out, off-append-in}

@@ -11,7 +11,7 @@ use lib.Seq.{slice, take-nil, take-all, take-take, drop-drop, drop-cons}
 use Rattle.integers.proofs.Order.{by-test}
 use Rattle.plane.specs.Plane.{Pt}
 use Rattle.table.specs.Table.{partsOf}
-use Rattle.table.proofs.Shown.{take-drop}
+use Rattle.corners.proofs.Corners.{take-drop}
 use Rattle.pairs_shard.specs.Shard.{leastOf}
 use Rattle.pairs_shard.proofs.Known.{least-right, least-left}
 

@@ -9,9 +9,10 @@ use lib.ListN.{length, take, drop, getD, length-drop}
 use lib.Seq.{slice, drop-drop, take-take, getD-take, getD-drop, length-take-le}
 use Rattle.integers.proofs.Elements.{map-drop, map-take}
 use Rattle.plane.specs.Plane.{Pt}
-use Rattle.table.specs.Table.{pointsOf, partsOf, tableParts}
+use Rattle.corners.specs.Corners.{pointsOf}
+use Rattle.table.specs.Table.{partsOf, tableParts}
 use Rattle.table.specs.Stored.{wordsOf, wordAt, signed}
-use Rattle.table.proofs.Corners.{points-slice}
+use Rattle.corners.proofs.Corners.{points-slice}
 use Rattle.table.proofs.Rules.{count-parts}
 use Rattle.pairs_job.specs.Job.{boundsAt, startsAt, cornersAt, tableWords, operation, leftOf, rightOf}
 use Rattle.pairs_shard.specs.Shard.{pastPart, firstPart, startAt, cornerPlace, shardStarts, shardBytes, shardOf, shardFault, Cuts}

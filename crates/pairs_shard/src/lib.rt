@@ -62,7 +62,9 @@ fn put_less(bytes: &[u8], from: usize, count: usize, base: u32, out: &mut [u8], 
 // Writes the operation, the left bounds, the counts and the starts of the left parts first up to past; answers how many bytes they are.
 fn put_counts(bytes: &[u8], first: usize, past: usize, out: &mut [u8]) -> usize
     requires { ⌜ Cuts first past (now bytes) × (147516 ≤ length (now out)) ⌝ }
-    ensures { λ r. ⌜ PutText (take 20 (now (bytes .entry)) ++ wordBytes (shardCounts first past (now (bytes .entry)))) 0 (now (out .entry)) (now (out .exit)) r ⌝ }
+    ensures { λ r.
+        let counts = take 20 (now (bytes .entry)) ++ wordBytes (shardCounts first past (now (bytes .entry))) in
+        ⌜ PutText counts 0 (now (out .entry)) (now (out .exit)) r ⌝ }
 {
     let base = word_at(bytes, LEFT + 2 + first);
     let end = word_at(bytes, LEFT + 2 + past);
@@ -83,7 +85,11 @@ fn put_counts(bytes: &[u8], first: usize, past: usize, out: &mut [u8]) -> usize
 // Writes the corners of the left parts first up to past, and then the right bounds and the right table; answers the place after them.
 fn put_rest(bytes: &[u8], first: usize, past: usize, out: &mut [u8], at: usize) -> usize
     requires { ⌜ Cuts first past (now bytes) × (147516 ≤ length (now out)) × (at ≤ 8224) ⌝ }
-    ensures { λ r. ⌜ PutText (slice (4 * cornerPlace (now (bytes .entry)) first) (4 * cornerPlace (now (bytes .entry)) past) (now (bytes .entry)) ++ drop (4 * (5 + tableWords (now (bytes .entry)) 5)) (now (bytes .entry))) at (now (out .entry)) (now (out .exit)) r ⌝ }
+    ensures { λ r.
+        let job = now (bytes .entry) in
+        let corners = slice (4 * cornerPlace job first) (4 * cornerPlace job past) job in
+        let right = drop (4 * (5 + tableWords job 5)) job in
+        ⌜ PutText (corners ++ right) at (now (out .entry)) (now (out .exit)) r ⌝ }
 {
     let parts = word_at(bytes, LEFT) as usize;
     let count = word_at(bytes, LEFT + 1) as usize;

@@ -12,7 +12,7 @@ use Rattle.pair.specs.Pair.{pairContour}
 use Rattle.pair_lines.specs.Lines.{pairLine, pairLines}
 use Rattle.pair_lines.proofs.Order.{lines-in-order}
 use Rattle.pairs_job.specs.Job.{jobFault, pairsText}
-use Rattle.pairs_text.specs.Pieces.{firstLine, linesOfPairs, piecesOf, InPieces}
+use Rattle.pairs_text.specs.Pieces.{headPiece, linesOfPairs, piecesOf, InPieces}
 
 -- lists joined row by row, or all at once
 flatten-rows : {A : Type 0} (g : ℕ → List (List A)) (l : List ℕ) → flatten (map (λ i. flatten (g i)) l) ≡ flatten (flatten (map g l))
@@ -31,5 +31,5 @@ apart true h l r ps e = ap (λ x. h ++ x) e
 apart false h l r ps e = sym (append-nil r)
 
 pub in-pieces : InPieces
-unfolding pairsText firstLine piecesOf
+unfolding pairsText headPiece piecesOf
 in-pieces bytes = apart (eqb (jobFault bytes) 0) _ _ _ _ (lines-joined _ _ _)

@@ -19,7 +19,7 @@ use Rattle.text.specs.Put.{PutText}
 use Rattle.text.proofs.Puts.{put-whole}
 use Rattle.pair_lines.specs.Putting.{lineRoom}
 use Rattle.pairs_text.specs.declared.Chunk.{Chunk}
-use Rattle.pairs_text.specs.Pieces.{piecesOf, taking, chunkRoom, chunkOf, nextOf, moreOf}
+use Rattle.pairs_text.specs.Pieces.{piecesOf, takingPieces, chunkRoom, chunkOf, nextPiece, moreOf}
 use Rattle.pairs_text.specs.Walks.{Handed}
 use Rattle.pairs_text.proofs.Sizes.{put-inside}
 use Rattle.pairs_text.proofs.Taking.{taking-turn, taking-full}
@@ -27,7 +27,7 @@ use Rattle.pairs_text.proofs.Taking.{taking-turn, taking-full}
 -- from piece `from` up to piece k the pieces `done` are put, of `size` bytes, into lent bytes that held `old`; those that a call puts are these, and then what it still takes
 pub record Putting (pieces : List (List ℕ)) (from k size : ℕ) (old buf : List ℕ) : Type 0 where
   pub done : List (List ℕ)
-  pub whole : taking (length old) (drop from pieces) ≡ done ++ taking (length old - size) (drop k pieces)
+  pub whole : takingPieces (length old) (drop from pieces) ≡ done ++ takingPieces (length old - size) (drop k pieces)
   pub next : k ≡ from + length done
   pub count : size ≡ length (flatten done)
   pub inside : size ≤ length old
@@ -52,7 +52,7 @@ pub putting-none : (pieces : List (List ℕ)) (from : ℕ) (old : List ℕ) → 
 unfolding flatten
 putting-none pieces from old =
     let z : length old ≡ length old - 0 = omega arith in
-    record { done = []; whole = ap (λ room. taking room (drop from pieces)) z; next = omega arith; count = refl; inside = omega arith; bytes = sym (overlay-nil old) }
+    record { done = []; whole = ap (λ room. takingPieces room (drop from pieces)) z; next = omega arith; count = refl; inside = omega arith; bytes = sym (overlay-nil old) }
 
 module _ {pieces : List (List ℕ)} {from k size : ℕ} {old buf : List ℕ} (p : Putting pieces from k size old buf) where
   pub putting-length : length buf ≡ length old
@@ -75,9 +75,9 @@ module _ {pieces : List (List ℕ)} {from k size : ℕ} {old buf : List ℕ} (p 
         whole =
             p .whole
             ∙ ap (λ l. p .done ++ l)
-            (ap (taking (length old - size)) (drop-cons pieces k [] h) ∙ taking-turn (length old - size) x (drop (suc k) pieces) (omega (arith, putting-length))
-            ∙ ap₂ (λ m j. x ∷ taking m (drop j pieces)) left (sym (add-one k)))
-            ∙ sym (append-assoc (p .done) (x ∷ []) (taking (length old - (size + n)) (drop (k + 1) pieces)));
+            (ap (takingPieces (length old - size)) (drop-cons pieces k [] h) ∙ taking-turn (length old - size) x (drop (suc k) pieces) (omega (arith, putting-length))
+            ∙ ap₂ (λ m j. x ∷ takingPieces m (drop j pieces)) left (sym (add-one k)))
+            ∙ sym (append-assoc (p .done) (x ∷ []) (takingPieces (length old - (size + n)) (drop (k + 1) pieces)));
         next = omega (arith, p .next, length-append (p .done) (x ∷ []));
         count = omega (arith, p .count, w .0, ap length joined, length-append (flatten (p .done)) x);
         inside = putting-inside q e;
@@ -87,8 +87,8 @@ module _ {pieces : List (List ℕ)} {from k size : ℕ} {old buf : List ℕ} (p 
       }
 
   -- what is put is what a call puts
-  module _ (e : taking (length old - size) (drop k pieces) ≡ []) where
-    handed-is : taking (length old) (drop from pieces) ≡ p .done
+  module _ (e : takingPieces (length old - size) (drop k pieces) ≡ []) where
+    handed-is : takingPieces (length old) (drop from pieces) ≡ p .done
     handed-is = p .whole ∙ ap (λ l. p .done ++ l) e ∙ append-nil (p .done)
 
     handed : {m : Bool} → m ≡ ltb k (length pieces) → Handed pieces from old buf (record { size = size; next = k; more = m })
@@ -104,16 +104,16 @@ module _ {pieces : List (List ℕ)} {from k size : ℕ} {old buf : List ℕ} (p 
   handed-full h room = handed (taking-full (length old - size) (drop k pieces) room) (sym (lt-ltb k (length pieces) h))
 
   pub handed-all : length pieces ≤ k → Handed pieces from old buf (record { size = size; next = k; more = false })
-  unfolding taking
-  handed-all h = handed (ap (taking (length old - size)) (drop-of-length-le pieces h)) (sym (le-ltb k (length pieces) h))
+  unfolding takingPieces
+  handed-all h = handed (ap (takingPieces (length old - size)) (drop-of-length-le pieces h)) (sym (le-ltb k (length pieces) h))
 
 -- of a job's pieces, and as many bytes as are lent to a call
 pub handed-chunk :
     (bytes : List ℕ) {pieces : List (List ℕ)} {from : ℕ} {old new : List ℕ} {r : Chunk} → pieces ≡ piecesOf bytes → length old ≡ chunkRoom → Handed pieces from old new r →
-    (r .size ≡ length (flatten (chunkOf bytes from))) × ((r .next ≡ nextOf bytes from) × ((r .more ≡ moreOf bytes from) × ((new ≡ overlay (flatten (chunkOf bytes from)) old) × Counts (r .size) new)))
+    (r .size ≡ length (flatten (chunkOf bytes from))) × ((r .next ≡ nextPiece bytes from) × ((r .more ≡ moreOf bytes from) × ((new ≡ overlay (flatten (chunkOf bytes from)) old) × Counts (r .size) new)))
 handed-chunk bytes {pieces} {from} {old} {new} {r} e n h =
-    let put : taking (length old) (drop from pieces) ≡ chunkOf bytes from = ap₂ (λ room ps. taking room (drop from ps)) n e in
-    let next : r .next ≡ nextOf bytes from = h .next ∙ ap (λ l. from + length l) put in
+    let put : takingPieces (length old) (drop from pieces) ≡ chunkOf bytes from = ap₂ (λ room ps. takingPieces room (drop from ps)) n e in
+    let next : r .next ≡ nextPiece bytes from = h .next ∙ ap (λ l. from + length l) put in
     let more : r .more ≡ moreOf bytes from = h .more ∙ ap₂ (λ k ps. ltb k (length ps)) next e in
     let within : Counts (r .size) new = (h .fits, sym (length-take-le (r .size) new (h .fits))) in
     (h .size ∙ ap (λ l. length (flatten l)) put, (next, (more, (h .bytes ∙ ap (λ l. overlay (flatten l) old) put, within))))

@@ -20,37 +20,37 @@ use Rattle.pair.specs.Pair.{pairContour}
 use Rattle.minkowski.specs.Pairs.{Operand, operandParts, resultBounds, pairKinds}
 use Rattle.minkowski_work.proofs.Faults.{Judged, operands-none, judged}
 use Rattle.minkowski_work.proofs.Counted.{pairs-count}
-use Rattle.minkowski_work.specs.Scratch.{Call, Accepted, Walked}
+use Rattle.minkowski_work.specs.Scratch.{Call, Accepted, BothWalked}
 use Rattle.minkowski_work.proofs.Walked.{unrolleds, contours-in}
 use Rattle.pair_lines.specs.Lines.{pairsHead, pairLine}
 use Rattle.pair_lines.proofs.Pairs.{line-of-pair}
 use Rattle.pairs_job.specs.Job.{reflectedOf, leftOf, rightOf, jobFault, shapeFault}
 use Rattle.pairs_job.proofs.Shape.{shape-told, shape-passed}
 use Rattle.pairs_work.specs.declared.Begun.{Begun}
-use Rattle.pairs_work.specs.Begun.{jobCall, begunOf, Begins, refusedBegun, acceptedBegun}
-use Rattle.pairs_text.specs.Pieces.{firstLine, linesOfPairs, piecesOf}
-use Rattle.pairs_text.specs.Walks.{firstIn, lineIn, piecesIn, Started}
+use Rattle.pairs_work.specs.Begun.{jobCall, jobBegun, Begins, refusedBegun, acceptedBegun}
+use Rattle.pairs_text.specs.Pieces.{headPiece, linesOfPairs, piecesOf}
+use Rattle.pairs_text.specs.Walks.{firstIn, lineIn, piecesIn, JobStarted}
 use Rattle.pairs_text.proofs.Rows.{rows-numbered}
 
 -- ---- the answer, by its fault
 
 module _ (x : Call) where
-  begun-refused : (f : ℕ) → (f ≡ 0 → ⊥) → begunOf x f ≡ refusedBegun f
-  unfolding begunOf
+  begun-refused : (f : ℕ) → (f ≡ 0 → ⊥) → jobBegun x f ≡ refusedBegun f
+  unfolding jobBegun
   begun-refused f d = rw (ne-eqb f 0 d)
 
-  begun-accepted : (f : ℕ) → f ≡ 0 → begunOf x f ≡ acceptedBegun x
-  unfolding begunOf
+  begun-accepted : (f : ℕ) → f ≡ 0 → jobBegun x f ≡ acceptedBegun x
+  unfolding jobBegun
   begun-accepted f e = rw (eq-eqb f 0 e)
 
 -- ---- a job that is refused
 
 module _ (bytes : List ℕ) (firsts : List ℕ) (points : List (List ℤ)) (d : jobFault bytes ≡ 0 → ⊥) where
   refused-pieces : piecesIn (refusedBegun (jobFault bytes)) firsts points ≡ piecesOf bytes
-  unfolding piecesIn firstIn piecesOf firstLine upTo
+  unfolding piecesIn firstIn piecesOf headPiece upTo
   refused-pieces = rw (ne-eqb (jobFault bytes) 0 d)
 
-  refused-started : (numbers : List ℕ) → Started (refusedBegun (jobFault bytes)) firsts points numbers
+  refused-started : (numbers : List ℕ) → JobStarted (refusedBegun (jobFault bytes)) firsts points numbers
   refused-started numbers = record { few = omega arith; refused = λ _. refl; keyed = λ e. absurd (d e) }
 
 -- ---- a job without a fault
@@ -77,10 +77,10 @@ module _ (bytes : List ℕ) (e : jobFault bytes ≡ 0) where
   both-judged = judged l r both-passed
 
   module _ {points : List (List ℤ)} {firsts numbers : List ℕ} {x : Begun} (b : Begins (jobCall bytes) (jobFault bytes) points firsts numbers x) where
-    abbrev w : Walked (jobCall bytes) points firsts
+    abbrev w : BothWalked (jobCall bytes) points firsts
     w = b .walked e
 
-    accepted-started : Started (acceptedBegun (jobCall bytes)) firsts points numbers
+    accepted-started : JobStarted (acceptedBegun (jobCall bytes)) firsts points numbers
     accepted-started =
         let u = unrolleds (jobCall bytes) w both-passed refl in
         record {
@@ -90,8 +90,8 @@ module _ (bytes : List ℕ) (e : jobFault bytes ≡ 0) where
         }
 
     -- as many contours as pairs of parts, and as many corners as the merges of their walks have
-    accepted-first : firstIn (acceptedBegun (jobCall bytes)) firsts points ≡ firstLine bytes
-    unfolding firstIn firstLine
+    accepted-first : firstIn (acceptedBegun (jobCall bytes)) firsts points ≡ headPiece bytes
+    unfolding firstIn headPiece
     accepted-first =
         let j = both-judged in
         rw (eq-eqb (jobFault bytes) 0 e)
@@ -135,8 +135,8 @@ module _ (bytes : List ℕ) {points : List (List ℤ)} {firsts numbers : List �
       (λ h. let e = eqb-true (jobFault bytes) 0 h in subst P (sym (b .answer ∙ begun-accepted (jobCall bytes) (jobFault bytes) e)) (q e))
       (λ h. let d = eqb-false (jobFault bytes) 0 h in subst P (sym (b .answer ∙ begun-refused (jobCall bytes) (jobFault bytes) d)) (p d))
 
-  pub started : Started x firsts points numbers
-  started = by-answer (λ y. Started y firsts points numbers) (λ d. refused-started bytes firsts points d numbers) (λ e. accepted-started bytes e b)
+  pub started : JobStarted x firsts points numbers
+  started = by-answer (λ y. JobStarted y firsts points numbers) (λ d. refused-started bytes firsts points d numbers) (λ e. accepted-started bytes e b)
 
   pub pieces-in : piecesIn x firsts points ≡ piecesOf bytes
   pieces-in = by-answer (λ y. piecesIn y firsts points ≡ piecesOf bytes) (refused-pieces bytes firsts points) (λ e. accepted-pieces bytes e b)

@@ -10,7 +10,7 @@ use lib.ListN.{length, drop, length-drop, drop-of-length-le}
 use lib.Seq.{drop-drop}
 use Rattle.integers.proofs.Order.{by-test}
 use Rattle.integers.proofs.Sums.{flatten-append}
-use Rattle.pairs_text.specs.Pieces.{chunkRoom, piecesOf, textFrom, chunkOf, nextOf, moreOf}
+use Rattle.pairs_text.specs.Pieces.{chunkRoom, piecesOf, textFrom, chunkOf, nextPiece, moreOf}
 use Rattle.pairs_text.specs.HandedOver.{FrontHandedOver, SomeHandedOver, HandsOver, last, goes, AllHandedOver}
 use Rattle.pairs_text.proofs.Pieces.{in-pieces}
 use Rattle.pairs_text.proofs.Taking.{taking-front, taking-few, taking-some}
@@ -37,27 +37,27 @@ module _ (bytes : List ℕ) where
 
   last-text : (k : ℕ) → moreOf bytes k ≡ false → textFrom bytes k ≡ flatten (chunkOf bytes k)
   last-text k e =
-      front-handed-over bytes k ∙ ap (λ t. flatten (chunkOf bytes k) ++ t) (none-left (nextOf bytes k) (ltb-false (nextOf bytes k) (length (piecesOf bytes)) e))
+      front-handed-over bytes k ∙ ap (λ t. flatten (chunkOf bytes k) ++ t) (none-left (nextPiece bytes k) (ltb-false (nextPiece bytes k) (length (piecesOf bytes)) e))
       ∙ append-nil (flatten (chunkOf bytes k))
 
   only-text : (k : ℕ) (t : List ℕ) → HandsOver bytes k t → t ≡ textFrom bytes k
   only-text k _ (last _ e) = sym (last-text k e)
-  only-text k _ (goes _ u e h) = ap (λ v. flatten (chunkOf bytes k) ++ v) (only-text (nextOf bytes k) u h) ∙ sym (front-handed-over bytes k)
+  only-text k _ (goes _ u e h) = ap (λ v. flatten (chunkOf bytes k) ++ v) (only-text (nextPiece bytes k) u h) ∙ sym (front-handed-over bytes k)
 
   ends-here : (k : ℕ) → moreOf bytes k ≡ false → HandsOver bytes k (textFrom bytes k)
   ends-here k e = subst (HandsOver bytes k) (sym (last-text k e)) (last k e)
 
-  goes-on : (k : ℕ) → moreOf bytes k ≡ true → HandsOver bytes (nextOf bytes k) (textFrom bytes (nextOf bytes k)) → HandsOver bytes k (textFrom bytes k)
-  goes-on k e h = subst (HandsOver bytes k) (sym (front-handed-over bytes k)) (goes k (textFrom bytes (nextOf bytes k)) e h)
+  goes-on : (k : ℕ) → moreOf bytes k ≡ true → HandsOver bytes (nextPiece bytes k) (textFrom bytes (nextPiece bytes k)) → HandsOver bytes k (textFrom bytes k)
+  goes-on k e h = subst (HandsOver bytes k) (sym (front-handed-over bytes k)) (goes k (textFrom bytes (nextPiece bytes k)) e h)
 
   -- n is at least how many pieces are left
   text-handed-over : (n k : ℕ) → length (piecesOf bytes) - k ≤ n → HandsOver bytes k (textFrom bytes k)
-  text-handed-over zero k h = by-test (moreOf bytes k) (λ e. absurd (omega (arith, ltb-true (nextOf bytes k) (length (piecesOf bytes)) e))) (ends-here k)
+  text-handed-over zero k h = by-test (moreOf bytes k) (λ e. absurd (omega (arith, ltb-true (nextPiece bytes k) (length (piecesOf bytes)) e))) (ends-here k)
   text-handed-over (suc n) k h =
       by-test (moreOf bytes k)
-      (λ e. let l = ltb-true (nextOf bytes k) (length (piecesOf bytes)) e in
+      (λ e. let l = ltb-true (nextPiece bytes k) (length (piecesOf bytes)) e in
       let s = some-handed-over bytes k (omega (arith, l)) in
-      goes-on k e (text-handed-over n (nextOf bytes k) (omega (arith, s .0))))
+      goes-on k e (text-handed-over n (nextPiece bytes k) (omega (arith, s .0))))
       (ends-here k)
 
 pub all-handed-over : AllHandedOver

@@ -18,8 +18,8 @@ use Rattle.pairs_job.specs.Job.{reflectedOf, leftOf, rightOf, jobFault, contour
 -- ---- the pieces
 
 -- the head line, or the refusal
-unfoldable pub firstLine : List ℕ → List ℕ
-firstLine bytes =
+unfoldable pub headPiece : List ℕ → List ℕ
+headPiece bytes =
     cond (eqb (jobFault bytes) 0)
     (pairsHead (length (contoursOf bytes)) (length (flatten (contoursOf bytes))) (resultBounds (reflectedOf bytes) (leftOf bytes .bounds) (rightOf bytes .bounds)))
     (refusal (jobFault bytes))
@@ -31,7 +31,7 @@ linesOfPairs reflected ls rs = flatten (map (λ i. map (λ j. pairLine i j (pair
 -- a job that is refused has no lines
 unfoldable pub piecesOf : List ℕ → List (List ℕ)
 piecesOf bytes =
-    firstLine bytes ∷ cond (eqb (jobFault bytes) 0) (linesOfPairs (reflectedOf bytes) (operandParts (leftOf bytes)) (operandParts (rightOf bytes))) []
+    headPiece bytes ∷ cond (eqb (jobFault bytes) 0) (linesOfPairs (reflectedOf bytes) (operandParts (leftOf bytes)) (operandParts (rightOf bytes))) []
 
 -- they are the whole text (proofs/Pieces.antt)
 abbrev pub InPieces : Type 0
@@ -44,9 +44,9 @@ textFrom bytes k = flatten (drop k (piecesOf bytes))
 -- ---- those that one call hands over
 
 -- pieces are put as long as what is left of the room is at least the longest line's
-unfoldable pub taking : ℕ → List (List ℕ) → List (List ℕ)
-taking room [] = []
-taking room (p ∷ ps) = cond (ltb room lineRoom) [] (p ∷ taking (room - length p) ps)
+unfoldable pub takingPieces : ℕ → List (List ℕ) → List (List ℕ)
+takingPieces room [] = []
+takingPieces room (p ∷ ps) = cond (ltb room lineRoom) [] (p ∷ takingPieces (room - length p) ps)
 
 -- the bytes that are lent to a call
 abbrev pub chunkRoom : ℕ
@@ -54,10 +54,10 @@ chunkRoom = 1048576
 
 -- the pieces that the call at `from` hands over, how many have been handed over then, and whether more are left
 abbrev pub chunkOf : List ℕ → ℕ → List (List ℕ)
-chunkOf bytes from = taking chunkRoom (drop from (piecesOf bytes))
+chunkOf bytes from = takingPieces chunkRoom (drop from (piecesOf bytes))
 
-abbrev pub nextOf : List ℕ → ℕ → ℕ
-nextOf bytes from = from + length (chunkOf bytes from)
+abbrev pub nextPiece : List ℕ → ℕ → ℕ
+nextPiece bytes from = from + length (chunkOf bytes from)
 
 abbrev pub moreOf : List ℕ → ℕ → Bool
-moreOf bytes from = ltb (nextOf bytes from) (length (piecesOf bytes))
+moreOf bytes from = ltb (nextPiece bytes from) (length (piecesOf bytes))

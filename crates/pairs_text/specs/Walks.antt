@@ -15,7 +15,7 @@ use Rattle.pair_lines.specs.Lines.{pairsHead, pairLine}
 use Rattle.pair_lines.specs.Putting.{lineRoom}
 use Rattle.pairs_work.specs.declared.Begun.{Begun}
 use Rattle.pairs_text.specs.declared.Chunk.{Chunk}
-use Rattle.pairs_text.specs.Pieces.{taking}
+use Rattle.pairs_text.specs.Pieces.{takingPieces}
 
 -- room for any first line
 abbrev pub firstRoom : ℕ
@@ -39,14 +39,14 @@ module _ (x : Begun) (firsts : List ℕ) (points : List (List ℤ)) where
 
   module _ (numbers : List ℕ) where
     -- fewer pairs than 2^32, none of a job that is refused; of another the walks of both operands, which can be merged by their numbers
-    pub record Started : Type 0 where
+    pub record JobStarted : Type 0 where
       pub few : x .left * x .right < 4294967296
       pub refused : (x .fault ≡ 0 → ⊥) → x .left * x .right ≡ 0
       pub keyed : x .fault ≡ 0 → Keyed firsts points numbers (x .left) (x .right)
 
     -- with room to merge two walks
     pub record Workable (work : List ℤ) : Type 0 where
-      pub started : Started
+      pub started : JobStarted
       pub for-corners : 4 * maxContour ≤ length work
 
     -- and to put piece k
@@ -57,8 +57,8 @@ module _ (x : Begun) (firsts : List ℕ) (points : List (List ℤ)) where
 
 -- those of some pieces that one call puts from piece `from` on into lent bytes, which held `old`
 pub record Handed (pieces : List (List ℕ)) (from : ℕ) (old new : List ℕ) (r : Chunk) : Type 0 where
-  pub size : r .size ≡ length (flatten (taking (length old) (drop from pieces)))
-  pub next : r .next ≡ from + length (taking (length old) (drop from pieces))
+  pub size : r .size ≡ length (flatten (takingPieces (length old) (drop from pieces)))
+  pub next : r .next ≡ from + length (takingPieces (length old) (drop from pieces))
   pub more : r .more ≡ ltb (r .next) (length pieces)
-  pub bytes : new ≡ overlay (flatten (taking (length old) (drop from pieces))) old
+  pub bytes : new ≡ overlay (flatten (takingPieces (length old) (drop from pieces))) old
   pub fits : r .size ≤ length new

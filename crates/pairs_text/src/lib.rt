@@ -1,7 +1,7 @@
 // The text of a pair job handed over piece by piece: `next_chunk` takes any bytes and how many pieces have been handed over, and puts as many of the next ones as
 // lent bytes have room for. It keeps nothing between calls and its work arrays are its own. What the pieces are and which of them one call puts is
 // specs/Pieces.antt; that calls from 0 to the end hand over the whole text, `pairsText`, is specs/HandedOver.antt. Leans on pairs_work, pair_lines,
-// minkowski_chains and text.
+// minkowski_counted and text.
 ghost use mathlib.Core.Path.{_≡_};
 ghost use mathlib.Core.List.{[], flatten};
 ghost use Prim.Native.Nat.{_≤_};
@@ -9,8 +9,8 @@ ghost use lib.ListN.{length, getD};
 ghost use Rattle.io.specs.Counts.{Counts};
 ghost use Rattle.integers.specs.Lists.{overlay};
 ghost use Rattle.text.specs.Put.{PutText};
-ghost use Rattle.pairs_text.specs.Pieces.{chunkOf, nextOf, moreOf};
-ghost use Rattle.pairs_text.specs.Walks.{firstRoom, firstIn, piecesIn, Started, Fitting, Workable, Handed};
+ghost use Rattle.pairs_text.specs.Pieces.{chunkOf, nextPiece, moreOf};
+ghost use Rattle.pairs_text.specs.Walks.{firstRoom, firstIn, piecesIn, JobStarted, Fitting, Workable, Handed};
 use pairs_work::Begun;
 use pairs_work::FIRSTS;
 use pairs_work::POINTS;
@@ -22,7 +22,7 @@ pub const ROOM: usize = 1048576;
 const LINE: usize = 47 + 26 * (2 * table::MAX_CONTOUR);
 
 // The numbers of a work buffer that holds the corners of any pair.
-const WORK: usize = 4 * table::MAX_CONTOUR;
+const WORK: usize = corners::WIDTH * (2 * table::MAX_CONTOUR);
 
 // What one call handed over: how many bytes, how many pieces have been handed over with them, and whether more are left.
 pub struct Chunk {
@@ -39,7 +39,7 @@ fn put_first(
     numbers: &[u64],
     out: &mut [u8],
 ) -> usize
-    requires { ⌜ Started begun (now firsts) (now points) (now numbers) × (firstRoom ≤ length (now out)) ⌝ }
+    requires { ⌜ JobStarted begun (now firsts) (now points) (now numbers) × (firstRoom ≤ length (now out)) ⌝ }
     ensures { λ r. ⌜ PutText (firstIn begun (now (firsts .entry)) (now (points .entry))) 0 (now (out .entry)) (now (out .exit)) r ⌝ }
 {
     let fault = begun.fault;
@@ -49,7 +49,7 @@ fn put_first(
     let left = begun.left;
     let right = begun.right;
     let bounds = begun.bounds;
-    let corners = minkowski_chains::count_all(firsts, points, numbers, left, right);
+    let corners = minkowski_counted::count_keyed(firsts, points, numbers, left, right);
     pair_lines::put_head((left * right) as u64, corners as u64, bounds, out)
 }
 
@@ -121,7 +121,7 @@ fn put_begun(
     from: usize,
     out: &mut [u8],
 ) -> Chunk
-    requires { ⌜ Started begun (now firsts) (now points) (now numbers) ⌝ }
+    requires { ⌜ JobStarted begun (now firsts) (now points) (now numbers) ⌝ }
     ensures { λ r. ⌜ Handed (piecesIn begun (now (firsts .entry)) (now (points .entry))) from (now (out .entry)) (now (out .exit)) r ⌝ }
 {
     let mut work = [0i32; WORK];
@@ -133,7 +133,7 @@ fn put_begun(
 // caller that lends them on.
 pub fn next_chunk(bytes: &[u8], from: usize, out: &mut [u8; ROOM]) -> Chunk
     ensures size { λ r. ⌜ r .size ≡ length (flatten (chunkOf (now (bytes .entry)) from)) ⌝ }
-    ensures next { λ r. ⌜ r .next ≡ nextOf (now (bytes .entry)) from ⌝ }
+    ensures next { λ r. ⌜ r .next ≡ nextPiece (now (bytes .entry)) from ⌝ }
     ensures more { λ r. ⌜ r .more ≡ moreOf (now (bytes .entry)) from ⌝ }
     ensures text { λ r. ⌜ now (out .exit) ≡ overlay (flatten (chunkOf (now (bytes .entry)) from)) (now (out .entry)) ⌝ }
     ensures counted { λ r. ⌜ Counts (r .size) (now (out .exit)) ⌝ }

@@ -7,13 +7,13 @@ use Rattle.table.specs.Table.{partCount}
 use Rattle.minkowski.specs.Pairs.{resultBounds}
 use Rattle.minkowski_work.specs.Scratch.{Call}
 use Rattle.pairs_work.specs.declared.Begun.{Begun}
-use Rattle.pairs_work.specs.Begun.{refusedBegun, begunOf}
+use Rattle.pairs_work.specs.Begun.{refusedBegun, jobBegun}
 
 module _ (x : Call) where
-  pub begun-refused : {f F : ℕ} {b : Begun} → f ≡ F → (f ≡ 0 → ⊥) → b ≡ refusedBegun f → b ≡ begunOf x F
-  unfolding begunOf
+  pub begun-refused : {f F : ℕ} {b : Begun} → f ≡ F → (f ≡ 0 → ⊥) → b ≡ refusedBegun f → b ≡ jobBegun x F
+  unfolding jobBegun
   begun-refused {f} {F} e d h = h ∙ ap refusedBegun e ∙ sym (rw (ne-eqb F 0 (λ q. d (e ∙ q))))
 
-  pub begun-accepted : {F : ℕ} {b : IntRect} → F ≡ 0 → b ≡ resultBounds (x .reflected) (x .left .bounds) (x .right .bounds) → record { fault = 0; left = partCount (x .left .starts); right = partCount (x .right .starts); bounds = b } ≡ begunOf x F
-  unfolding begunOf
+  pub begun-accepted : {F : ℕ} {b : IntRect} → F ≡ 0 → b ≡ resultBounds (x .reflected) (x .left .bounds) (x .right .bounds) → record { fault = 0; left = partCount (x .left .starts); right = partCount (x .right .starts); bounds = b } ≡ jobBegun x F
+  unfolding jobBegun
   begun-accepted {F} e q = rw (eq-eqb F 0 e) (λ i. record { fault = 0; left = partCount (x .left .starts); right = partCount (x .right .starts); bounds = q i })

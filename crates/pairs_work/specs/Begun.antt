@@ -11,7 +11,7 @@ use Rattle.integers.specs.Faults.{firstFault}
 use Rattle.table.specs.Table.{partCount, maxParts, maxCorners}
 use Rattle.minkowski.specs.Pairs.{noBounds, resultBounds, pairKinds}
 use Rattle.pair_numbers.specs.Numbers.{Keyed}
-use Rattle.minkowski_work.specs.Scratch.{Call, Walked}
+use Rattle.minkowski_work.specs.Scratch.{Call, BothWalked}
 use Rattle.pairs_job.specs.Job.{reflectedOf, leftOf, rightOf, shapeFault}
 use Rattle.pairs_work.specs.declared.Begun.{Begun}
 
@@ -44,7 +44,7 @@ callFault x = firstFault (pairKinds (x .reflected) (x .left) (x .right))
 -- the first fault of two operands; where there is none, the walks of both are there
 pub record PairsTold (x : Call) (points : List (List ℤ)) (firsts : List ℕ) (f : ℕ) : Type 0 where
   pub told : f ≡ callFault x
-  pub walked : f ≡ 0 → Walked x points firsts
+  pub walked : f ≡ 0 → BothWalked x points firsts
 
 abbrev pub refusedBegun : ℕ → Begun
 refusedBegun f = record { fault = f; left = 0; right = 0; bounds = noBounds }
@@ -58,13 +58,13 @@ acceptedBegun x = record {
 }
 
 -- how many parts each operand has, and the result's bounds; f is the fault number
-unfoldable pub begunOf : Call → ℕ → Begun
-begunOf x f = cond (eqb f 0) (acceptedBegun x) (refusedBegun f)
+unfoldable pub jobBegun : Call → ℕ → Begun
+jobBegun x f = cond (eqb f 0) (acceptedBegun x) (refusedBegun f)
 
 -- that answer, and where there is no fault the walks of both operands, which can be merged by their numbers
 pub record Begins (x : Call) (f : ℕ) (points : List (List ℤ)) (firsts numbers : List ℕ) (b : Begun) : Type 0 where
-  pub answer : b ≡ begunOf x f
-  pub walked : f ≡ 0 → Walked x points firsts
+  pub answer : b ≡ jobBegun x f
+  pub walked : f ≡ 0 → BothWalked x points firsts
   pub keyed : f ≡ 0 → Keyed firsts points numbers (partCount (x .left .starts)) (partCount (x .right .starts))
 
 -- of its own fault

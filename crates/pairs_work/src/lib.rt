@@ -56,7 +56,9 @@ fn pairs_fault(
     firsts: &mut [u32],
 ) -> u32
     requires { ⌜ Large (now points) (now firsts) ⌝ }
-    ensures { λ r. ⌜ PairsTold (callOf operation (now («left_starts» .entry)) (now («left_corners» .entry)) (now («right_starts» .entry)) (now («right_corners» .entry))) (now (points .exit)) (now (firsts .exit)) r ⌝ }
+    ensures { λ r.
+        let x = callOf operation (now («left_starts» .entry)) (now («left_corners» .entry)) (now («right_starts» .entry)) (now («right_corners» .entry)) in
+        ⌜ PairsTold x (now (points .exit)) (now (firsts .exit)) r ⌝ }
 {
     let fault = minkowski_faults::operands_fault(
         left_starts,
@@ -92,7 +94,9 @@ pub fn begin_operands(
     numbers: &mut [u64],
 ) -> Begun
     requires { ⌜ Places (now points) (now firsts) (now numbers) ⌝ }
-    ensures { λ r. ⌜ CallBegins (callOf operation (now («left_starts» .entry)) (now («left_corners» .entry)) (now («right_starts» .entry)) (now («right_corners» .entry))) (now (points .exit)) (now (firsts .exit)) (now (numbers .exit)) r ⌝ }
+    ensures { λ r.
+        let x = callOf operation (now («left_starts» .entry)) (now («left_corners» .entry)) (now («right_starts» .entry)) (now («right_corners» .entry)) in
+        ⌜ CallBegins x (now (points .exit)) (now (firsts .exit)) (now (numbers .exit)) r ⌝ }
 {
     let fault = pairs_fault(
         operation,
@@ -151,9 +155,9 @@ fn begin_shaped(
     begin_operands(
         operation,
         &left_starts[..l + 1],
-        &left_corners[..2 * m],
+        &left_corners[..corners::WIDTH * m],
         &right_starts[..r + 1],
-        &right_corners[..2 * n],
+        &right_corners[..corners::WIDTH * n],
         points,
         firsts,
         numbers,
@@ -174,9 +178,9 @@ pub fn begin_job(
         return refused(fault);
     }
     let mut left_starts = [0u32; STARTS];
-    let mut left_corners = [0i32; 2 * table::MAX_CORNERS];
+    let mut left_corners = [0i32; corners::WIDTH * table::MAX_CORNERS];
     let mut right_starts = [0u32; STARTS];
-    let mut right_corners = [0i32; 2 * table::MAX_CORNERS];
+    let mut right_corners = [0i32; corners::WIDTH * table::MAX_CORNERS];
     begin_shaped(
         bytes,
         &mut left_starts,

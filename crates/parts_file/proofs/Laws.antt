@@ -7,7 +7,7 @@ use borrow.Author.Tests.{eq-eqb, ne-eqb}
 use lib.ListN.{length, length-append, replicate, length-replicate}
 use Rattle.table.specs.Table.{startsOf, cornersOf}
 use Rattle.table.proofs.Parts.{length-starts}
-use Rattle.table.proofs.Corners.{length-numbers}
+use Rattle.corners.proofs.Corners.{length-numbers}
 use Rattle.table_write.specs.Written.{answerWritten, faultWritten}
 use Rattle.table_stored.proofs.RoundTrip.{read-back, bytes-told}
 use Rattle.table_read.specs.Read.{countsRead, startsRead, cornersRead}

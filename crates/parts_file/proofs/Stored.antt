@@ -16,7 +16,7 @@ use Rattle.table.specs.Stored.{storedOf, writeFault}
 use Rattle.table.specs.declared.Counts.{Counts}
 use Rattle.table.proofs.Answers.{accepted-buffer, refused-buffer}
 use Rattle.table.proofs.Parts.{length-starts}
-use Rattle.table.proofs.Corners.{length-numbers}
+use Rattle.corners.proofs.Corners.{length-numbers}
 use Rattle.table.proofs.StoredForm.{length-stored}
 use Rattle.table_write.specs.declared.Stored.{Stored}
 use Rattle.table_write.specs.Written.{answerWritten, bytesWritten}

@@ -11,7 +11,8 @@ use lib.ListN.{length, drop, getD, drop-of-length-le}
 use lib.Seq.{drop-cons}
 use lib.IntN.{ℤ}
 use Rattle.plane.specs.Plane.{Pt}
-use Rattle.table.specs.Table.{pointsOf, partsOf, tableParts, partCount}
+use Rattle.corners.specs.Corners.{pointsOf}
+use Rattle.table.specs.Table.{partsOf, tableParts, partCount}
 use Rattle.table.proofs.Parts.{length-parts}
 use Rattle.table.proofs.Rules.{result-ascends}
 use Rattle.placement.proofs.Bools.{or-none, or-all}

@@ -10,7 +10,8 @@ use Rattle.integers.proofs.Faults.{first-this, first-next, first-empty, first-n
 use Rattle.integers.proofs.Order.{by-test}
 use Rattle.integers.proofs.Tests.{differ, both-true}
 use Rattle.plane.specs.Plane.{Pt, inRange, onGrid}
-use Rattle.table.specs.Table.{resultBroken, offRange}
+use Rattle.corners.specs.Corners.{offRange}
+use Rattle.table.specs.Table.{resultBroken}
 use Rattle.placement.specs.Placement.{placeFault, Placeable}
 
 -- the place's numbers before the corners'

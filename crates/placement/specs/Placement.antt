@@ -12,7 +12,8 @@ use lib.Signed.{leZ, ltZ}
 use Rattle.integers.specs.Faults.{firstFault, faultRules, faultRange}
 use Rattle.integers.specs.Lists.{neighbours}
 use Rattle.plane.specs.Plane.{Pt, areaTwo, eqPt}
-use Rattle.table.specs.Table.{pointsOf, tableParts, resultBroken, offRange}
+use Rattle.corners.specs.Corners.{pointsOf, offRange}
+use Rattle.table.specs.Table.{tableParts, resultBroken}
 use Rattle.placement.specs.declared.Contact.{Contact}
 use Rattle.placement.specs.declared.Contact.the-variants.{Apart, Touching, Overlapping}
 use Rattle.placement.specs.declared.Placed.{Placed}

@@ -10,12 +10,13 @@ ghost use lib.IntN.{pos};
 ghost use lib.Signed.{leZ, ltZ};
 ghost use Rattle.plane.specs.Plane.{areaTwo, eqPt};
 ghost use Rattle.plane.specs.Machine.{point, OnGrid, CrossSize};
-ghost use Rattle.table.specs.Table.{pointsOf, offRange, tableParts, partCount};
+ghost use Rattle.corners.specs.Corners.{pointsOf, offRange};
+ghost use Rattle.table.specs.Table.{tableParts, partCount};
 ghost use Rattle.pair.specs.Walk.{cornerAt};
 ghost use Rattle.placement.specs.Placement.{among, contactIn, contactBy, placeFault, placedOf, EdgeAt, Placeable};
+use corners::corner_at;
+use corners::corner_count;
 use plane::IntPoint;
-use walk_read::corner_at;
-use walk_read::corner_count;
 
 // Where a place lies: inside no contour, on the rim of one and strictly inside none, strictly inside one.
 pub enum Contact {
@@ -40,7 +41,7 @@ fn place_fault(starts: &[u32], corners: &[i32], z: IntPoint) -> u32
     if !plane::on_grid(z) {
         return integers::fault::RANGE;
     }
-    if table::off_range(corners) {
+    if corners::off_range(corners) {
         return integers::fault::RANGE;
     }
     0
@@ -115,7 +116,9 @@ fn or_above(before: bool, s: i64) -> bool
 // Whether z, with side s of the edge from corner i to corner k, is left of it or the edge has no length, and so it was before.
 fn and_left(contour: &[i32], i: usize, k: usize, before: bool, s: i64) -> bool
     requires { ⌜ EdgeAt (now contour) i k ⌝ }
-    ensures { λ r. ⌜ r ≡ cond before (cond (ltZ (pos 0) s) true (eqPt (cornerAt (pointsOf (now (contour .entry))) i) (cornerAt (pointsOf (now (contour .entry))) k))) false ⌝ }
+    ensures { λ r.
+        let l = pointsOf (now (contour .entry)) in
+        ⌜ r ≡ cond before (cond (ltZ (pos 0) s) true (eqPt (cornerAt l i) (cornerAt l k))) false ⌝ }
 {
     if before {
         if s > 0 {

@@ -14,7 +14,8 @@ use Rattle.integers.proofs.Tests.{differ}
 use Rattle.integers.proofs.Elements.{all-map, all-flatten, any-map, any-iff}
 use Rattle.plane.specs.Plane.{Pt, onGrid}
 use Rattle.mesh.specs.Mesh.{Mesh}
-use Rattle.table.specs.Table.{startsOf, cornersOf, numbersOf, offRange}
+use Rattle.corners.specs.Corners.{numbersOf, offRange}
+use Rattle.table.specs.Table.{startsOf, cornersOf}
 use Rattle.table.proofs.Rules.{parts-table, parts-result}
 use Rattle.table.proofs.Answers.{starts-left, corners-left}
 use Rattle.pair.specs.Pair.{pairContour}
@@ -28,7 +29,7 @@ use Rattle.minkowski.proofs.EachPair.{length-pairs}
 use Rattle.minkowski_pairs.specs.Results.{pairCount}
 use Rattle.minkowski_pairs.proofs.Bounds.{result-within, pairs-all}
 use Rattle.split_operand.specs.Operand.{splitOperand}
-use Rattle.split_operand.proofs.Operand.{numbers-range}
+use Rattle.corners.proofs.Range.{numbers-range}
 use Rattle.cover.specs.Inside.{Inside}
 use Rattle.cover.specs.Overlap.{StrictlyInside}
 use Rattle.cover.specs.Wholes.{Covered}

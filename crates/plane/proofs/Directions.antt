@@ -1,6 +1,6 @@
 -- The direction order of document 01 ("Directions run from angle 0 up to a full turn"): a strict total order on the directions of
--- nonzero vectors. In order: the upper half (`Up`), where a cross at least 0 is transitive; the order as types (`Lt`, `Le`, `Same`)
--- and `angleCmp` deciding it (`angle-cases`); nonzero vectors (`Nz`); irreflexive, transitive, trichotomous, congruent for the same
+-- nonzero vectors (specs/Halves.antt). In order: the upper half (`Up`), where a cross at least 0 is transitive; the order as types (`Lt`, `Le`,
+-- `Same`) and `angleCmp` deciding it (`angle-cases`); irreflexive, transitive, trichotomous, congruent for the same
 -- direction; within a half a positive cross (`lt-in-half`); the same direction is cross 0 with a positive dot (`same-dot`).
 -- Assumes nothing.
 use mathlib.Core.Path.{_≡_, refl, sym, _∙_, ap, subst, subst₂}
@@ -18,15 +18,11 @@ use Rattle.integers.proofs.Tests.{zneeds, differ, <-ltZ, ≤-ltZ}
 use Rattle.plane.specs.declared.Ordering.{Ordering}
 use Rattle.plane.specs.declared.Ordering.the-variants.{Less, Equal, Greater}
 use Rattle.plane.specs.Plane.{Pt, O, _+ᵖ_, _-ᵖ_, negᵖ, cross, dot, lower, byCross, byHalves, angleCmp, isZero}
+use Rattle.plane.specs.Halves.{Up, above, level, sgn, Nz}
 use Rattle.plane.proofs.Terms.{_+E_, negE, crossE, dotE}
 use Rattle.plane.proofs.Vectors.{pt-eq, cross-self, cross-neg-neg, isZero-false}
 
 -- ---- the upper half
-
--- y above 0, or y = 0 with x above 0
-pub data Up (v : Pt) : Type 0 where
-  above : pos 0 <ℤ v .y → Up v
-  level : v .y ≡ pos 0 → pos 0 <ℤ v .x → Up v
 
 up-y : {v : Pt} → Up v → pos 0 ≤ℤ v .y
 up-y (above h) = omega zarith
@@ -129,15 +125,6 @@ angle-cases u v =
       | equal e s f ↦ beside e (record { half = s; flat = f })
       | greater e h ↦ after e (record { lt = h })
     ]
-
--- ---- nonzero vectors: up, or up when negated
-
-abbrev pub sgn : Bool → Pt → Pt
-sgn true v = negᵖ v
-sgn false v = v
-
-pub record Nz (v : Pt) : Type 0 where
-  pub nz : Up (sgn (lower v) v)
 
 -- ---- the laws
 

@@ -14,7 +14,8 @@ use Rattle.integers.proofs.Signs.{zero-cancel}
 use Rattle.plane.specs.Plane.{Pt, O, _+ᵖ_, _-ᵖ_, negᵖ, cross, areaTwo, lower, angleCmp, isLess}
 use Rattle.plane.proofs.Terms.{OE, _+E_, _-E_, negE, crossE, areaTwoE}
 use Rattle.plane.proofs.Vectors.{pt-eq, cross-neg-neg}
-use Rattle.plane.proofs.Directions.{Up, above, level, up-trans, LeAt, LtAt, Le, Lt, Same, before, beside, after, angle-cases, sgn, Nz, le-trans, lt-le, clash, same-le, lower-up, lower-down, nz-of-up, nz-of-down}
+use Rattle.plane.specs.Halves.{Up, above, level, sgn, Nz}
+use Rattle.plane.proofs.Directions.{up-trans, LeAt, LtAt, Le, Lt, Same, before, beside, after, angle-cases, le-trans, lt-le, clash, same-le, lower-up, lower-down, nz-of-up, nz-of-down}
 
 -- ---- equations of vectors
 

@@ -1,6 +1,6 @@
 // The area centroid of a contour, rounded to the grid, and whether it serves as the centre of a split: geom/centroid.rs and its use in
 // advanced/convex.rs. `centre_of` answers what `centreFound` says of a contour whose sums fit (`Summable`, specs/Centre.antt); that the divisions are in
-// range and the centre is on the grid is proved, where the Rust tests it. Leans on wide_divide, wide, convex_ring (a corner of a buffer) and plane.
+// range and the centre is on the grid is proved, where the Rust tests it. Leans on wide_divide, wide, points (a corner of a buffer) and plane.
 ghost use mathlib.Core.Path.{_≡_};
 ghost use mathlib.Core.List.{map};
 ghost use mathlib.Core.Bool.{true};
@@ -12,7 +12,7 @@ ghost use Rattle.integers.specs.Lists.{neighbours};
 ghost use Rattle.plane.specs.Plane.{cross};
 ghost use Rattle.plane.specs.Machine.{Extent, CrossSize, OnGrid, Short, point, vector};
 ghost use Rattle.wide.specs.Words.{value};
-ghost use Rattle.convex_ring.specs.Buffers.{cornerOf, Grid};
+ghost use Rattle.points.specs.Points.{cornerOf, Grid};
 ghost use Rattle.split.specs.Splitting.{rounded, leftOfAll};
 ghost use Rattle.split_centre.specs.Centre.{Summable, Roomy, Added, Summed, Placed, centroidFound, centreFound};
 use plane::IntPoint;
@@ -72,7 +72,7 @@ fn sums_of(contour: &[[i32; 2]]) -> Sums
     requires { ⌜ Summable (map cornerOf (now contour)) × (3 ≤ length (now contour)) ⌝ }
     ensures { λ r. ⌜ Summed (map cornerOf (now (contour .entry))) r ⌝ }
 {
-    let origin = convex_ring::corner_at(contour, 0);
+    let origin = points::point_at(contour, 0);
     let none = SignedProduct {
         negative: false,
         words: Words { high: 0, low: 0 },
@@ -82,10 +82,10 @@ fn sums_of(contour: &[[i32; 2]]) -> Sums
         x: none,
         y: none,
     };
-    let mut a = plane::subtract(convex_ring::corner_at(contour, 1), origin);
+    let mut a = plane::subtract(points::point_at(contour, 1), origin);
     let mut i: usize = 2;
     while i < contour.len() {
-        let b = plane::subtract(convex_ring::corner_at(contour, i), origin);
+        let b = plane::subtract(points::point_at(contour, i), origin);
         s = add_edge(s, a, b);
         a = b;
         i += 1;
@@ -131,7 +131,7 @@ pub fn polygon_centroid(contour: &[[i32; 2]]) -> Centre
     if s.area > MAX_CENTROID_AREA {
         return Centre::Unserved;
     }
-    let origin = convex_ring::corner_at(contour, 0);
+    let origin = points::point_at(contour, 0);
     let d = tripled(s.area);
     let x = s.x;
     let y = s.y;
@@ -146,17 +146,17 @@ fn strictly_inside(contour: &[[i32; 2]], g: IntPoint) -> bool
     requires { ⌜ Grid (now contour) × OnGrid g × (3 ≤ length (now contour)) ⌝ }
     ensures { λ r. ⌜ r ≡ leftOfAll (point g) (neighbours (map cornerOf (now (contour .entry)))) ⌝ }
 {
-    let mut a = convex_ring::corner_at(contour, 0);
+    let mut a = points::point_at(contour, 0);
     let mut i: usize = 1;
     while i < contour.len() {
-        let b = convex_ring::corner_at(contour, i);
+        let b = points::point_at(contour, i);
         if plane::area_two(a, b, g) <= 0 {
             return false;
         }
         a = b;
         i += 1;
     }
-    plane::area_two(a, convex_ring::corner_at(contour, 0), g) > 0
+    plane::area_two(a, points::point_at(contour, 0), g) > 0
 }
 
 // The centre to split a contour about, where it lies strictly inside.

@@ -9,12 +9,11 @@ use lib.ListN.{length, getD, set, take, drop, length-drop, length-map, length-se
 use lib.Seq.{take-suc, take-suc-set, getD-drop, length-take-le}
 use lib.IntN.{ℤ}
 use Rattle.plane.specs.Plane.{Pt, O}
-use Rattle.convex_ring.specs.Buffers.{cornerOf, cornerAt}
-use Rattle.convex_contour.specs.Contour.{Appended}
-use Rattle.convex_contour.proofs.Contours.{appended-more}
-use Rattle.convex_gather.specs.declared.Tally.{Tally}
-use Rattle.convex_gather.specs.Gather.{cornersIn, RoomFor, PartsAppended}
-use Rattle.convex_gather.proofs.Gathering.{none-appended, then-appended, part-appended, room-first, room-rest}
+use Rattle.points.specs.Points.{cornerOf, cornerIn, Appended, cornersIn}
+use Rattle.points.proofs.Points.{appended-more}
+use Rattle.points.specs.declared.Tally.{Tally}
+use Rattle.points.specs.Gathered.{RoomFor, PartsAppended}
+use Rattle.points.proofs.Gathering.{none-appended, then-appended, part-appended, room-first, room-rest}
 use Rattle.split_chords.specs.Runs.{runOf}
 
 -- ---- a point copied
@@ -28,7 +27,7 @@ row-appended points n row h = record {
 
 -- ---- runs of corners
 
-pub corner-in : (contour : List (List ℤ)) (i : ℕ) → getD (cornersIn contour) i O ≡ cornerAt contour i
+pub corner-in : (contour : List (List ℤ)) (i : ℕ) → getD (cornersIn contour) i O ≡ cornerIn contour i
 corner-in contour i = List·getD-map cornerOf contour i []
 
 pub length-run : (contour : List (List ℤ)) (i n : ℕ) → i + n ≤ length contour → length (runOf contour i n) ≡ n
@@ -36,16 +35,16 @@ length-run contour i n h =
     length-take-le n (drop i (cornersIn contour)) (omega (arith, length-drop i (cornersIn contour), length-map contour cornerOf))
 
 -- corners i .. i + n of the contour are corners i .. i + n - 1 and corner i + n
-pub run-more : (contour : List (List ℤ)) (i n : ℕ) → i + n < length contour → runOf contour i (n + 1) ≡ runOf contour i n ++ (cornerAt contour (i + n) ∷ [])
+pub run-more : (contour : List (List ℤ)) (i n : ℕ) → i + n < length contour → runOf contour i (n + 1) ≡ runOf contour i n ++ (cornerIn contour (i + n) ∷ [])
 run-more contour i n h =
     ap (λ k. runOf contour i k) (add-one n) ∙ take-suc (drop i (cornersIn contour)) n O (omega (arith, length-drop i (cornersIn contour), length-map contour cornerOf))
     ∙ ap (λ p. runOf contour i n ++ (p ∷ [])) (getD-drop i (cornersIn contour) n O ∙ corner-in contour (i + n))
 
 module _ (contour : List (List ℤ)) (i : ℕ) (points : List (List ℤ)) (count : ℕ) where
   -- the first k corners of a run are appended, and one more
-  pub run-turn : (k : ℕ) {points′ points″ : List (List ℤ)} {n m : ℕ} → i + k < length contour → Appended (runOf contour i k) points count points′ n → Appended (cornerAt contour (i + k) ∷ []) points′ n points″ m → Appended (runOf contour i (k + 1)) points count points″ m
+  pub run-turn : (k : ℕ) {points′ points″ : List (List ℤ)} {n m : ℕ} → i + k < length contour → Appended (runOf contour i k) points count points′ n → Appended (cornerIn contour (i + k) ∷ []) points′ n points″ m → Appended (runOf contour i (k + 1)) points count points″ m
   run-turn k {points″ = points″} {m = m} h a b =
-      subst (λ l. Appended l points count points″ m) (sym (run-more contour i k h)) (appended-more (runOf contour i k) (cornerAt contour (i + k) ∷ []) a b)
+      subst (λ l. Appended l points count points″ m) (sym (run-more contour i k h)) (appended-more (runOf contour i k) (cornerIn contour (i + k) ∷ []) a b)
 
 -- ---- one part
 

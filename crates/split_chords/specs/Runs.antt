@@ -4,7 +4,7 @@ use Prim.Native.Nat.{ℕ}
 use lib.ListN.{take, drop}
 use lib.IntN.{ℤ}
 use Rattle.plane.specs.Plane.{Pt}
-use Rattle.convex_gather.specs.Gather.{cornersIn}
+use Rattle.points.specs.Points.{cornersIn}
 
 -- n corners of a contour, from corner i on
 abbrev pub runOf : List (List ℤ) → ℕ → ℕ → List Pt

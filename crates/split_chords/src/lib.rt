@@ -1,5 +1,5 @@
 // A contour past the limit split by chords (advanced/convex.rs, `append_fan_parts`): the parts of `fanParts` of split/specs/Splitting.antt, appended to
-// those gathered. Here too is what each split uses: runs of corners appended, a part ended, the sizes of balanced groups. Leans on convex_gather
+// those gathered. Here too is what each split uses: runs of corners appended, a part ended, the sizes of balanced groups. Leans on points
 // and split's definitions.
 ghost use mathlib.Core.Path.{_≡_};
 ghost use mathlib.Core.Bool.{cond};
@@ -8,17 +8,16 @@ ghost use Prim.Native.Nat.{_+_, _<_, _≤_, _^_};
 ghost use lib.Dec.{ltb};
 ghost use lib.ListN.{length, set};
 ghost use Rattle.table.specs.Table.{maxContour};
-ghost use Rattle.convex_ring.specs.Buffers.{cornerAt};
-ghost use Rattle.convex_contour.specs.Contour.{Appended};
-ghost use Rattle.convex_gather.specs.Gather.{cornersIn, RoomFor, PartsAppended};
+ghost use Rattle.points.specs.Points.{cornerIn, Appended, cornersIn};
+ghost use Rattle.points.specs.Gathered.{RoomFor, PartsAppended};
 ghost use Rattle.split.specs.Splitting.{ceilDiv, fanParts};
 ghost use Rattle.split_chords.specs.Runs.{runOf};
-use convex_gather::Tally;
+use points::Tally;
 
 // Corner i of the contour is put after the first count points; answers the new count.
 pub fn append_point(contour: &[[i32; 2]], i: usize, points: &mut [[i32; 2]], count: usize) -> usize
     requires { ⌜ (i < length (now contour)) × (count < length (now points)) ⌝ }
-    ensures { λ r. ⌜ Appended (cornerAt (now (contour .entry)) i ∷ []) (now (points .entry)) count (now (points .exit)) r ⌝ }
+    ensures { λ r. ⌜ Appended (cornerIn (now (contour .entry)) i ∷ []) (now (points .entry)) count (now (points .exit)) r ⌝ }
 {
     let c = contour[i];
     points[count] = c;
@@ -51,7 +50,7 @@ pub fn end_part(starts: &mut [u32], t: Tally, n: usize) -> Tally
     ensures { λ r. ⌜ (now (starts .exit) ≡ set (now (starts .entry)) (t .parts + 1) n) × (r ≡ record { parts = t .parts + 1; corners = n }) ⌝ }
 {
     let parts = t.parts + 1;
-    convex_gather::put_start(starts, parts, n);
+    points::put_start(starts, parts, n);
     Tally {
         parts: parts,
         corners: n,
@@ -87,8 +86,8 @@ fn append_fan_part(
     t: Tally,
 ) -> Tally
     requires { ⌜ (start + size < length (now contour))
-        × RoomFor (now starts) (now points) t ((cornerAt (now contour) 0 ∷ runOf (now contour) start (size + 1)) ∷ []) ⌝ }
-    ensures { λ r. ⌜ PartsAppended ((cornerAt (now (contour .entry)) 0 ∷ runOf (now (contour .entry)) start (size + 1)) ∷ []) (now (starts .entry))
+        × RoomFor (now starts) (now points) t ((cornerIn (now contour) 0 ∷ runOf (now contour) start (size + 1)) ∷ []) ⌝ }
+    ensures { λ r. ⌜ PartsAppended ((cornerIn (now (contour .entry)) 0 ∷ runOf (now (contour .entry)) start (size + 1)) ∷ []) (now (starts .entry))
         (now (points .entry)) t (now (starts .exit)) (now (points .exit)) r ⌝ }
 {
     let first = append_point(contour, 0, points, t.corners);

@@ -13,10 +13,9 @@ use Rattle.plane.specs.Plane.{Pt}
 use Rattle.plane.specs.declared.IntPoint.{IntPoint}
 use Rattle.plane.specs.Machine.{point, OnGrid}
 use Rattle.plane.proofs.Size.{on-grid-both}
-use Rattle.convex_ring.specs.Buffers.{cornerOf, cornerAt}
-use Rattle.convex_contour.specs.Contour.{Appended}
-use Rattle.convex_gather.specs.declared.Tally.{Tally}
-use Rattle.convex_gather.specs.Gather.{cornersIn, RoomFor, PartsAppended}
+use Rattle.points.specs.Points.{cornerOf, cornerIn, Appended, cornersIn}
+use Rattle.points.specs.declared.Tally.{Tally}
+use Rattle.points.specs.Gathered.{RoomFor, PartsAppended}
 use Rattle.split.specs.declared.ConvexSplitStrategy.{ConvexSplitStrategy}
 use Rattle.split.specs.Splitting.{centreServes, centroidParts, centredParts, fanParts, splitBy, splitContour}
 use Rattle.split_centre.specs.declared.Centre.{Centre}
@@ -51,7 +50,7 @@ unserved-of true a e = absurd (let z : _≡_ {A = ℕ} 0 1 = cc in omega arith)
 unserved-of false a e = refl
 
 -- the parts about a centre that serves
-pub centre-at : (m : ℕ) (contour : List (List ℤ)) {g : IntPoint} → 0 < length contour → centreFound (cornersIn contour) ≡ At g → centredParts m (cornersIn contour) ≡ centroidParts m (point g) (cornerAt contour 0) (cornersIn contour)
+pub centre-at : (m : ℕ) (contour : List (List ℤ)) {g : IntPoint} → 0 < length contour → centreFound (cornersIn contour) ≡ At g → centredParts m (cornersIn contour) ≡ centroidParts m (point g) (cornerIn contour 0) (cornersIn contour)
 unfolding centreFound centredParts
 centre-at m [] n e = absurd (omega arith)
 centre-at m (r ∷ contour) n e =

@@ -1,12 +1,13 @@
 // One contour split, or left whole where it is within the limit (advanced/convex.rs, the choice in `convex_polygons`, and `append_centroid_parts`): the parts of
-// `splitContour` of split/specs/Splitting.antt, appended to those gathered. Leans on split_chords, split_ears, split_sectors, split_centre and convex_gather.
+// `splitContour` of split/specs/Splitting.antt, appended to those gathered. Leans on split_chords, split_ears, split_sectors, split_centre and points.
 ghost use mathlib.Core.List.{_∷_, []};
 ghost use Prim.Native.Nat.{_<_, _≤_};
 ghost use lib.ListN.{length};
 ghost use Rattle.split.specs.Splitting.{centredParts, splitContour};
 ghost use Rattle.split_centre.specs.Centre.{Summable};
-ghost use Rattle.convex_gather.specs.Gather.{cornersIn, RoomFor, PartsAppended};
-use convex_gather::Tally;
+ghost use Rattle.points.specs.Points.{cornersIn};
+ghost use Rattle.points.specs.Gathered.{RoomFor, PartsAppended};
+use points::Tally;
 use split::ConvexSplitStrategy;
 use split_centre::Centre;
 

@@ -12,9 +12,9 @@ use Rattle.integers.specs.Lists.{sumℕ, upTo}
 use Rattle.integers.proofs.Counting.{length-upTo, getD-upTo, map-getD-upTo}
 use Rattle.integers.proofs.Elements.{map-drop, map-take}
 use Rattle.plane.specs.Plane.{Pt, O}
-use Rattle.convex_ring.specs.Buffers.{cornerOf, cornerAt}
-use Rattle.convex_gather.specs.declared.Tally.{Tally}
-use Rattle.convex_gather.specs.Gather.{cornersIn, RoomFor, PartsAppended}
+use Rattle.points.specs.Points.{cornerOf, cornerIn, cornersIn}
+use Rattle.points.specs.declared.Tally.{Tally}
+use Rattle.points.specs.Gathered.{RoomFor, PartsAppended}
 use Rattle.split.specs.Splitting.{sharesFrom, shares, ceilDiv, triangleShares, clipped, earParts}
 use Rattle.split.proofs.Shares.{sum-shares}
 use Rattle.split_chords.proofs.Appending.{corner-in, Partway, partway-start, partway-room, partway-turn, partway-end}
@@ -24,7 +24,7 @@ use Rattle.split_ears.proofs.Ringing.{Ringed, ringed-start, ringed-ear,
 
 -- the ears from group i on, of n triangles in k groups, of the corners ks
 abbrev earsFrom : List (List ℤ) → ℕ → ℕ → ℕ → List ℕ → List (List Pt)
-earsFrom contour n k i ks = clipped (sharesFrom n k i (k - i)) (map (cornerAt contour) ks)
+earsFrom contour n k i ks = clipped (sharesFrom n k i (k - i)) (map (cornerIn contour) ks)
 
 -- the ears before group i are appended, and the ring holds what they leave, from corner start on
 pub record Clipping (contour : List (List ℤ)) (qs : List (List Pt)) (n k i start : ℕ) (ring s₀ : List ℕ) (p₀ : List (List ℤ)) (t₀ : Tally) (s : List ℕ) (p : List (List ℤ)) (t : Tally) : Type 0 where
@@ -35,7 +35,7 @@ pub record Clipping (contour : List (List ℤ)) (qs : List (List Pt)) (n k i sta
   pub partway : Partway qs (earsFrom contour n k i left) s₀ p₀ t₀ s p t
 
 -- all corners, by their numbers
-corners-all : (contour : List (List ℤ)) → map (cornerAt contour) (upTo (length contour)) ≡ cornersIn contour
+corners-all : (contour : List (List ℤ)) → map (cornerIn contour) (upTo (length contour)) ≡ cornersIn contour
 corners-all contour =
     ap (λ f. map f (upTo (length contour))) (λ j i. sym (corner-in contour i) j) ∙ map-getD-upTo (cornersIn contour) O (length contour) (omega (arith, length-map contour cornerOf))
     ∙ take-all (length contour) (cornersIn contour) (omega (arith, length-map contour cornerOf))
@@ -63,26 +63,26 @@ module _ (contour : List (List ℤ)) (s₀ : List ℕ) (p₀ : List (List ℤ)) 
       enough : m + 1 < length (f .left)
       enough = omega (arith, f .size, sum-next n k i h, e)
 
-      ear : take (m + 2) (map (cornerAt contour) (f .left)) ≡ cornerAt contour start ∷ cornersAfter contour ring start (m + 1)
+      ear : take (m + 2) (map (cornerIn contour) (f .left)) ≡ cornerIn contour start ∷ cornersAfter contour ring start (m + 1)
       ear =
           let q : m + 2 ≡ suc (m + 1) = omega arith in
-          ap (λ j. take j (map (cornerAt contour) (f .left))) q ∙ sym (ringed-ear ring (length contour) (f .left) (f .ringed) contour (m + 1) enough)
-          ∙ ap (λ j. cornerAt contour j ∷ cornersAfter contour ring j (m + 1)) (sym (f .here))
+          ap (λ j. take j (map (cornerIn contour) (f .left))) q ∙ sym (ringed-ear ring (length contour) (f .left) (f .ringed) contour (m + 1) enough)
+          ∙ ap (λ j. cornerIn contour j ∷ cornersAfter contour ring j (m + 1)) (sym (f .here))
 
-      left-corners : drop (m + 1) (map (cornerAt contour) (f .left)) ++ take 1 (map (cornerAt contour) (f .left)) ≡ map (cornerAt contour) rest
-      left-corners = ap₂ _++_ (sym (map-drop (cornerAt contour) (m + 1) (f .left))) (sym (map-take (cornerAt contour) 1 (f .left))) ∙ sym (map-append (cornerAt contour) (drop (m + 1) (f .left)) (take 1 (f .left)))
+      left-corners : drop (m + 1) (map (cornerIn contour) (f .left)) ++ take 1 (map (cornerIn contour) (f .left)) ≡ map (cornerIn contour) rest
+      left-corners = ap₂ _++_ (sym (map-drop (cornerIn contour) (m + 1) (f .left))) (sym (map-take (cornerIn contour) 1 (f .left))) ∙ sym (map-append (cornerIn contour) (drop (m + 1) (f .left)) (take 1 (f .left)))
 
-      next : earsFrom contour n k i (f .left) ≡ ((cornerAt contour start ∷ cornersAfter contour ring start (m + 1)) ∷ []) ++ earsFrom contour n k (i + 1) rest
+      next : earsFrom contour n k i (f .left) ≡ ((cornerIn contour start ∷ cornersAfter contour ring start (m + 1)) ∷ []) ++ earsFrom contour n k (i + 1) rest
       unfolding clipped
       next =
-          ap (λ ss. clipped ss (map (cornerAt contour) (f .left))) (shares-next n k i h ∙ ap (λ q. q ∷ sharesFrom n k (i + 1) (k - (i + 1))) (sym e))
+          ap (λ ss. clipped ss (map (cornerIn contour) (f .left))) (shares-next n k i h ∙ ap (λ q. q ∷ sharesFrom n k (i + 1) (k - (i + 1))) (sym e))
           ∙ ap₂ (λ q l. q ∷ clipped (sharesFrom n k (i + 1) (k - (i + 1))) l) ear left-corners
 
-      pub clipping-room : RoomFor s₀ p₀ t₀ qs → RoomFor s p t ((cornerAt contour start ∷ cornersAfter contour ring start (m + 1)) ∷ [])
-      clipping-room r = partway-room qs s₀ p₀ t₀ ((cornerAt contour start ∷ cornersAfter contour ring start (m + 1)) ∷ []) (earsFrom contour n k (i + 1) rest) r (f .partway) next
+      pub clipping-room : RoomFor s₀ p₀ t₀ qs → RoomFor s p t ((cornerIn contour start ∷ cornersAfter contour ring start (m + 1)) ∷ [])
+      clipping-room r = partway-room qs s₀ p₀ t₀ ((cornerIn contour start ∷ cornersAfter contour ring start (m + 1)) ∷ []) (earsFrom contour n k (i + 1) rest) r (f .partway) next
 
       module _ {ring′ : List ℕ} {start′ : ℕ} {s′ : List ℕ} {p′ : List (List ℤ)} {t′ : Tally} where
-        pub clipping-turn : (ring′ ≡ set ring start (stepped ring start (m + 1))) × PartsAppended ((cornerAt contour start ∷ cornersAfter contour ring start (m + 1)) ∷ []) s p t s′ p′ t′ → start′ ≡ getD ring′ start 0 → Clipping contour qs n k (i + 1) start′ ring′ s₀ p₀ t₀ s′ p′ t′
+        pub clipping-turn : (ring′ ≡ set ring start (stepped ring start (m + 1))) × PartsAppended ((cornerIn contour start ∷ cornersAfter contour ring start (m + 1)) ∷ []) s p t s′ p′ t′ → start′ ≡ getD ring′ start 0 → Clipping contour qs n k (i + 1) start′ ring′ s₀ p₀ t₀ s′ p′ t′
         clipping-turn a b =
             let c : ring′ ≡ set ring (getD (f .left) 0 0) (stepped ring (getD (f .left) 0 0) (m + 1)) = a .0 ∙ ap (λ j. set ring j (stepped ring j (m + 1))) (f .here) in
             record {
@@ -90,9 +90,9 @@ module _ (contour : List (List ℤ)) (s₀ : List ℕ) (p₀ : List (List ℤ)) 
               ringed = ringed-turn ring (length contour) (f .left) (f .ringed) (m + 1) (omega arith) enough c;
               here = b ∙ ap (λ j. getD ring′ j 0) (f .here) ∙ ringed-next ring (length contour) (f .left) (f .ringed) (m + 1) (omega arith) enough c;
               size = omega (arith, f .size, sum-next n k i h, e, length-append (drop (m + 1) (f .left)) (take 1 (f .left)), length-drop (m + 1) (f .left), length-take-le 1 (f .left) (omega (arith, enough)));
-              partway = partway-turn qs s₀ p₀ t₀ ((cornerAt contour start ∷ cornersAfter contour ring start (m + 1)) ∷ []) (f .partway) next (a .1);
+              partway = partway-turn qs s₀ p₀ t₀ ((cornerIn contour start ∷ cornersAfter contour ring start (m + 1)) ∷ []) (f .partway) next (a .1);
             }
 
     pub clipping-end : k ≤ i → PartsAppended qs s₀ p₀ t₀ s p t
     unfolding clipped
-    clipping-end h = partway-end qs s₀ p₀ t₀ (f .partway) (ap (λ ss. clipped ss (map (cornerAt contour) (f .left))) (shares-none n k i h))
+    clipping-end h = partway-end qs s₀ p₀ t₀ (f .partway) (ap (λ ss. clipped ss (map (cornerIn contour) (f .left))) (shares-none n k i h))

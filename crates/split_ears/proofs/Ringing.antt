@@ -14,9 +14,8 @@ use lib.IntN.{ℤ}
 use Rattle.integers.specs.Lists.{upTo}
 use Rattle.integers.proofs.Order.{by-test}
 use Rattle.integers.proofs.Counting.{upTo-suc, length-upTo, getD-upTo}
-use Rattle.convex_ring.specs.Buffers.{cornerAt}
-use Rattle.convex_contour.specs.Contour.{Appended}
-use Rattle.convex_contour.proofs.Contours.{appended-none, appended-more}
+use Rattle.points.specs.Points.{cornerIn, Appended}
+use Rattle.points.proofs.Points.{appended-none, appended-more}
 use Rattle.split_ears.specs.Rings.{stepped, cornersAfter, Ring, Fresh}
 
 -- ---- filled
@@ -59,10 +58,10 @@ module _ (ring : List ℕ) (i k : ℕ) {ring′ : List ℕ} where
 
 module _ (contour : List (List ℤ)) (ring : List ℕ) (i : ℕ) where
   pub length-after : (n : ℕ) → length (cornersAfter contour ring i n) ≡ n
-  length-after n = length-map (upTo n) (λ k. cornerAt contour (stepped ring i (suc k))) ∙ length-upTo n
+  length-after n = length-map (upTo n) (λ k. cornerIn contour (stepped ring i (suc k))) ∙ length-upTo n
 
-  pub after-more : (k : ℕ) → cornersAfter contour ring i (suc k) ≡ cornersAfter contour ring i k ++ (cornerAt contour (stepped ring i (suc k)) ∷ [])
-  after-more k = ap (map (λ j. cornerAt contour (stepped ring i (suc j)))) (upTo-suc k) ∙ map-append (λ j. cornerAt contour (stepped ring i (suc j))) (upTo k) (k ∷ [])
+  pub after-more : (k : ℕ) → cornersAfter contour ring i (suc k) ≡ cornersAfter contour ring i k ++ (cornerIn contour (stepped ring i (suc k)) ∷ [])
+  after-more k = ap (map (λ j. cornerIn contour (stepped ring i (suc j)))) (upTo-suc k) ∙ map-append (λ j. cornerIn contour (stepped ring i (suc j))) (upTo k) (k ∷ [])
 
   -- no corner is appended
   pub after-none : (p : List (List ℤ)) (n : ℕ) → Appended (cornersAfter contour ring i 0) p n p (n + 0)
@@ -70,12 +69,12 @@ module _ (contour : List (List ℤ)) (ring : List ℕ) (i : ℕ) where
   after-none p n = let q : n ≡ n + 0 = omega arith in subst (λ m. Appended [] p n p m) q (appended-none p n)
 
   -- k corners are appended, and one more
-  pub after-turn : (k : ℕ) {e n : ℕ} {p p′ p″ : List (List ℤ)} {m : ℕ} → e ≡ stepped ring i (k + 1) → Appended (cornersAfter contour ring i k) p n p′ (n + k) → Appended (cornerAt contour e ∷ []) p′ (n + k) p″ m → Appended (cornersAfter contour ring i (k + 1)) p n p″ (n + (k + 1))
+  pub after-turn : (k : ℕ) {e n : ℕ} {p p′ p″ : List (List ℤ)} {m : ℕ} → e ≡ stepped ring i (k + 1) → Appended (cornersAfter contour ring i k) p n p′ (n + k) → Appended (cornerIn contour e ∷ []) p′ (n + k) p″ m → Appended (cornersAfter contour ring i (k + 1)) p n p″ (n + (k + 1))
   after-turn k {e} {n} {p} {p″ = p″} {m = m} f a b =
       let q : m ≡ n + (k + 1) = omega (arith, b .count) in
-      let l : cornersAfter contour ring i k ++ (cornerAt contour e ∷ []) ≡ cornersAfter contour ring i (k + 1) =
-      ap (λ j. cornersAfter contour ring i k ++ (cornerAt contour j ∷ [])) (f ∙ ap (stepped ring i) (add-one k)) ∙ sym (after-more k) ∙ ap (cornersAfter contour ring i) (sym (add-one k)) in
-      subst (λ r. Appended (cornersAfter contour ring i (k + 1)) p n p″ r) q (subst (λ r. Appended r p n p″ m) l (appended-more (cornersAfter contour ring i k) (cornerAt contour e ∷ []) a b))
+      let l : cornersAfter contour ring i k ++ (cornerIn contour e ∷ []) ≡ cornersAfter contour ring i (k + 1) =
+      ap (λ j. cornersAfter contour ring i k ++ (cornerIn contour j ∷ [])) (f ∙ ap (stepped ring i) (add-one k)) ∙ sym (after-more k) ∙ ap (cornersAfter contour ring i) (sym (add-one k)) in
+      subst (λ r. Appended (cornersAfter contour ring i (k + 1)) p n p″ r) q (subst (λ r. Appended r p n p″ m) l (appended-more (cornersAfter contour ring i k) (cornerIn contour e ∷ []) a b))
 
 -- ---- the corners not yet clipped
 
@@ -115,14 +114,14 @@ module _ (ring : List ℕ) (n : ℕ) (ks : List ℕ) (r : Ringed ring n ks) wher
   ringed-steps (suc j) h = ap (λ i. getD ring i 0) (ringed-steps j (omega arith)) ∙ r .linked j (omega arith) ∙ ap (λ i. getD ks i 0) (add-one j)
 
   -- the first and the m after it
-  pub ringed-ear : (contour : List (List ℤ)) (m : ℕ) → m < length ks → cornerAt contour (getD ks 0 0) ∷ cornersAfter contour ring (getD ks 0 0) m ≡ take (suc m) (map (cornerAt contour) ks)
+  pub ringed-ear : (contour : List (List ℤ)) (m : ℕ) → m < length ks → cornerIn contour (getD ks 0 0) ∷ cornersAfter contour ring (getD ks 0 0) m ≡ take (suc m) (map (cornerIn contour) ks)
   unfolding upTo
-  ringed-ear contour zero h = sym (take-suc (map (cornerAt contour) ks) 0 (cornerAt contour 0) (omega (arith, length-map ks (cornerAt contour))) ∙ ap (λ p. p ∷ []) (List·getD-map (cornerAt contour) ks 0 0))
+  ringed-ear contour zero h = sym (take-suc (map (cornerIn contour) ks) 0 (cornerIn contour 0) (omega (arith, length-map ks (cornerIn contour))) ∙ ap (λ p. p ∷ []) (List·getD-map (cornerIn contour) ks 0 0))
   ringed-ear contour (suc m) h =
-      ap (λ q. cornerAt contour (getD ks 0 0) ∷ q) (after-more contour ring (getD ks 0 0) m) ∙ ap (λ q. q ++ (cornerAt contour (stepped ring (getD ks 0 0) (suc m)) ∷ [])) (ringed-ear contour m (omega arith))
-      ∙ ap (λ k. take (suc m) (map (cornerAt contour) ks) ++ (cornerAt contour k ∷ [])) (ringed-steps (suc m) h)
-      ∙ ap (λ p. take (suc m) (map (cornerAt contour) ks) ++ (p ∷ [])) (sym (List·getD-map (cornerAt contour) ks (suc m) 0))
-      ∙ sym (take-suc (map (cornerAt contour) ks) (suc m) (cornerAt contour 0) (omega (arith, length-map ks (cornerAt contour))))
+      ap (λ q. cornerIn contour (getD ks 0 0) ∷ q) (after-more contour ring (getD ks 0 0) m) ∙ ap (λ q. q ++ (cornerIn contour (stepped ring (getD ks 0 0) (suc m)) ∷ [])) (ringed-ear contour m (omega arith))
+      ∙ ap (λ k. take (suc m) (map (cornerIn contour) ks) ++ (cornerIn contour k ∷ [])) (ringed-steps (suc m) h)
+      ∙ ap (λ p. take (suc m) (map (cornerIn contour) ks) ++ (p ∷ [])) (sym (List·getD-map (cornerIn contour) ks (suc m) 0))
+      ∙ sym (take-suc (map (cornerIn contour) ks) (suc m) (cornerIn contour 0) (omega (arith, length-map ks (cornerIn contour))))
 
   -- after the first comes the one m places on, and those between are passed over
   module _ (m : ℕ) (some : 0 < m) (few : m < length ks) {ring′ : List ℕ} (e : ring′ ≡ set ring (getD ks 0 0) (stepped ring (getD ks 0 0) m)) where

@@ -7,7 +7,7 @@ use lib.ListN.{length, getD}
 use lib.IntN.{ℤ}
 use Rattle.integers.specs.Lists.{upTo}
 use Rattle.plane.specs.Plane.{Pt}
-use Rattle.convex_ring.specs.Buffers.{cornerAt}
+use Rattle.points.specs.Points.{cornerIn}
 
 -- where k steps from i lead
 unfoldable pub stepped : List ℕ → ℕ → ℕ → ℕ
@@ -16,7 +16,7 @@ stepped ring i (suc k) = getD ring (stepped ring i k) 0
 
 -- the n corners of the contour after corner i, round the ring
 abbrev pub cornersAfter : List (List ℤ) → List ℕ → ℕ → ℕ → List Pt
-cornersAfter contour ring i n = map (λ k. cornerAt contour (stepped ring i (suc k))) (upTo n)
+cornersAfter contour ring i n = map (λ k. cornerIn contour (stepped ring i (suc k))) (upTo n)
 
 -- no step leaves the n corners
 pub record Ring (ring : List ℕ) (n : ℕ) : Type 0 where

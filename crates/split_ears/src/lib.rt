@@ -1,17 +1,16 @@
 // A contour past the limit split by ear clipping (advanced/convex.rs, `append_ear_clipping_parts`): the parts of `earParts` of
 // split/specs/Splitting.antt, appended to those gathered. The corners not yet clipped stand in a ring (specs/Rings.antt), which only `next_of` and
-// `set_next` touch. Leans on split_chords and convex_gather.
+// `set_next` touch. Leans on split_chords and points.
 ghost use mathlib.Core.Path.{_≡_};
 ghost use mathlib.Core.List.{_∷_, []};
 ghost use Prim.Native.Nat.{_+_, _<_, _≤_};
 ghost use lib.ListN.{length, getD, set};
 ghost use Rattle.table.specs.Table.{maxContour};
-ghost use Rattle.convex_ring.specs.Buffers.{cornerAt};
-ghost use Rattle.convex_contour.specs.Contour.{Appended};
-ghost use Rattle.convex_gather.specs.Gather.{cornersIn, RoomFor, PartsAppended};
+ghost use Rattle.points.specs.Points.{cornerIn, Appended, cornersIn};
+ghost use Rattle.points.specs.Gathered.{RoomFor, PartsAppended};
 ghost use Rattle.split.specs.Splitting.{earParts};
 ghost use Rattle.split_ears.specs.Rings.{stepped, cornersAfter, Ring, Fresh};
-use convex_gather::Tally;
+use points::Tally;
 use table::MAX_CONTOUR;
 
 // The corner after corner i.
@@ -81,9 +80,9 @@ fn append_ear(
     requires { ⌜ (start < length (now contour))
         × (length (now contour) ≤ maxContour)
         × Ring (now ring) (length (now contour))
-        × RoomFor (now starts) (now points) t ((cornerAt (now contour) start ∷ cornersAfter (now contour) (now ring) start (size + 1)) ∷ []) ⌝ }
+        × RoomFor (now starts) (now points) t ((cornerIn (now contour) start ∷ cornersAfter (now contour) (now ring) start (size + 1)) ∷ []) ⌝ }
     ensures { λ r. ⌜ (now (ring .exit) ≡ set (now (ring .entry)) start (stepped (now (ring .entry)) start (size + 1)))
-        × PartsAppended ((cornerAt (now (contour .entry)) start ∷ cornersAfter (now (contour .entry)) (now (ring .entry)) start (size + 1)) ∷ [])
+        × PartsAppended ((cornerIn (now (contour .entry)) start ∷ cornersAfter (now (contour .entry)) (now (ring .entry)) start (size + 1)) ∷ [])
         (now (starts .entry)) (now (points .entry)) t (now (starts .exit)) (now (points .exit)) r ⌝ }
 {
     let first = split_chords::append_point(contour, start, points, t.corners);

@@ -8,16 +8,15 @@ use lib.IntN.{ℤ, pos}
 use lib.Signed.{_≤ℤ_}
 use Rattle.integers.specs.Lists.{All}
 use Rattle.integers.specs.Faults.{firstFault}
-use Rattle.integers.proofs.Order.{by-test}
-use Rattle.integers.proofs.Tests.{differ}
 use Rattle.integers.proofs.Faults.{first-next}
 use Rattle.integers.proofs.Elements.{all-map2, all-flatten}
-use Rattle.plane.specs.Plane.{Pt, inRange, onGrid}
+use Rattle.plane.specs.Plane.{Pt, onGrid}
 use Rattle.plane.specs.Contour.{contourArea}
 use Rattle.mesh.specs.Mesh.{Mesh, meshKinds}
 use Rattle.mesh.proofs.Accepted.{accepted}
-use Rattle.table.specs.Table.{numbersOf, cornersOf, offRange, boundsList, boundsBroken}
-use Rattle.table.proofs.Corners.{points-numbers}
+use Rattle.table.specs.Table.{cornersOf, boundsList, boundsBroken}
+use Rattle.corners.proofs.Corners.{points-numbers}
+use Rattle.corners.proofs.Range.{numbers-range}
 use Rattle.table.proofs.Rules.{parts-table}
 use Rattle.pair.specs.Walk.{windingLeaves}
 use Rattle.split.specs.declared.ConvexSplitStrategy.{ConvexSplitStrategy}
@@ -29,18 +28,6 @@ use Rattle.split_pairs.proofs.Joined.{areas-fit}
 use Rattle.split_pairs.proofs.Theorem.{split-polygons, split-on-grid}
 use Rattle.split_operand.specs.Operand.{SplitIsOperand, SplitPairs}
 use Rattle.split_operand.proofs.Running.{winding-stays}
-
--- ---- coordinates
-
--- both coordinates
-grid-range : (p : Pt) → onGrid p ≡ true → (inRange (p .x) ≡ true) × (inRange (p .y) ≡ true)
-unfolding onGrid
-grid-range p h = by-test (inRange (p .x)) (λ e. (e, rw e at h)) (λ e. differ (rw e at h))
-
-pub numbers-range : (l : List Pt) (more : List ℤ) → All (λ p. onGrid p ≡ true) l → offRange more ≡ false → offRange (numbersOf l ++ more) ≡ false
-unfolding numbersOf offRange
-numbers-range [] more h k = k
-numbers-range (p ∷ l) more h k = let g = grid-range p (h .0) in rw (g .0, g .1) (numbers-range l more (h .1) k)
 
 -- ---- windings
 

@@ -7,7 +7,8 @@ use lib.Dec.{eqb}
 use Rattle.integers.specs.Faults.{firstFault, faultEmpty, faultResult}
 use Rattle.mesh.specs.Mesh.{Mesh, meshKinds}
 use Rattle.table.specs.declared.IntRect.{IntRect}
-use Rattle.table.specs.Table.{pointsOf, startsOf, cornersOf, tableBroken, offRange, boundsList, boundsBroken, partCount}
+use Rattle.corners.specs.Corners.{pointsOf, offRange}
+use Rattle.table.specs.Table.{startsOf, cornersOf, tableBroken, boundsList, boundsBroken, partCount}
 use Rattle.split.specs.declared.ConvexSplitStrategy.{ConvexSplitStrategy}
 use Rattle.split.specs.Splitting.{splitParts}
 use Rattle.minkowski.specs.Pairs.{Operand, operandParts, operandOff, someWindingLeaves, resultBounds, pairKinds}

@@ -23,11 +23,11 @@ use Rattle.table.specs.Table.{startsFrom, startsOf, partsOf}
 use Rattle.table.proofs.Parts.{parts-starts}
 use Rattle.convex.specs.Joining.{parts}
 use Rattle.convex.proofs.Sizes.{parts-corners}
-use Rattle.convex_contour.specs.Contour.{firstPoints}
-use Rattle.convex_gather.specs.declared.Tally.{Tally}
-use Rattle.convex_gather.specs.Gather.{Gathered, RoomFor, PartsAppended}
-use Rattle.convex_gather.proofs.Reading.{PartPlaced, enough-starts, part-placed}
-use Rattle.convex_gather.proofs.Gathering.{then-appended, room-first, room-rest}
+use Rattle.points.specs.Points.{firstPoints}
+use Rattle.points.specs.declared.Tally.{Tally}
+use Rattle.points.specs.Gathered.{Gathered, RoomFor, PartsAppended}
+use Rattle.points.proofs.Reading.{PartPlaced, enough-starts, part-placed}
+use Rattle.points.proofs.Gathering.{then-appended, room-first, room-rest}
 use Rattle.split.specs.declared.ConvexSplitStrategy.{ConvexSplitStrategy}
 use Rattle.split.specs.Splitting.{raised, splitContour, splitParts}
 use Rattle.split.proofs.Sizes.{split-parts-few}

@@ -7,9 +7,9 @@ use lib.IntN.{ℤ}
 use Rattle.integers.specs.Lists.{All}
 use Rattle.plane.specs.Plane.{Pt}
 use Rattle.table.specs.Table.{partsOf}
-use Rattle.convex_contour.specs.Contour.{firstPoints}
-use Rattle.convex_gather.specs.declared.Tally.{Tally}
-use Rattle.convex_gather.specs.Gather.{Gathered}
+use Rattle.points.specs.Points.{firstPoints}
+use Rattle.points.specs.declared.Tally.{Tally}
+use Rattle.points.specs.Gathered.{Gathered}
 use Rattle.split.specs.declared.ConvexSplitStrategy.{ConvexSplitStrategy}
 use Rattle.split.specs.Splitting.{splitContour}
 use Rattle.split_centre.specs.Centre.{Summable}

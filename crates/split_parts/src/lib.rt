@@ -11,13 +11,13 @@ ghost use Rattle.mesh.specs.Mesh.{maxTriangles, meshKinds};
 ghost use Rattle.mesh.specs.Rows.{rowsMesh};
 ghost use Rattle.convex_regions.specs.Parts.{tiny, small, medium};
 ghost use Rattle.split.specs.Splitting.{splitContour, SplitAnswered, splitCounts, splitStarts, splitCorners};
-ghost use Rattle.convex_gather.specs.Gather.{Gathered, RoomFor, PartsAppended};
+ghost use Rattle.points.specs.Gathered.{Gathered, RoomFor, PartsAppended};
 ghost use Rattle.split_parts.specs.Parts.{partsIn, Splittable, splitEach, WorkRoom};
-use convex_gather::Tally;
 use convex_regions::MEDIUM;
 use convex_regions::SMALL;
 use convex_regions::TINY;
 use mesh::Row;
+use points::Tally;
 use split::ConvexSplitStrategy;
 use table::Counts;
 
@@ -60,7 +60,7 @@ fn split_all(
         × RoomFor (now starts) (now points) (record { parts = 0; corners = 0 }) (splitEach strategy limit (partsIn (now begins) (now joined) u)) ⌝ }
     ensures { λ r. ⌜ Gathered (now (starts .exit)) (now (points .exit)) r (splitEach strategy limit (partsIn (now (begins .entry)) (now (joined .entry)) u)) ⌝ }
 {
-    convex_gather::put_start(starts, 0, 0);
+    points::put_start(starts, 0, 0);
     let mut t = Tally {
         parts: 0,
         corners: 0,

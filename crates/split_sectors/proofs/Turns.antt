@@ -14,9 +14,9 @@ use lib.IntN.{ℤ, pos}
 use lib.Signed.{ltZ}
 use Rattle.integers.specs.Lists.{sumℕ}
 use Rattle.plane.specs.Plane.{Pt, O, areaTwo}
-use Rattle.convex_ring.specs.Buffers.{cornerOf, cornerAt}
-use Rattle.convex_gather.specs.declared.Tally.{Tally}
-use Rattle.convex_gather.specs.Gather.{cornersIn, RoomFor, PartsAppended}
+use Rattle.points.specs.Points.{cornerOf, cornerIn, cornersIn}
+use Rattle.points.specs.declared.Tally.{Tally}
+use Rattle.points.specs.Gathered.{RoomFor, PartsAppended}
 use Rattle.split.specs.Splitting.{sharesFrom, shares, ceilDiv, taking, edgesTaken, groupParts, sectors, centroidParts}
 use Rattle.split.proofs.Shares.{sum-shares}
 use Rattle.split.proofs.Sectors.{edgesTaken-le, groupParts-enough}
@@ -107,10 +107,10 @@ pub record Sectoring (contour : List (List ℤ)) (g : Pt) (qs : List (List Pt)) 
   pub partway : Partway qs (sectorsFrom contour g n k i start) s₀ p₀ t₀ s p t
 
 module _ (contour : List (List ℤ)) (g : Pt) (s₀ : List ℕ) (p₀ : List (List ℤ)) (t₀ : Tally) where
-  pub sectoring-start : (limit : ℕ) {k : ℕ} → 0 < k → k ≡ ceilDiv (length contour) (limit - 2) → Sectoring contour g (centroidParts limit g (cornerAt contour 0) (cornersIn contour)) (length contour) k 0 0 s₀ p₀ t₀ s₀ p₀ t₀
+  pub sectoring-start : (limit : ℕ) {k : ℕ} → 0 < k → k ≡ ceilDiv (length contour) (limit - 2) → Sectoring contour g (centroidParts limit g (cornerIn contour 0) (cornersIn contour)) (length contour) k 0 0 s₀ p₀ t₀ s₀ p₀ t₀
   sectoring-start limit {k} some e = record {
     size = omega (arith, ap sumℕ (shares-all (length contour) k), sum-shares (length contour) k some);
-    partway = partway-start (centroidParts limit g (cornerAt contour 0) (cornersIn contour)) s₀ p₀ t₀
+    partway = partway-start (centroidParts limit g (cornerIn contour 0) (cornersIn contour)) s₀ p₀ t₀
         (ap (λ ss. sectors ss g (closedOf contour))
         (shares-all (length contour) k ∙ ap (shares (length contour)) e ∙ ap (λ n. shares n (ceilDiv n (limit - 2))) (sym (length-map contour cornerOf))));
   }

@@ -4,12 +4,11 @@ use Prim.Native.Nat.{ℕ}
 use lib.ListN.{take, drop}
 use lib.IntN.{ℤ}
 use Rattle.plane.specs.Plane.{Pt}
-use Rattle.convex_ring.specs.Buffers.{cornerAt}
-use Rattle.convex_gather.specs.Gather.{cornersIn}
+use Rattle.points.specs.Points.{cornerIn, cornersIn}
 
 -- the corners, and the first once more
 abbrev pub closedOf : List (List ℤ) → List Pt
-closedOf contour = cornersIn contour ++ (cornerAt contour 0 ∷ [])
+closedOf contour = cornersIn contour ++ (cornerIn contour 0 ∷ [])
 
 -- n of these from corner i on
 abbrev pub arcOf : List (List ℤ) → ℕ → ℕ → List Pt

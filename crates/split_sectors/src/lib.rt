@@ -1,5 +1,5 @@
 // A contour past the limit split about a centre (advanced/convex.rs, the loop of `append_centroid_parts`): the parts of `centroidParts` of
-// split/specs/Splitting.antt, appended to those gathered. Which centre, and whether it serves, is not said here. Leans on split_chords, convex_gather,
+// split/specs/Splitting.antt, appended to those gathered. Which centre, and whether it serves, is not said here. Leans on split_chords, points,
 // convex_ring and plane.
 ghost use mathlib.Core.Path.{_≡_};
 ghost use mathlib.Core.List.{_∷_, []};
@@ -10,13 +10,12 @@ ghost use lib.Signed.{ltZ};
 ghost use Rattle.table.specs.Table.{maxContour};
 ghost use Rattle.plane.specs.Plane.{O, areaTwo};
 ghost use Rattle.plane.specs.Machine.{point, OnGrid};
-ghost use Rattle.convex_ring.specs.Buffers.{cornerAt, Grid};
-ghost use Rattle.convex_contour.specs.Contour.{Appended};
-ghost use Rattle.convex_gather.specs.Gather.{cornersIn, RoomFor, PartsAppended};
+ghost use Rattle.points.specs.Points.{cornerIn, Grid, Appended, cornersIn};
+ghost use Rattle.points.specs.Gathered.{RoomFor, PartsAppended};
 ghost use Rattle.split.specs.Splitting.{edgesTaken, groupParts, centroidParts};
 ghost use Rattle.split_sectors.specs.Arcs.{closedOf, arcOf};
-use convex_gather::Tally;
 use plane::IntPoint;
+use points::Tally;
 
 // Corner i, or the first after the last.
 fn corner_round(contour: &[[i32; 2]], i: usize) -> IntPoint
@@ -24,9 +23,9 @@ fn corner_round(contour: &[[i32; 2]], i: usize) -> IntPoint
     ensures { λ r. ⌜ (point r ≡ getD (closedOf (now (contour .entry))) i O) × OnGrid r ⌝ }
 {
     if i < contour.len() {
-        return convex_ring::corner_at(contour, i);
+        return points::point_at(contour, i);
     }
-    convex_ring::corner_at(contour, 0)
+    points::point_at(contour, 0)
 }
 
 // Whether the centre, a and b make a positive turn.
@@ -42,7 +41,7 @@ fn sector_end(contour: &[[i32; 2]], centre: IntPoint, start: usize, target: usiz
     requires { ⌜ (start < target) × (target ≤ length (now contour)) × Grid (now contour) × OnGrid centre ⌝ }
     ensures { λ r. ⌜ r ≡ start + edgesTaken (point centre) (target - start) (drop start (closedOf (now (contour .entry)))) ⌝ }
 {
-    let a = convex_ring::corner_at(contour, start);
+    let a = points::point_at(contour, start);
     let mut end = start + 1;
     while end < target {
         let b = corner_round(contour, end + 1);
@@ -91,7 +90,7 @@ fn append_sector(
         (now (starts .exit)) (now (points .exit)) r ⌝ }
 {
     let count = t.corners;
-    convex_ring::put_corner(points, count, centre);
+    points::put_point(points, count, centre);
     let total = append_arc(contour, start, n + 1, points, count + 1);
     split_chords::end_part(starts, t, total)
 }
@@ -138,8 +137,8 @@ pub fn append_sectors(
         × (length (now contour) ≤ maxContour)
         × Grid (now contour)
         × OnGrid centre
-        × RoomFor (now starts) (now points) t (centroidParts limit (point centre) (cornerAt (now contour) 0) (cornersIn (now contour))) ⌝ }
-    ensures { λ r. ⌜ PartsAppended (centroidParts limit (point centre) (cornerAt (now (contour .entry)) 0) (cornersIn (now (contour .entry))))
+        × RoomFor (now starts) (now points) t (centroidParts limit (point centre) (cornerIn (now contour) 0) (cornersIn (now contour))) ⌝ }
+    ensures { λ r. ⌜ PartsAppended (centroidParts limit (point centre) (cornerIn (now (contour .entry)) 0) (cornersIn (now (contour .entry))))
         (now (starts .entry)) (now (points .entry)) t (now (starts .exit)) (now (points .exit)) r ⌝ }
 {
     let edges = contour.len();

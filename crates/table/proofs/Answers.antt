@@ -12,7 +12,7 @@ use Rattle.integers.specs.Lists.{overlay}
 use Rattle.integers.proofs.Overlay.{take-overlay, getD-overlay}
 use Rattle.plane.specs.Plane.{Pt}
 use Rattle.table.specs.Table.{startsFrom, startsOf, cornersOf, tableParts, firstContours, countsOf, written}
-use Rattle.table.proofs.Corners.{length-numbers}
+use Rattle.corners.proofs.Corners.{length-numbers}
 use Rattle.table.proofs.Parts.{length-starts}
 use Rattle.table.proofs.Rules.{parts-table}
 

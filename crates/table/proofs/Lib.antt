@@ -1,6 +1,5 @@
--- Laws that belong to no one function, in reading order: corners and points; parts and starts; the rules; answers by
+-- Laws that belong to no one function, in reading order: parts and starts; the rules; answers by
 -- their fault; the part shown; words of bytes; the stored form.
-pub mod Corners
 pub mod Parts
 pub mod Rules
 pub mod Answers

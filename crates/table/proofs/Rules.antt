@@ -16,14 +16,11 @@ use lib.IntN.{ℤ}
 use Rattle.integers.specs.Lists.{All}
 use Rattle.integers.proofs.Tests.{differ, either-false}
 use Rattle.plane.specs.Plane.{Pt}
-use Rattle.table.specs.Table.{pointsOf, numbersOf, startsFrom, startsOf, cornersOf, partsOf, tableParts, partCount, stepsBroken, startsBroken, tableBroken, resultBroken, maxContour, maxCorners, maxParts}
-use Rattle.table.proofs.Corners.{length-points, length-numbers, numbers-points, points-numbers}
+use Rattle.corners.specs.Corners.{pointsOf, numbersOf}
+use Rattle.table.specs.Table.{startsFrom, startsOf, cornersOf, partsOf, tableParts, partCount, stepsBroken, startsBroken, tableBroken, resultBroken, maxContour, maxCorners, maxParts}
+use Rattle.corners.proofs.Corners.{length-points, length-numbers, numbers-points, points-numbers}
+use Rattle.corners.proofs.Range.{was-taken}
 use Rattle.table.proofs.Parts.{length-starts, parts-starts}
-
--- a test that holds, where the next does not
-pub was-taken : (t b : Bool) → cond t b true ≡ false → (t ≡ true) × (b ≡ false)
-was-taken true b e = (refl, e)
-was-taken false b e = differ (sym e)
 
 -- one of two tests holds
 or-true : (t u b : Bool) → cond t true u ≡ true → cond t true (cond u true b) ≡ true

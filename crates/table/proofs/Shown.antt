@@ -10,14 +10,16 @@ use native.Mathlib.Omega.{arith}
 use borrow.Author.Tests.{leb-false, le-leb, lt-leb, eq-eqb, ne-eqb}
 use lib.Dec.{leb}
 use lib.ListN.{length, take, drop, getD}
-use lib.Seq.{slice, take-nil}
+use lib.Seq.{slice}
 use lib.IntN.{ℤ}
-use Rattle.plane.specs.Plane.{Pt, inRange}
-use Rattle.table.specs.Table.{pointsOf, partsOf, tableParts, partCount, tableBroken, offRange, maxCorners}
+use Rattle.plane.specs.Plane.{Pt}
+use Rattle.corners.specs.Corners.{pointsOf, offRange}
+use Rattle.table.specs.Table.{partsOf, tableParts, partCount, tableBroken, maxCorners}
 use Rattle.table.specs.Shown.{shownFault, partNumbers, shownPart}
 use Rattle.integers.proofs.Faults.{first-this, first-next, first-empty, first-none}
-use Rattle.table.proofs.Corners.{points-slice}
-use Rattle.table.proofs.Rules.{was-taken, sound}
+use Rattle.corners.proofs.Corners.{points-slice, take-drop}
+use Rattle.corners.proofs.Range.{off-slice}
+use Rattle.table.proofs.Rules.{sound}
 
 -- ---- the fault
 
@@ -78,14 +80,6 @@ placed s c k e h =
 
 -- ---- a part of a slice, as the machine takes it
 
-pub take-drop : {A : Type 0} (a e : ℕ) (l : List A) → a ≤ e → take (e - a) (drop a l) ≡ slice a e l
-take-drop zero e l h = let z : e - 0 ≡ e = omega arith in ap (λ n. take n l) z
-take-drop (suc a) zero l h = absurd (omega arith)
-take-drop (suc a) (suc e) [] h = take-nil (suc e - suc a)
-take-drop (suc a) (suc e) (x ∷ l) h =
-    let z : suc e - suc a ≡ e - a = omega arith in
-    ap (λ n. take n (drop a l)) z ∙ take-drop a e l (omega arith)
-
 pub numbers-taken : (starts : List ℕ) (corners : List ℤ) (k : ℕ) → getD starts k 0 ≤ getD starts (k + 1) 0
     → take (2 * getD starts (k + 1) 0 - 2 * getD starts k 0) (drop (2 * getD starts k 0) corners) ≡ partNumbers starts corners k
 unfolding partNumbers
@@ -104,20 +98,8 @@ pub part-is : (starts : List ℕ) (corners : List ℤ) (k : ℕ) → k < partCou
 unfolding partNumbers tableParts
 part-is s c k h = points-slice (getD s k 0) (getD s (suc k) 0) c ∙ sym (parts-at s (pointsOf c) k h)
 
--- ---- some of a list in range is in range
-
-off-take : (n : ℕ) (l : List ℤ) → offRange l ≡ false → offRange (take n l) ≡ false
-unfolding offRange
-off-take zero l h = refl
-off-take (suc n) [] h = refl
-off-take (suc n) (z ∷ l) h = let q = was-taken (inRange z) (offRange l) h in rw (q .0) (off-take n l (q .1))
-
-off-drop : (n : ℕ) (l : List ℤ) → offRange l ≡ false → offRange (drop n l) ≡ false
-unfolding offRange
-off-drop zero l h = h
-off-drop (suc n) [] h = refl
-off-drop (suc n) (z ∷ l) h = off-drop n l (was-taken (inRange z) (offRange l) h .1)
+-- ---- a part of corners in range
 
 pub part-ranged : (starts : List ℕ) (corners : List ℤ) (k : ℕ) → offRange corners ≡ false → offRange (partNumbers starts corners k) ≡ false
 unfolding partNumbers
-part-ranged s c k h = off-drop (2 * getD s k 0) (take (2 * getD s (suc k) 0) c) (off-take (2 * getD s (suc k) 0) c h)
+part-ranged s c k h = off-slice (2 * getD s k 0) (2 * getD s (suc k) 0) c h

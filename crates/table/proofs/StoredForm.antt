@@ -23,9 +23,11 @@ use Rattle.integers.proofs.Faults.{first-next, first-none}
 use Rattle.integers.proofs.Elements.{all-map, all-append, all-image, getD-all}
 use Rattle.plane.specs.Plane.{inRange}
 use Rattle.plane.proofs.Size.{in-range-coordinate, coordinate-fits}
-use Rattle.table.specs.Table.{tableBroken, offRange, tableParts, roomKinds, startsOf}
+use Rattle.corners.specs.Corners.{offRange}
+use Rattle.table.specs.Table.{tableBroken, tableParts, roomKinds, startsOf}
 use Rattle.table.specs.Stored.{wordsOf, wordBytes, signed, wordAt, storedStarts, storedCorners, lengthBroken, storedBroken, storedParts, readFault, storedOf}
-use Rattle.table.proofs.Rules.{was-taken, sound, starts-parts, count-parts, count-corners}
+use Rattle.corners.proofs.Range.{fit-all}
+use Rattle.table.proofs.Rules.{sound, starts-parts, count-parts, count-corners}
 use Rattle.table.proofs.Words.{Byte, Word, length-words, length-wordBytes, words-wordBytes, wordBytes-words, words-small, signed-unsigned, unsigned-signed}
 
 -- ---- words taken apart: two counts, p + 1 starts, the numbers
@@ -68,16 +70,6 @@ module _ (bytes : List ℕ) (e : length bytes ≡ sizeOf (wordAt bytes 0) (wordA
 
   pub count-numbers : length (storedCorners bytes) ≡ 2 * wordAt bytes 1
   count-numbers = omega (arith, length-map (drop (wordAt bytes 0 + 3) (wordsOf bytes)) signed, length-drop (wordAt bytes 0 + 3) (wordsOf bytes), count-words)
-
--- ---- numbers in range fit the machine's
-
-pub in-range-all : (l : List ℤ) → offRange l ≡ false → All (λ z. inRange z ≡ true) l
-unfolding offRange
-in-range-all [] e = tt
-in-range-all (z ∷ l) e = let f = was-taken (inRange z) (offRange l) e in (f .0, in-range-all l (f .1))
-
-pub fit-all : (l : List ℤ) → offRange l ≡ false → All (SFits w32) l
-fit-all l e = all-map l (λ z h. coordinate-fits (in-range-coordinate z h)) (in-range-all l e)
 
 -- ---- a table's bytes
 

@@ -11,7 +11,8 @@ use mir.Val.{toZ}
 use Rattle.integers.specs.Word.{unsigned}
 use Rattle.integers.specs.Faults.{firstFault, faultCornerRoom, faultRange, faultRules}
 use Rattle.plane.specs.Plane.{Pt}
-use Rattle.table.specs.Table.{tableBroken, offRange, tableParts, roomKinds}
+use Rattle.corners.specs.Corners.{offRange}
+use Rattle.table.specs.Table.{tableBroken, tableParts, roomKinds}
 
 -- ---- words
 

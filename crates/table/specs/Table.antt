@@ -11,21 +11,10 @@ use lib.IntN.{ℤ}
 use lib.Signed.{leZ, ltZ}
 use Rattle.integers.specs.Faults.{Kind, faultCornerRoom, faultStartRoom}
 use Rattle.integers.specs.Lists.{overlay}
-use Rattle.plane.specs.Plane.{Pt, inRange}
+use Rattle.plane.specs.Plane.{Pt}
+use Rattle.corners.specs.Corners.{pointsOf, numbersOf}
 use Rattle.table.specs.declared.IntRect.{IntRect}
 use Rattle.table.specs.declared.Counts.{Counts}
-
--- ---- corners: "x, y in turn"
-
--- the points of a list of numbers; a last x without its y is no point
-unfoldable pub pointsOf : List ℤ → List Pt
-pointsOf [] = []
-pointsOf (x ∷ []) = []
-pointsOf (x ∷ y ∷ l) = record { x = x; y = y } ∷ pointsOf l
-
-unfoldable pub numbersOf : List Pt → List ℤ
-numbersOf [] = []
-numbersOf (p ∷ l) = p .x ∷ p .y ∷ numbersOf l
 
 -- ---- parts to table and back
 
@@ -89,12 +78,7 @@ tableBroken starts corners =
 unfoldable pub resultBroken : List ℕ → List ℤ → Bool
 resultBroken starts corners = cond (eqb (length corners % 2) 0) (startsBroken (length corners / 2) (length corners / 2) starts) true
 
--- ---- coordinates and bounds
-
--- fault 2: "a coordinate or bound not strictly between −2^30 and 2^30"
-unfoldable pub offRange : List ℤ → Bool
-offRange [] = false
-offRange (z ∷ l) = cond (inRange z) (offRange l) true
+-- ---- bounds
 
 abbrev pub boundsList : IntRect → List ℤ
 boundsList b = b .«min_x» ∷ b .«max_x» ∷ b .«min_y» ∷ b .«max_y» ∷ []

@@ -1,13 +1,17 @@
 // The part table that the desks exchange: starts and corners, their rules and limits, bounds. The definitions are in specs/: Table (the
 // lists), Stored (the bytes), Shown (part k of an operand); their laws in proofs/ (proofs/Lib.antt is the index). The functions here
 // answer whether a table breaks a rule, each as its definition says, of any lent slices; the faults' order is their callers'. The crates
-// table_read, table_write and table_shown, and pairs, lean on it. It leans on plane and integers.
+// table_read, table_write and table_shown, and pairs, lean on it. It leans on corners, plane and integers.
 ghost use mathlib.Core.Path.{_≡_};
 ghost use mathlib.Core.Bool.{true, cond};
 ghost use Prim.Native.Nat.{_+_};
 ghost use lib.Dec.{ltb};
-ghost use Rattle.plane.specs.Plane.{inRange};
-ghost use Rattle.table.specs.Table.{startsBroken, tableBroken, resultBroken, offRange, withinBounds, boundsBroken, pointsOf};
+ghost use Rattle.plane.specs.Machine.{point};
+ghost use Rattle.corners.specs.Corners.{pointsOf};
+ghost use Rattle.table.specs.Table.{startsBroken, tableBroken, resultBroken, withinBounds, boundsBroken};
+use corners::corner_at;
+use corners::corner_count;
+use plane::IntPoint;
 
 // Document 01: "Limits: 2,048 parts, 8,192 corners, 1,026 corners a contour."
 pub const MAX_PARTS: usize = 2048;
@@ -69,10 +73,10 @@ pub fn starts_broken(limit: usize, count: usize, starts: &[u32]) -> bool
 pub fn rules_broken(starts: &[u32], corners: &[i32]) -> bool
     ensures { λ r. ⌜ r ≡ tableBroken (now (starts .entry)) (now (corners .entry)) ⌝ }
 {
-    if corners.len() % 2 != 0 {
+    if corners::ragged(corners) {
         return true;
     }
-    let count = corners.len() / 2;
+    let count = corner_count(corners);
     if starts.len() > MAX_PARTS + 1 {
         return true;
     }
@@ -86,50 +90,27 @@ pub fn rules_broken(starts: &[u32], corners: &[i32]) -> bool
 pub fn result_broken(starts: &[u32], corners: &[i32]) -> bool
     ensures { λ r. ⌜ r ≡ resultBroken (now (starts .entry)) (now (corners .entry)) ⌝ }
 {
-    if corners.len() % 2 != 0 {
+    if corners::ragged(corners) {
         return true;
     }
-    let count = corners.len() / 2;
+    let count = corner_count(corners);
     starts_broken(count, count, starts)
 }
 
-// Whether z is out of range, or one before was.
-fn or_off(before: bool, z: i32) -> bool
-    ensures { λ r. ⌜ r ≡ cond (inRange z) before true ⌝ }
-{
-    if plane::in_range(z) {
-        return before;
-    }
-    true
-}
-
-// Whether some number is not strictly between -2^30 and 2^30 (fault 2). All are looked at, for a loop without a way out is done many numbers at a time.
-pub fn off_range(numbers: &[i32]) -> bool
-    ensures { λ r. ⌜ r ≡ offRange (now (numbers .entry)) ⌝ }
-{
-    let mut off = false;
-    let mut i = 0;
-    while i < numbers.len() {
-        off = or_off(off, numbers[i]);
-        i += 1;
-    }
-    off
-}
-
 // Whether a corner lies within the bounds, their ends included.
-pub fn within_bounds(bounds: IntRect, x: i32, y: i32) -> bool
-    ensures { λ r. ⌜ r ≡ withinBounds bounds (record { x = x; y = y }) ⌝ }
+pub fn within_bounds(bounds: IntRect, p: IntPoint) -> bool
+    ensures { λ r. ⌜ r ≡ withinBounds bounds (point p) ⌝ }
 {
-    if bounds.min_x > x {
+    if bounds.min_x > p.x {
         return false;
     }
-    if x > bounds.max_x {
+    if p.x > bounds.max_x {
         return false;
     }
-    if bounds.min_y > y {
+    if bounds.min_y > p.y {
         return false;
     }
-    y <= bounds.max_y
+    p.y <= bounds.max_y
 }
 
 // Whether a least bound is above a greatest, or some corner lies outside (fault 9). A last x without its y is no corner.
@@ -142,12 +123,11 @@ pub fn bounds_broken(bounds: IntRect, corners: &[i32]) -> bool
     if bounds.max_y < bounds.min_y {
         return true;
     }
-    let count = corners.len() / 2;
+    let count = corner_count(corners);
     let mut k = 0;
     while k < count {
-        let x = corners[2 * k];
-        let y = corners[2 * k + 1];
-        if !within_bounds(bounds, x, y) {
+        let p = corner_at(corners, k);
+        if !within_bounds(bounds, p) {
             return true;
         }
         k += 1;

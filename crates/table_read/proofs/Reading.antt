@@ -14,7 +14,8 @@ use lib.Seq.{drop-cons, getD-take, getD-drop}
 use lib.IntN.{ℤ}
 use Rattle.integers.specs.Lists.{overlay}
 use Rattle.plane.specs.Plane.{inRange}
-use Rattle.table.specs.Table.{maxParts, maxCorners, maxContour, stepsBroken, startsBroken, offRange, tableBroken}
+use Rattle.corners.specs.Corners.{offRange}
+use Rattle.table.specs.Table.{maxParts, maxCorners, maxContour, stepsBroken, startsBroken, tableBroken}
 use Rattle.table.specs.Stored.{wordsOf, wordAt, signed, storedStarts, storedCorners, lengthBroken, storedBroken, storedParts, readFault}
 use Rattle.integers.proofs.Faults.{first-this, first-next, first-empty}
 use Rattle.table.proofs.Rules.{not-from-0, steps-begin, step-broken, step-passed, steps-end}

@@ -18,7 +18,9 @@ fn shown_fault(
     right: bool,
     k: usize,
 ) -> u32
-    ensures { λ r. ⌜ r ≡ shownFault (now («left_starts» .entry)) (now («left_corners» .entry)) (now («right_starts» .entry)) (now («right_corners» .entry)) right k ⌝ }
+    ensures { λ r. ⌜ r ≡ shownFault
+        (now («left_starts» .entry)) (now («left_corners» .entry))
+        (now («right_starts» .entry)) (now («right_corners» .entry)) right k ⌝ }
 {
     if table::rules_broken(left_starts, left_corners) {
         return integers::fault::RULES;
@@ -59,9 +61,15 @@ pub fn show_part<'a>(
     k: u32,
     fault: &mut u32,
 ) -> &'a [i32]
-    ensures shown { λ r. ⌜ now r ≡ shownPart (now («left_starts» .entry)) (now («left_corners» .entry)) (now («right_starts» .entry)) (now («right_corners» .entry)) right k ⌝ }
-    ensures told { λ r. ⌜ now (fault .exit) ≡ shownFault (now («left_starts» .entry)) (now («left_corners» .entry)) (now («right_starts» .entry)) (now («right_corners» .entry)) right k ⌝ }
-    ensures placed { λ r. ⌜ r .ptr ≡ shownPlace (now (fault .exit)) (now («left_starts» .entry)) («left_corners» .entry .ptr) (now («right_starts» .entry)) («right_corners» .entry .ptr) right k ⌝ }
+    ensures shown { λ r. ⌜ now r ≡ shownPart
+        (now («left_starts» .entry)) (now («left_corners» .entry))
+        (now («right_starts» .entry)) (now («right_corners» .entry)) right k ⌝ }
+    ensures told { λ r. ⌜ now (fault .exit) ≡ shownFault
+        (now («left_starts» .entry)) (now («left_corners» .entry))
+        (now («right_starts» .entry)) (now («right_corners» .entry)) right k ⌝ }
+    ensures placed { λ r. ⌜ r .ptr ≡ shownPlace (now (fault .exit))
+        (now («left_starts» .entry)) («left_corners» .entry .ptr)
+        (now («right_starts» .entry)) («right_corners» .entry .ptr) right k ⌝ }
 {
     let part = k as usize;
     let number = shown_fault(

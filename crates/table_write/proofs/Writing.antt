@@ -15,7 +15,8 @@ use lib.Seq.{take-suc, take-all, length-take-le}
 use lib.IntN.{ℤ}
 use Rattle.integers.specs.Word.{unsigned}
 use Rattle.integers.specs.Lists.{overlay}
-use Rattle.table.specs.Table.{tableBroken, offRange}
+use Rattle.corners.specs.Corners.{offRange}
+use Rattle.table.specs.Table.{tableBroken}
 use Rattle.table.specs.Stored.{wordBytes, storedOf, writeFault}
 use Rattle.integers.proofs.Faults.{first-this, first-next, first-empty, first-none}
 use Rattle.table.proofs.StoredForm.{length-stored}

@@ -27,7 +27,7 @@ fn write_fault(starts: &[u32], corners: &[i32], room: usize) -> u32
     if table::rules_broken(starts, corners) {
         return integers::fault::RULES;
     }
-    if table::off_range(corners) {
+    if corners::off_range(corners) {
         return integers::fault::RANGE;
     }
     if room < HEADER + WORD * starts.len() + WORD * corners.len() {

@@ -9,8 +9,8 @@ use lib.IntN.{ℤ, pos}
 use lib.ListN.{length, take, drop, getD, length-append, take-append-drop}
 use lib.Seq.{take-suc, take-all}
 use Rattle.plane.specs.Plane.{Pt, O}
-use Rattle.table.specs.Table.{pointsOf}
-use Rattle.table.proofs.Corners.{length-points, points-at}
+use Rattle.corners.specs.Corners.{pointsOf}
+use Rattle.corners.proofs.Corners.{length-points, points-at}
 use Rattle.text.specs.Text.{cornerText, cornersText}
 use Rattle.text.specs.Put.{PutText}
 use Rattle.text.proofs.Puts.{put-after, put-as, put-none}

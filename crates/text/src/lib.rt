@@ -6,7 +6,7 @@ ghost use mathlib.Core.List.{_++_};
 ghost use Prim.Native.Nat.{_+_, _≤_};
 ghost use lib.ListN.{length};
 ghost use lib.IntN.{natAbs};
-ghost use Rattle.table.specs.Table.{pointsOf};
+ghost use Rattle.corners.specs.Corners.{pointsOf};
 ghost use Rattle.text.specs.Text.{decimal, signedDecimal, cornerText, cornersText, refusal};
 ghost use Rattle.text.specs.Put.{PutText};
 

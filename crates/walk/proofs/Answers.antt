@@ -14,9 +14,10 @@ use Rattle.integers.proofs.Faults.{first-none}
 use Rattle.integers.proofs.Order.{by-test}
 use Rattle.integers.proofs.Tests.{either-false}
 use Rattle.plane.specs.Plane.{Pt}
-use Rattle.table.specs.Table.{pointsOf, maxContour}
-use Rattle.table.proofs.Corners.{length-points}
-use Rattle.table.proofs.Rules.{was-taken}
+use Rattle.corners.specs.Corners.{pointsOf}
+use Rattle.table.specs.Table.{maxContour}
+use Rattle.corners.proofs.Corners.{length-points}
+use Rattle.corners.proofs.Range.{was-taken}
 use Rattle.pair.specs.declared.Place.{Place}
 use Rattle.pair.specs.declared.ConvexSum.{ConvexSum}
 use Rattle.pair.specs.Walk.{begin, nextIndex, advance}

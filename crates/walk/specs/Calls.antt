@@ -11,7 +11,8 @@ use Rattle.plane.specs.Plane.{Pt, onGrid}
 use Rattle.plane.specs.Machine.{point, vector}
 use Rattle.plane.specs.declared.IntPoint.{IntPoint}
 use Rattle.plane.specs.declared.IntVector.{IntVector}
-use Rattle.table.specs.Table.{pointsOf, offRange, maxContour}
+use Rattle.corners.specs.Corners.{pointsOf, offRange}
+use Rattle.table.specs.Table.{maxContour}
 use Rattle.pair.specs.declared.Place.{Place}
 use Rattle.pair.specs.declared.ConvexSum.{ConvexSum}
 use Rattle.pair.specs.Walk.{cornerAt, windingLeaves, begin, nextIndex, edgeOf, advance}

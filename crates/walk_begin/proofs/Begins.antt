@@ -13,8 +13,8 @@ use Rattle.integers.specs.Lists.{sumℤ}
 use Rattle.integers.proofs.Ring.{con, _:+_, _:≡_, int, ring}
 use Rattle.integers.proofs.Faults.{first-this, first-next, first-empty}
 use Rattle.plane.specs.Plane.{Pt, eqPt}
-use Rattle.table.specs.Table.{pointsOf, offRange}
-use Rattle.table.proofs.Corners.{length-points}
+use Rattle.corners.specs.Corners.{pointsOf, offRange}
+use Rattle.corners.proofs.Corners.{length-points}
 use Rattle.pair.specs.Walk.{cornerAt, startAt, endAt, windingTerms, winding, totalLeaves, windingLeaves, placeBy, begin}
 use Rattle.pair.proofs.Start.{start-inside}
 use Rattle.walk.specs.declared.Begun.the-variants.{At, Refused}

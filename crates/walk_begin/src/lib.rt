@@ -6,14 +6,14 @@ ghost use mathlib.Core.Bool.{true, false};
 ghost use Prim.Native.Nat.{_<_};
 ghost use lib.ListN.{length};
 ghost use Rattle.plane.specs.Plane.{eqPt};
-ghost use Rattle.table.specs.Table.{pointsOf, offRange};
+ghost use Rattle.corners.specs.Corners.{pointsOf, offRange};
 ghost use Rattle.pair.specs.Walk.{cornerAt, endAt, placeBy};
 ghost use Rattle.walk.specs.Calls.{lengthBroken, begunOf};
 ghost use Rattle.walk.specs.Contracts.{BegunBy};
+use corners::corner_at;
+use corners::corner_count;
 use pair::Place;
 use walk::Begun;
-use walk_read::corner_at;
-use walk_read::corner_count;
 use walk_winding::Wound;
 
 // A walk round a contour of n corners from corner s.
@@ -49,7 +49,10 @@ fn along(s: u16, e: u16, remaining: u16, reflected: bool) -> Place
 // Where a walk that starts at corner s stands at first, by its winding.
 fn place_by(contour: &[i32], reflected: bool, s: usize, total: i64) -> Place
     requires { ⌜ (lengthBroken (now contour) ≡ false) × (s < length (pointsOf (now contour))) ⌝ }
-    ensures { λ r. ⌜ r ≡ placeBy reflected (length (pointsOf (now (contour .entry)))) s (endAt reflected (pointsOf (now (contour .entry)))) total (eqPt (cornerAt (pointsOf (now (contour .entry))) s) (cornerAt (pointsOf (now (contour .entry))) (endAt reflected (pointsOf (now (contour .entry)))))) ⌝ }
+    ensures { λ r.
+        let l = pointsOf (now (contour .entry)) in
+        let end = endAt reflected l in
+        ⌜ r ≡ placeBy reflected (length l) s end total (eqPt (cornerAt l s) (cornerAt l end)) ⌝ }
 {
     let n = corner_count(contour) as u16;
     let start = s as u16;
@@ -90,7 +93,7 @@ pub fn begin(contour: &[i32], reflected: bool) -> Begun
     if walk_read::length_broken(contour) {
         return Begun::Refused(integers::fault::RULES);
     }
-    if table::off_range(contour) {
+    if corners::off_range(contour) {
         return Begun::Refused(integers::fault::RANGE);
     }
     begin_checked(contour, reflected)

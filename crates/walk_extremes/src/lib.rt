@@ -6,11 +6,11 @@ ghost use mathlib.Core.Bool.{cond};
 ghost use Prim.Native.Nat.{_<_};
 ghost use lib.ListN.{length};
 ghost use Rattle.plane.specs.Machine.{point};
-ghost use Rattle.table.specs.Table.{pointsOf};
+ghost use Rattle.corners.specs.Corners.{pointsOf};
 ghost use Rattle.pair.specs.Walk.{cornerAt, below, leastAt, greatestAt, startAt, endAt};
+use corners::corner_at;
+use corners::corner_count;
 use plane::IntPoint;
-use walk_read::corner_at;
-use walk_read::corner_count;
 
 // Whether p comes before q by (y, x).
 fn below(p: IntPoint, q: IntPoint) -> bool

@@ -6,7 +6,7 @@ use Prim.Native.Nat.{ℕ}
 use lib.Dec.{eqb}
 use lib.IntN.{ℤ}
 use denote.Ref.{RefT, now}
-use Rattle.table.specs.Table.{pointsOf}
+use Rattle.corners.specs.Corners.{pointsOf}
 use Rattle.pair.specs.declared.Place.{Place}
 use Rattle.pair.specs.Walk as walk
 use Rattle.walk.specs.Calls.{beginFault, stepFault}

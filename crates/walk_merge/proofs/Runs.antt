@@ -11,7 +11,7 @@ use lib.IntN.{ℤ, pos}
 use Rattle.plane.specs.Plane.{Pt, isZero, angleCmp, isEqual}
 use Rattle.plane.specs.declared.IntVector.{IntVector}
 use Rattle.plane.specs.Machine.{vector, Short}
-use Rattle.table.specs.Table.{pointsOf}
+use Rattle.corners.specs.Corners.{pointsOf}
 use Rattle.pair.specs.declared.ConvexSum.{ConvexSum}
 use Rattle.pair.specs.Walk.{advance}
 use Rattle.pair.specs.Pair.{none, first, second, nextStep, stepFirst, stepSecond, Heading, unset, along, Run, belongs, headed, run, stepsLeft}

@@ -8,7 +8,7 @@ use lib.IntN.{ℤ}
 use Rattle.plane.specs.Plane.{Pt}
 use Rattle.plane.specs.declared.IntVector.{IntVector}
 use Rattle.plane.specs.Machine.{vector, Short}
-use Rattle.table.specs.Table.{pointsOf}
+use Rattle.corners.specs.Corners.{pointsOf}
 use Rattle.pair.specs.declared.ConvexSum.{ConvexSum}
 use Rattle.pair.specs.Pair.{Heading, unset, along, Run, headed, run, stepsLeft}
 use Rattle.walk_pick.specs.Picking.{Judged}

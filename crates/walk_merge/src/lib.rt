@@ -6,17 +6,17 @@ ghost use mathlib.Core.Bool.{true, false};
 ghost use Prim.Native.Nat.{_<_};
 ghost use lib.ListN.{length};
 ghost use Rattle.plane.specs.Machine.{vector, Short};
-ghost use Rattle.table.specs.Table.{pointsOf};
+ghost use Rattle.corners.specs.Corners.{pointsOf};
 ghost use Rattle.pair.specs.Pair.{stepFirst, stepSecond, unset, belongs, run, stepsLeft};
 ghost use Rattle.walk.specs.Calls.{lengthBroken, misplaced};
 ghost use Rattle.walk_pick.specs.Picking.{Judged};
 ghost use Rattle.walk_merge.specs.Merging.{headingBy, runOf, Took, Ready, SteppedOn};
+use corners::corner_count;
 use pair::ConvexSum;
 use plane::IntVector;
 use plane::Ordering;
 use walk_move::advance_of;
 use walk_pick::Step;
-use walk_read::corner_count;
 
 // The steps of one edge: whether they go on, the direction of the edge, if it is begun, and where both walks stand.
 pub struct Going {

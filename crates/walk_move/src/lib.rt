@@ -6,14 +6,15 @@ ghost use Prim.Native.Nat.{_<_, _≤_};
 ghost use lib.ListN.{length};
 ghost use Rattle.plane.specs.Plane.{negᵖ};
 ghost use Rattle.plane.specs.Machine.{point, vector, OnGrid, Short};
-ghost use Rattle.table.specs.Table.{pointsOf, maxContour};
+ghost use Rattle.corners.specs.Corners.{pointsOf};
+ghost use Rattle.table.specs.Table.{maxContour};
 ghost use Rattle.pair.specs.Walk.{pointOf, edgeOf, nextIndex, advance};
 ghost use Rattle.walk.specs.Calls.{lengthBroken, misplaced, offAt};
+use corners::corner_at;
+use corners::corner_count;
 use pair::Place;
 use plane::IntPoint;
 use plane::IntVector;
-use walk_read::corner_at;
-use walk_read::corner_count;
 use walk_read::next_index;
 
 // p turned through the origin.
@@ -38,7 +39,11 @@ pub fn point_of(contour: &[i32], w: Place) -> IntPoint
 
 // The edge to its next place.
 pub fn edge_of(contour: &[i32], w: Place) -> IntVector
-    requires { ⌜ (lengthBroken (now contour) ≡ false) × (misplaced (length (pointsOf (now contour))) w ≡ false) × (offAt (pointsOf (now contour)) (w .index) ≡ false) × (offAt (pointsOf (now contour)) (nextIndex (length (pointsOf (now contour))) w) ≡ false) ⌝ }
+    requires { let l = pointsOf (now contour) in
+        ⌜ (lengthBroken (now contour) ≡ false)
+        × (misplaced (length l) w ≡ false)
+        × (offAt l (w .index) ≡ false)
+        × (offAt l (nextIndex (length l) w) ≡ false) ⌝ }
     ensures { λ r. ⌜ (vector r ≡ edgeOf (pointsOf (now (contour .entry))) w) × Short r ⌝ }
 {
     let next = next_index(corner_count(contour), w);

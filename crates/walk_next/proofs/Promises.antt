@@ -14,7 +14,7 @@ use Rattle.integers.proofs.Faults.{first-this, first-next, first-none, first-em
 use Rattle.plane.specs.Plane.{Pt}
 use Rattle.plane.specs.declared.IntPoint.{IntPoint}
 use Rattle.plane.specs.Machine.{point}
-use Rattle.table.specs.Table.{pointsOf, offRange}
+use Rattle.corners.specs.Corners.{pointsOf, offRange}
 use Rattle.pair.specs.declared.ConvexSum.{ConvexSum}
 use Rattle.pair.specs.Pair.{Heading, unset, along, Run, run, stepsLeft, Emitted, corner, end, sumPoint, emittedBy, pairStep}
 use Rattle.pair.proofs.PairSteps.{Ran, ended, went, run-unset}

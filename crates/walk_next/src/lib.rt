@@ -4,16 +4,16 @@
 ghost use mathlib.Core.Path.{_≡_};
 ghost use Rattle.plane.specs.Plane.{_+ᵖ_};
 ghost use Rattle.plane.specs.Machine.{point, OnGrid};
-ghost use Rattle.table.specs.Table.{pointsOf};
+ghost use Rattle.corners.specs.Corners.{pointsOf};
 ghost use Rattle.pair.specs.Pair.{pairStep};
 ghost use Rattle.walk.specs.Calls.{pairStepFault, nextOf};
 ghost use Rattle.walk.specs.Contracts.{NextBy};
 ghost use Rattle.walk_pick.specs.Picking.{Judged};
+use corners::corner_count;
 use pair::ConvexSum;
 use plane::IntPoint;
 use walk::Next;
 use walk_move::point_of;
-use walk_read::corner_count;
 use walk_read::length_broken;
 use walk_read::misplaced;
 
@@ -62,10 +62,10 @@ fn pair_fault(left: &[i32], right: &[i32], s: ConvexSum) -> u32
     if misplaced(corner_count(right), b) {
         return integers::fault::PLACE;
     }
-    if table::off_range(left) {
+    if corners::off_range(left) {
         return integers::fault::RANGE;
     }
-    if table::off_range(right) {
+    if corners::off_range(right) {
         return integers::fault::RANGE;
     }
     0

@@ -11,7 +11,7 @@ use lib.ListN.{length}
 use lib.IntN.{ℤ}
 use Rattle.integers.specs.Faults.{firstFault}
 use Rattle.integers.proofs.Faults.{first-this, first-next}
-use Rattle.table.specs.Table.{pointsOf, offRange}
+use Rattle.corners.specs.Corners.{pointsOf, offRange}
 use Rattle.pair.specs.declared.Place.{Place}
 use Rattle.pair.specs.Walk.{windingLeaves, begin}
 use Rattle.pair.specs.Pair.{startOf}

@@ -2,7 +2,7 @@
 // with 7, 2, 8, 20, in this order, each left before right. Leans on walk_begin, walk_read, table (the range).
 ghost use mathlib.Core.Path.{_≡_};
 ghost use mathlib.Core.Bool.{true, false};
-ghost use Rattle.table.specs.Table.{offRange};
+ghost use Rattle.corners.specs.Corners.{offRange};
 ghost use Rattle.walk.specs.Calls.{lengthBroken, pairedOf};
 ghost use Rattle.walk.specs.Contracts.{PairedBy};
 ghost use Rattle.walk_pair.specs.Pairing.{firstOf};
@@ -51,10 +51,10 @@ fn begin_pair(left: &[i32], right: &[i32], reflected: bool) -> Paired
     if length_broken(right) {
         return Paired::Refused(integers::fault::RULES);
     }
-    if table::off_range(left) {
+    if corners::off_range(left) {
         return Paired::Refused(integers::fault::RANGE);
     }
-    if table::off_range(right) {
+    if corners::off_range(right) {
         return Paired::Refused(integers::fault::RANGE);
     }
     pair_checked(left, right, reflected)

@@ -7,7 +7,7 @@ use lib.IntN.{ℤ}
 use Rattle.plane.specs.Plane.{Pt, _+ᵖ_}
 use Rattle.plane.specs.declared.IntPoint.{IntPoint}
 use Rattle.plane.specs.Machine.{point}
-use Rattle.table.specs.Table.{pointsOf}
+use Rattle.corners.specs.Corners.{pointsOf}
 use Rattle.pair.specs.declared.ConvexSum.{ConvexSum}
 use Rattle.pair.specs.Walk.{begin, pointOf}
 use Rattle.pair.specs.Pair.{pairContour}

@@ -12,7 +12,7 @@ use lib.ListN.{length}
 use lib.IntN.{ℤ}
 use Rattle.integers.proofs.Order.{by-test, cond-ind}
 use Rattle.plane.specs.Plane.{Pt, isZero, angleCmp, isGreater}
-use Rattle.table.specs.Table.{pointsOf, offRange}
+use Rattle.corners.specs.Corners.{pointsOf, offRange}
 use Rattle.pair.specs.declared.Place.{Place}
 use Rattle.pair.specs.declared.ConvexSum.{ConvexSum}
 use Rattle.pair.specs.Walk.{nextIndex, edgeOf}

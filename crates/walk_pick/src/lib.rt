@@ -3,7 +3,7 @@
 // (`Judged` of specs/Picking.antt). Leans on walk_move and plane.
 ghost use mathlib.Core.Path.{_≡_};
 ghost use Rattle.plane.specs.Machine.{vector, Short};
-ghost use Rattle.table.specs.Table.{pointsOf};
+ghost use Rattle.corners.specs.Corners.{pointsOf};
 ghost use Rattle.pair.specs.Pair.{lesser, nextStep};
 ghost use Rattle.walk_pick.specs.Picking.{Judged, pickOf, StepShort};
 use pair::ConvexSum;

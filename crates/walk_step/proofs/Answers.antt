@@ -10,7 +10,7 @@ use Rattle.integers.proofs.Faults.{first-none}
 use Rattle.plane.specs.declared.IntPoint.{IntPoint}
 use Rattle.plane.specs.declared.IntVector.{IntVector}
 use Rattle.plane.specs.Machine.{point, vector}
-use Rattle.table.specs.Table.{pointsOf}
+use Rattle.corners.specs.Corners.{pointsOf}
 use Rattle.pair.specs.declared.Place.{Place}
 use Rattle.pair.specs.Walk.{pointOf, edgeOf, advance}
 use Rattle.walk.specs.declared.Pointed.the-variants as pointed

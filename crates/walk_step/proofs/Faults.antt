@@ -6,7 +6,7 @@ use borrow.Author.Tests.{eq-eqb, ne-eqb}
 use lib.ListN.{length}
 use lib.IntN.{ℤ}
 use Rattle.integers.proofs.Faults.{first-this, first-next, first-empty}
-use Rattle.table.specs.Table.{pointsOf}
+use Rattle.corners.specs.Corners.{pointsOf}
 use Rattle.pair.specs.declared.Place.{Place}
 use Rattle.pair.specs.Walk.{nextIndex}
 use Rattle.walk.specs.Calls.{lengthBroken, misplaced, offAt, either, pointFault, stepFault}

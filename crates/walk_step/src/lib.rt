@@ -4,12 +4,12 @@
 ghost use mathlib.Core.Path.{_≡_};
 ghost use Rattle.walk.specs.Calls.{pointFault, stepFault};
 ghost use Rattle.walk.specs.Contracts.{PointedBy, EdgedBy, AdvancedBy, SteppedBy};
+use corners::corner_count;
 use pair::Place;
 use walk::Advanced;
 use walk::Edged;
 use walk::Pointed;
 use walk::Stepped;
-use walk_read::corner_count;
 use walk_read::off_at;
 
 // The fault of a walk's point; 0 for none.

@@ -6,11 +6,11 @@ ghost use Prim.Native.Nat.{_+_, _<_};
 ghost use lib.ListN.{length, getD};
 ghost use lib.IntN.{pos, _+ℤ_};
 ghost use Rattle.plane.specs.Machine.{CrossSize};
-ghost use Rattle.table.specs.Table.{pointsOf, offRange};
+ghost use Rattle.corners.specs.Corners.{pointsOf, offRange};
 ghost use Rattle.pair.specs.Walk.{windingTerms};
 ghost use Rattle.walk_winding.specs.Winding.{roundTo, addedOf, windingOf};
-use walk_read::corner_at;
-use walk_read::corner_count;
+use corners::corner_at;
+use corners::corner_count;
 
 // A winding, or that its running total leaves signed 64 bits.
 pub enum Wound {

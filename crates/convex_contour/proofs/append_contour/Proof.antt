@@ -11,14 +11,14 @@ sub-last c = search needs
 place-before-requires : tie.Need-place-before-requires
 place-before-requires c κs = search needs
 
-corner-at-requires : tie.Need-corner-at-requires
-corner-at-requires c κs =
+point-at-requires : tie.Need-point-at-requires
+point-at-requires c κs =
     let s = c .before .before in
     let g = s .args in
     (omega (arith, before-below (g .corners .now) (g .p) (s .pre .0) (c .place-before .ensures)), s .pre .0 .grid)
 
-corner-at-requires-2 : tie.Need-corner-at-requires-2
-corner-at-requires-2 c κs = search needs
+point-at-requires-2 : tie.Need-point-at-requires-2
+point-at-requires-2 c κs = search needs
 
 subtract-requires : tie.Need-subtract-requires
 subtract-requires c κs = search needs
@@ -53,7 +53,7 @@ returns c =
     let a = b .before in
     let s = a .before .before .before in
     let g = s .args in
-    ran-whole (g .corners .now) (g .p) (s .pre .0) (near .append-run .ensures) (a .corner-at .result) (a .before .place-before .ensures) (a .corner-at .ensures .0) (b .corner-at2 .ensures .0) (way .subtract .ensures .0) (far .append-run2 .ensures)
+    ran-whole (g .corners .now) (g .p) (s .pre .0) (near .append-run .ensures) (a .point-at .result) (a .before .place-before .ensures) (a .point-at .ensures .0) (b .point-at2 .ensures .0) (way .subtract .ensures .0) (far .append-run2 .ensures)
 
 pub append-contour-spec : {M : Type 1} → statement M
 append-contour-spec =
@@ -61,8 +61,8 @@ append-contour-spec =
     (tie.spec
     sub-last
     place-before-requires
-    corner-at-requires
-    corner-at-requires-2
+    point-at-requires
+    point-at-requires-2
     subtract-requires
     append-run-requires
     append-run-requires-2

@@ -9,8 +9,8 @@ use Rattle.convex_contour.proofs.append_corner.Tie as tie
 bends-requires : tie.Need-bends-requires
 bends-requires c κs = search needs
 
-put-corner-requires : tie.Need-put-corner-requires
-put-corner-requires c κs = search needs
+put-point-requires : tie.Need-put-point-requires
+put-point-requires c κs = search needs
 
 add-result : tie.Need-add-result
 add-result c = search needs
@@ -25,7 +25,7 @@ returns c =
     let judged = test .before in
     let s = judged .before in
     let g = s .args in
-    kept-yes (g .points .now) (g .count) (point (g .b)) (sym (judged .bends .ensures) ∙ test .if1 .taken) (s .pre .0) (put .put-corner .ensures)
+    kept-yes (g .points .now) (g .count) (point (g .b)) (sym (judged .bends .ensures) ∙ test .if1 .taken) (s .pre .0) (put .put-point .ensures)
 
 returns-2 : tie.Need-returns-2
 returns-2 c =
@@ -36,4 +36,4 @@ returns-2 c =
 pub append-corner-spec : {M : Type 1} → statement M
 append-corner-spec =
     tie.close
-    (tie.spec bends-requires put-corner-requires add-result same-length returns returns-2)
+    (tie.spec bends-requires put-point-requires add-result same-length returns returns-2)

@@ -18,8 +18,8 @@ loop-holds c =
     let g = c .args in
     (ran-start (g .corners .now) (g .from) (c .pre), omega arith, c .pre .ordered)
 
-corner-at-requires : tie.Need-corner-at-requires Inv-loop μ-loop
-corner-at-requires c κs =
+point-at-requires : tie.Need-point-at-requires Inv-loop μ-loop
+point-at-requires c κs =
     let s = c .before .before in
     (omega (arith, c .loop-test .taken, s .pre .within), s .pre .grid)
 
@@ -51,8 +51,8 @@ loop-again c =
     let s = l .before in
     let g = s .args in
     let t = turn .loop-test .taken in
-    let next = read .corner-at .result in
-    (ran-next (g .corners .now) (g .from) (l .loop .i) (s .pre) (l .loop .inv .1) t (l .loop .inv .0) next (read .corner-at .ensures .0) (ran-one next (read .corner-at .ensures .1) (way .subtract .ensures) (put .append-corner .ensures)), omega (arith, l .loop .inv .1), omega (arith, t))
+    let next = read .point-at .result in
+    (ran-next (g .corners .now) (g .from) (l .loop .i) (s .pre) (l .loop .inv .1) t (l .loop .inv .0) next (read .point-at .ensures .0) (ran-one next (read .point-at .ensures .1) (way .subtract .ensures) (put .append-corner .ensures)), omega (arith, l .loop .inv .1), omega (arith, t))
 
 same-length : tie.Need-same-length Inv-loop μ-loop
 same-length c = omega (arith, c .before .loop .inv .0 .appended .size)
@@ -70,7 +70,7 @@ append-run-spec =
     Inv-loop
     μ-loop
     loop-holds
-    corner-at-requires
+    point-at-requires
     subtract-requires
     append-corner-requires
     add-i

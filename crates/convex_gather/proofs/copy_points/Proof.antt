@@ -5,8 +5,8 @@ use native.Mathlib.Omega.{arith}
 use lib.ListN.{length, length-set}
 use Rattle.integers.specs.Lists.{overlay}
 use Rattle.integers.proofs.Overlay.{overlay-nil}
-use Rattle.table.specs.Table.{numbersOf}
-use Rattle.convex_contour.specs.Contour.{firstPoints}
+use Rattle.corners.specs.Corners.{numbersOf}
+use Rattle.points.specs.Points.{firstPoints}
 use Rattle.convex_gather.proofs.Answer.{points-turn}
 use Rattle.convex_gather.proofs.copy_points.Statement.{statement}
 use Rattle.convex_gather.proofs.copy_points.Tie as tie

@@ -15,8 +15,8 @@ put-edge-requires c κs = search needs
 put-edge-requires-2 : tie.Need-put-edge-requires-2
 put-edge-requires-2 c κs = search needs
 
-put-corner-requires : tie.Need-put-corner-requires
-put-corner-requires c κs = search needs
+put-point-requires : tie.Need-put-point-requires
+put-point-requires c κs = search needs
 
 add-t10 : tie.Need-add-t10
 add-t10 c = search needs
@@ -31,7 +31,7 @@ returns : tie.Need-returns
 returns c =
     let below = c .before .before .before .before .before .before .before in
     let g = below .before .before .args in
-    (c .before .put-corner .ensures, (c .before .before .before .before .put-edge2 .ensures ∙ ap (λ e. set e (g .p .pending) (g .k ∷ g .far .second ∷ [])) (below .put-edge .ensures), refl))
+    (c .before .put-point .ensures, (c .before .before .before .before .put-edge2 .ensures ∙ ap (λ e. set e (g .p .pending) (g .k ∷ g .far .second ∷ [])) (below .put-edge .ensures), refl))
 
 pub push-spec : {M : Type 1} → statement M
 push-spec =
@@ -40,7 +40,7 @@ push-spec =
     sub-put-edge
     put-edge-requires
     put-edge-requires-2
-    put-corner-requires
+    put-point-requires
     add-t10
     same-length
     same-length-2

@@ -5,15 +5,15 @@ use mathlib.Core.List.{[], _∷_}
 use lib.ListN.{set}
 use Rattle.mesh.specs.Mesh.{neighbour, after}
 use Rattle.mesh.specs.Rows.{rowTriangle}
-use Rattle.convex_ring.specs.Buffers.{pairOf}
+use Rattle.points.specs.Points.{pairOf}
 use Rattle.convex_grow.proofs.put_vertex.Statement.{statement}
 use Rattle.convex_grow.proofs.put_vertex.Tie as tie
 
 vertex-of-requires : tie.Need-vertex-of-requires
 vertex-of-requires c κs = search needs
 
-put-corner-requires : tie.Need-put-corner-requires
-put-corner-requires c κs = search needs
+put-point-requires : tie.Need-put-point-requires
+put-point-requires c κs = search needs
 
 after-of-requires : tie.Need-after-of-requires
 after-of-requires c κs = search needs
@@ -37,14 +37,14 @@ returns : tie.Need-returns
 returns c =
     let g = c .before .before .before .before .before .before .before .before .before .before .args in
     let n = c .before .before .neighbor-of .ensures ∙ ap (neighbour (rowTriangle (g .row))) (c .before .before .before .after-of2 .ensures .0 ∙ ap after (c .before .before .before .before .after-of .ensures .0)) in
-    (c .before .before .before .before .before .before .before .put-corner .ensures ∙ ap (λ w. set (g .corners .now) (g .i) (pairOf w)) (c .before .before .before .before .before .before .before .before .vertex-of .ensures), c .before .put-edge .ensures ∙ ap (λ w. set (g .edges .now) (g .i) (g .k ∷ w ∷ [])) n)
+    (c .before .before .before .before .before .before .before .put-point .ensures ∙ ap (λ w. set (g .corners .now) (g .i) (pairOf w)) (c .before .before .before .before .before .before .before .before .vertex-of .ensures), c .before .put-edge .ensures ∙ ap (λ w. set (g .edges .now) (g .i) (g .k ∷ w ∷ [])) n)
 
 pub put-vertex-spec : {M : Type 1} → statement M
 put-vertex-spec =
     tie.close
     (tie.spec
     vertex-of-requires
-    put-corner-requires
+    put-point-requires
     after-of-requires
     after-of-requires-2
     neighbor-of-requires

@@ -9,11 +9,11 @@ use Rattle.convex_ring.proofs.joins_over.Tie as tie
 ring-end-requires : tie.Need-ring-end-requires
 ring-end-requires c κs = search needs
 
-sub-corner-at : tie.Need-sub-corner-at
-sub-corner-at c = search needs
+sub-point-at : tie.Need-sub-point-at
+sub-point-at c = search needs
 
-corner-at-requires : tie.Need-corner-at-requires
-corner-at-requires c κs = search needs
+point-at-requires : tie.Need-point-at-requires
+point-at-requires c κs = search needs
 
 ring-at-requires : tie.Need-ring-at-requires
 ring-at-requires c κs = search needs
@@ -27,15 +27,15 @@ joins-at-requires c κs = search needs
 returns : tie.Need-returns
 returns c =
     let d = c .before in
-    c .joins-at .ensures ∙ (λ i. joins (d .before .before .before .ring-end .ensures .0 i) (d .before .before .corner-at .ensures .0 i) (point (d .before .before .before .before .args .p)) (d .before .ring-at .ensures .0 i) (d .ring-at2 .ensures .0 i))
+    c .joins-at .ensures ∙ (λ i. joins (d .before .before .before .ring-end .ensures .0 i) (d .before .before .point-at .ensures .0 i) (point (d .before .before .before .before .args .p)) (d .before .ring-at .ensures .0 i) (d .ring-at2 .ensures .0 i))
 
 pub joins-over-spec : {M : Type 1} → statement M
 joins-over-spec =
     tie.close
     (tie.spec
     ring-end-requires
-    sub-corner-at
-    corner-at-requires
+    sub-point-at
+    point-at-requires
     ring-at-requires
     ring-at-requires-2
     joins-at-requires

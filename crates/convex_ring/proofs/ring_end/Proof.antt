@@ -5,35 +5,35 @@ use Rattle.convex_ring.proofs.Reading.{around-below, around-back}
 use Rattle.convex_ring.proofs.ring_end.Statement.{statement}
 use Rattle.convex_ring.proofs.ring_end.Tie as tie
 
-sub-corner-at : tie.Need-sub-corner-at
-sub-corner-at c = search needs
+sub-point-at : tie.Need-sub-point-at
+sub-point-at c = search needs
 
-corner-at-requires : tie.Need-corner-at-requires
-corner-at-requires c κs = search needs
+point-at-requires : tie.Need-point-at-requires
+point-at-requires c κs = search needs
 
 returns : tie.Need-returns
 returns c =
     let s = c .before .before in
-    (c .corner-at .ensures .0 ∙ sym (around-below (s .args .corners .now) (s .args .pending) (s .args .done) (s .pre) (c .before .if1 .taken)), c .corner-at .ensures .1)
+    (c .point-at .ensures .0 ∙ sym (around-below (s .args .corners .now) (s .args .pending) (s .args .done) (s .pre) (c .before .if1 .taken)), c .point-at .ensures .1)
 
-sub-corner-at-2 : tie.Need-sub-corner-at-2
-sub-corner-at-2 c = search needs
+sub-point-at-2 : tie.Need-sub-point-at-2
+sub-point-at-2 c = search needs
 
-corner-at-requires-2 : tie.Need-corner-at-requires-2
-corner-at-requires-2 c κs = search needs
+point-at-requires-2 : tie.Need-point-at-requires-2
+point-at-requires-2 c κs = search needs
 
 returns-2 : tie.Need-returns-2
 returns-2 c =
     let s = c .before .before in
-    (c .corner-at2 .ensures .0 ∙ sym (around-back (s .args .corners .now) (s .args .pending) (s .args .done) (s .pre) (c .before .if1 .left)), c .corner-at2 .ensures .1)
+    (c .point-at2 .ensures .0 ∙ sym (around-back (s .args .corners .now) (s .args .pending) (s .args .done) (s .pre) (c .before .if1 .left)), c .point-at2 .ensures .1)
 
 pub ring-end-spec : {M : Type 1} → statement M
 ring-end-spec =
     tie.close
     (tie.spec
-    sub-corner-at
-    corner-at-requires
+    sub-point-at
+    point-at-requires
     returns
-    sub-corner-at-2
-    corner-at-requires-2
+    sub-point-at-2
+    point-at-requires-2
     returns-2)

@@ -1,6 +1,6 @@
 -- `listing_areas::area_at` meets its contract: part k can be measured. Assumes nothing.
 use mathlib.Core.Path.{sym, _∙_, ap, subst}
-use Rattle.table.specs.Table.{pointsOf}
+use Rattle.corners.specs.Corners.{pointsOf}
 use Rattle.table.proofs.Shown.{part-is}
 use Rattle.listing.specs.Listing.{areaOf}
 use Rattle.listing_areas.specs.Areas.{Measurable}

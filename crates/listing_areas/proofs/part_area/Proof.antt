@@ -6,8 +6,8 @@ use borrow.Author.Needs.{needs}
 use mir.Syntax.{w64}
 use Rattle.integers.proofs.Bits.{got}
 use Rattle.plane.specs.Machine.{CrossSize}
-use Rattle.table.specs.Table.{pointsOf}
-use Rattle.table.proofs.Corners.{length-points}
+use Rattle.corners.specs.Corners.{pointsOf}
+use Rattle.corners.proofs.Corners.{length-points}
 use Rattle.listing_areas.proofs.Wedges.{Fanning, fanning-start, fanning-turn, fanning-end}
 use Rattle.listing_areas.proofs.part_area.Statement.{statement}
 use Rattle.listing_areas.proofs.part_area.Tie as tie

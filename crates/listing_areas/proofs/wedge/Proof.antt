@@ -6,7 +6,7 @@ use mir.Syntax.{w64}
 use Rattle.integers.proofs.Bits.{got}
 use Rattle.plane.specs.Plane.{areaTwo}
 use Rattle.plane.specs.Machine.{CrossSize}
-use Rattle.table.proofs.Corners.{length-points}
+use Rattle.corners.proofs.Corners.{length-points}
 use Rattle.walk_read.proofs.Grid.{grid-at}
 use Rattle.listing_areas.proofs.wedge.Statement.{statement}
 use Rattle.listing_areas.proofs.wedge.Tie as tie

@@ -7,8 +7,9 @@ use borrow.Author.Needs.{needs}
 use lib.ListN.{getD}
 use Rattle.pair_walks.specs.Walks.{contoursIn}
 use Rattle.minkowski_rows.proofs.Pairs.{pairs-one, pairs-then, room-next}
-use Rattle.minkowski_chains.proofs.Order.{put-on, place-with}
-use Rattle.minkowski_chains.proofs.Contours.{first-room, first-small, work-size, copied-room, copied-put, as-fits, as-put, as-work}
+use Rattle.minkowski_chains.proofs.Contours.{put-on, first-room, first-small, work-size, copied-room, copied-put}
+use Rattle.minkowski_order.proofs.Order.{place-with}
+use Rattle.minkowski_order.proofs.Pairs.{as-fits, as-put, as-work}
 use Rattle.minkowski_chains.proofs.append_four.Statement.{statement}
 use Rattle.minkowski_chains.proofs.append_four.Tie as tie
 
@@ -59,7 +60,7 @@ put-start-requires c κs =
     let c2 = getD all (n + 2) [] in
     let c3 = getD all (n + 3) [] in
     let m = c .before .before .before .before .before .merge-four .ensures in
-    (omega (arith, s .pre .3 .for-starts), first-small c0 (c1 ∷ c2 ∷ c3 ∷ []) (s .pre .3) (as-put (f .first) (m .first)))
+    (omega (arith, s .pre .3 .for-starts), first-small c0 (c1 ∷ c2 ∷ c3 ∷ []) (s .pre .3) (as-put (f .first) (m .0)))
 
 add-append-copied : tie.Need-add-append-copied
 add-append-copied c = omega (arith, c .before .before .before .before .before .before .before .before .before .before .before .before .before .before .before .before .before .before .before .before .before .pre .1 .some, c .before .before .before .before .before .before .before .before .before .before .before .before .before .before .before .before .before .before .before .before .before .pre .1 .few)
@@ -76,8 +77,8 @@ append-copied-requires c κs =
     let c2 = getD all (n + 2) [] in
     let c3 = getD all (n + 3) [] in
     let m = c .before .before .before .before .before .before .before .before .before .before .before .merge-four .ensures in
-    let p1 = pairs-one c0 (g .starts .now) n (g .out .now) (g .s .k) (omega (arith, s .pre .3 .for-starts)) (as-put (f .first) (m .first)) (c .before .before .before .before .before .put-start .ensures) in
-    (work-size c1 (as-put (f .second) (m .second)) (as-work (f .second) (g .wb .now) (s .pre .2 .second)), copied-room c1 (as-put (f .second) (m .second)) (room-next (c0 ∷ []) (c1 ∷ []) (c2 ∷ c3 ∷ []) (s .pre .3) p1))
+    let p1 = pairs-one c0 (g .starts .now) n (g .out .now) (g .s .k) (omega (arith, s .pre .3 .for-starts)) (as-put (f .first) (m .0)) (c .before .before .before .before .before .put-start .ensures) in
+    (work-size c1 (as-put (f .second) (m .1)) (as-work (f .second) (g .wb .now) (s .pre .2 .second)), copied-room c1 (as-put (f .second) (m .1)) (room-next (c0 ∷ []) (c1 ∷ []) (c2 ∷ c3 ∷ []) (s .pre .3) p1))
 
 add-append-copied-2 : tie.Need-add-append-copied-2
 add-append-copied-2 c = omega (arith, c .before .before .before .before .before .before .before .before .before .before .before .before .before .before .before .before .before .before .before .before .before .before .before .before .before .before .before .before .pre .1 .some, c .before .before .before .before .before .before .before .before .before .before .before .before .before .before .before .before .before .before .before .before .before .before .before .before .before .before .before .before .pre .1 .few)
@@ -94,9 +95,9 @@ append-copied-requires-2 c κs =
     let c2 = getD all (n + 2) [] in
     let c3 = getD all (n + 3) [] in
     let m = c .before .before .before .before .before .before .before .before .before .before .before .before .before .before .before .before .before .before .merge-four .ensures in
-    let p1 = pairs-one c0 (g .starts .now) n (g .out .now) (g .s .k) (omega (arith, s .pre .3 .for-starts)) (as-put (f .first) (m .first)) (c .before .before .before .before .before .before .before .before .before .before .before .before .put-start .ensures) in
-    let p2 = pairs-then (c0 ∷ []) (c1 ∷ []) p1 (copied-put c1 (as-put (f .second) (m .second)) (c .before .before .before .before .before .before .append-copied .ensures) (two n)) in
-    (work-size c2 (as-put (f .third) (m .third)) (as-work (f .third) (g .wc .now) (s .pre .2 .third)), copied-room c2 (as-put (f .third) (m .third)) (room-next (c0 ∷ c1 ∷ []) (c2 ∷ []) (c3 ∷ []) (s .pre .3) p2))
+    let p1 = pairs-one c0 (g .starts .now) n (g .out .now) (g .s .k) (omega (arith, s .pre .3 .for-starts)) (as-put (f .first) (m .0)) (c .before .before .before .before .before .before .before .before .before .before .before .before .put-start .ensures) in
+    let p2 = pairs-then (c0 ∷ []) (c1 ∷ []) p1 (copied-put c1 (as-put (f .second) (m .1)) (c .before .before .before .before .before .before .append-copied .ensures) (two n)) in
+    (work-size c2 (as-put (f .third) (m .2)) (as-work (f .third) (g .wc .now) (s .pre .2 .third)), copied-room c2 (as-put (f .third) (m .2)) (room-next (c0 ∷ c1 ∷ []) (c2 ∷ []) (c3 ∷ []) (s .pre .3) p2))
 
 add-append-copied-3 : tie.Need-add-append-copied-3
 add-append-copied-3 c = omega (arith, c .before .before .before .before .before .before .before .before .before .before .before .before .before .before .before .before .before .before .before .before .before .before .before .before .before .before .before .before .before .before .before .before .before .before .before .pre .1 .some, c .before .before .before .before .before .before .before .before .before .before .before .before .before .before .before .before .before .before .before .before .before .before .before .before .before .before .before .before .before .before .before .before .before .before .before .pre .1 .few)
@@ -113,10 +114,10 @@ append-copied-requires-3 c κs =
     let c2 = getD all (n + 2) [] in
     let c3 = getD all (n + 3) [] in
     let m = c .before .before .before .before .before .before .before .before .before .before .before .before .before .before .before .before .before .before .before .before .before .before .before .before .before .merge-four .ensures in
-    let p1 = pairs-one c0 (g .starts .now) n (g .out .now) (g .s .k) (omega (arith, s .pre .3 .for-starts)) (as-put (f .first) (m .first)) (c .before .before .before .before .before .before .before .before .before .before .before .before .before .before .before .before .before .before .before .put-start .ensures) in
-    let p2 = pairs-then (c0 ∷ []) (c1 ∷ []) p1 (copied-put c1 (as-put (f .second) (m .second)) (c .before .before .before .before .before .before .before .before .before .before .before .before .before .append-copied .ensures) (two n)) in
-    let p3 = pairs-then (c0 ∷ c1 ∷ []) (c2 ∷ []) p2 (copied-put c2 (as-put (f .third) (m .third)) (c .before .before .before .before .before .before .append-copied2 .ensures) (three n)) in
-    (work-size c3 (as-put (f .fourth) (m .fourth)) (as-work (f .fourth) (g .wd .now) (s .pre .2 .fourth)), copied-room c3 (as-put (f .fourth) (m .fourth)) (room-next (c0 ∷ c1 ∷ c2 ∷ []) (c3 ∷ []) ([]) (s .pre .3) p3))
+    let p1 = pairs-one c0 (g .starts .now) n (g .out .now) (g .s .k) (omega (arith, s .pre .3 .for-starts)) (as-put (f .first) (m .0)) (c .before .before .before .before .before .before .before .before .before .before .before .before .before .before .before .before .before .before .before .put-start .ensures) in
+    let p2 = pairs-then (c0 ∷ []) (c1 ∷ []) p1 (copied-put c1 (as-put (f .second) (m .1)) (c .before .before .before .before .before .before .before .before .before .before .before .before .before .append-copied .ensures) (two n)) in
+    let p3 = pairs-then (c0 ∷ c1 ∷ []) (c2 ∷ []) p2 (copied-put c2 (as-put (f .third) (m .2)) (c .before .before .before .before .before .before .append-copied2 .ensures) (three n)) in
+    (work-size c3 (as-put (f .fourth) (m .3)) (as-work (f .fourth) (g .wd .now) (s .pre .2 .fourth)), copied-room c3 (as-put (f .fourth) (m .3)) (room-next (c0 ∷ c1 ∷ c2 ∷ []) (c3 ∷ []) ([]) (s .pre .3) p3))
 
 same-length : tie.Need-same-length
 same-length c = search needs
@@ -145,10 +146,10 @@ returns c =
     let c2 = getD all (n + 2) [] in
     let c3 = getD all (n + 3) [] in
     let m = c .before .before .before .before .before .before .before .before .before .before .before .before .before .before .before .before .before .before .before .before .before .before .before .before .before .before .before .before .before .merge-four .ensures in
-    let p1 = pairs-one c0 (g .starts .now) n (g .out .now) (g .s .k) (omega (arith, s .pre .3 .for-starts)) (as-put (f .first) (m .first)) (c .before .before .before .before .before .before .before .before .before .before .before .before .before .before .before .before .before .before .before .before .before .before .before .put-start .ensures) in
-    let p2 = pairs-then (c0 ∷ []) (c1 ∷ []) p1 (copied-put c1 (as-put (f .second) (m .second)) (c .before .before .before .before .before .before .before .before .before .before .before .before .before .before .before .before .before .append-copied .ensures) (two n)) in
-    let p3 = pairs-then (c0 ∷ c1 ∷ []) (c2 ∷ []) p2 (copied-put c2 (as-put (f .third) (m .third)) (c .before .before .before .before .before .before .before .before .before .before .append-copied2 .ensures) (three n)) in
-    let p4 = pairs-then (c0 ∷ c1 ∷ c2 ∷ []) (c3 ∷ []) p3 (copied-put c3 (as-put (f .fourth) (m .fourth)) (c .before .before .before .append-copied3 .ensures) (four n)) in
+    let p1 = pairs-one c0 (g .starts .now) n (g .out .now) (g .s .k) (omega (arith, s .pre .3 .for-starts)) (as-put (f .first) (m .0)) (c .before .before .before .before .before .before .before .before .before .before .before .before .before .before .before .before .before .before .before .before .before .before .before .put-start .ensures) in
+    let p2 = pairs-then (c0 ∷ []) (c1 ∷ []) p1 (copied-put c1 (as-put (f .second) (m .1)) (c .before .before .before .before .before .before .before .before .before .before .before .before .before .before .before .before .before .append-copied .ensures) (two n)) in
+    let p3 = pairs-then (c0 ∷ c1 ∷ []) (c2 ∷ []) p2 (copied-put c2 (as-put (f .third) (m .2)) (c .before .before .before .before .before .before .before .before .before .before .append-copied2 .ensures) (three n)) in
+    let p4 = pairs-then (c0 ∷ c1 ∷ c2 ∷ []) (c3 ∷ []) p3 (copied-put c3 (as-put (f .fourth) (m .3)) (c .before .before .before .append-copied3 .ensures) (four n)) in
     put-on (g .left) (g .right) (place-with (g .left) (g .right) (f .place)) p4
 
 pub append-four-spec : {M : Type 1} → statement M

@@ -5,7 +5,8 @@ use native.Mathlib.Omega.{arith}
 use lib.ListN.{length}
 use Rattle.pair_walks.specs.Walks.{contoursIn}
 use Rattle.minkowski_chains.specs.Contours.{PutTo}
-use Rattle.minkowski_chains.proofs.Contours.{contours-length, four-piece, to-start, to-more, to-room, to-next, rooms-same}
+use Rattle.minkowski_order.proofs.Pairs.{contours-length}
+use Rattle.minkowski_chains.proofs.Contours.{four-piece, to-start, to-more, to-room, to-next, rooms-same}
 use Rattle.minkowski_chains.proofs.append_fours.Statement.{statement}
 use Rattle.minkowski_chains.proofs.append_fours.Tie as tie
 

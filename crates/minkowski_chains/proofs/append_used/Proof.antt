@@ -5,7 +5,8 @@ use native.Mathlib.Omega.{arith}
 use borrow.Author.Needs.{needs}
 use lib.ListN.{length, length-set}
 use Rattle.pair_walks.specs.Walks.{contoursIn}
-use Rattle.minkowski_chains.proofs.Contours.{contours-length, one-piece, Since, to-more, to-room, to-next, to-end, room-started}
+use Rattle.minkowski_order.proofs.Pairs.{contours-length}
+use Rattle.minkowski_chains.proofs.Contours.{one-piece, Since, to-more, to-room, to-next, to-end, room-started}
 use Rattle.minkowski_chains.proofs.append_used.Statement.{statement}
 use Rattle.minkowski_chains.proofs.append_used.Tie as tie
 
@@ -29,8 +30,8 @@ append-fours-requires c κs =
 loop-holds : tie.Need-loop-holds Inv-loop μ-loop
 loop-holds c = record { to = λ a. a }
 
-append-one-requires : tie.Need-append-one-requires Inv-loop μ-loop
-append-one-requires c κs =
+append-next-requires : tie.Need-append-next-requires Inv-loop μ-loop
+append-next-requires c κs =
     let s = c .before .before .before .before .before .before .before .before .before .before .before .before .before .before .before .before .before .before .before .before .before .before .before .before in
     let g = s .args in
     let all = contoursIn (g .firsts .now) (g .points .now) (g .left) (g .right) in
@@ -48,7 +49,7 @@ loop-less c =
     let g = c .before .before .before .before .before .before .before .before .before .before .before .before .before .before .before .before .before .before .before .before .before .before .before .before .before .before .before .before .args in
     let l = c .before .before .before .before .before .before .before .before .loop in
     let h : l .s .n + 1 ≤ g .left * g .right = omega (arith, c .before .before .before .before .before .before .if1 .taken) in
-    omega (arith, c .before .before .before .append-one .ensures .place .number, h)
+    omega (arith, c .before .before .before .append-next .ensures .place .number, h)
 
 loop-again : tie.Need-loop-again Inv-loop μ-loop
 loop-again c =
@@ -59,7 +60,7 @@ loop-again c =
     let l = c .before .before .before .before .before .before .before .before .loop in
     let w : g .left * g .right < 2 ^ 64 = omega (arith, e, s .pre .2 .for-starts) in
     let h : l .s .n + 1 ≤ g .left * g .right = omega (arith, c .before .before .before .before .before .before .if1 .taken) in
-    record { to = λ o. to-next (g .left) (g .right) e w (l .s) (l .inv .to o) (one-piece all (l .s .n) (omega (arith, e, h))) h (c .before .before .before .append-one .ensures) }
+    record { to = λ o. to-next (g .left) (g .right) e w (l .s) (l .inv .to o) (one-piece all (l .s .n) (omega (arith, e, h))) h (c .before .before .before .append-next .ensures) }
 
 same-length : tie.Need-same-length Inv-loop μ-loop
 same-length c = search needs
@@ -116,7 +117,7 @@ append-used-spec =
     mul-all
     append-fours-requires
     loop-holds
-    append-one-requires
+    append-next-requires
     loop-less
     loop-again
     same-length

@@ -20,8 +20,8 @@ loop-holds : tie.Need-loop-holds Inv-loop μ-loop
 unfolding flatten
 loop-holds c = (omega arith, refl, refl)
 
-merge-one-requires : tie.Need-merge-one-requires Inv-loop μ-loop
-merge-one-requires c κs =
+count-pair-requires : tie.Need-count-pair-requires Inv-loop μ-loop
+count-pair-requires c κs =
     let s = c .before .before .before .before in
     (s .pre .0 .0, s .pre .0 .1, c .before .loop-test .taken, omega (arith, s .pre .0 .2, c .before .before .loop .inv .1))
 
@@ -31,7 +31,7 @@ add-total c =
     let g = s .args in
     let l = c .before .before .before .before .loop in
     let h = rights-count (g .firsts .now) (g .points .now) (g .left) (g .right) (s .pre .0 .0) in
-    omega (arith, c .before .merge-one .ensures .count, l .inv .2, row-fits (walkIn (g .firsts .now) (g .points .now) (g .left + g .right) (g .p)) (rightsIn (g .firsts .now) (g .points .now) (g .left) (g .right)) (l .q) (omega (arith, c .before .before .before .loop-test .taken, h)) (right-walk (g .firsts .now) (g .points .now) (g .left) (g .right) (l .q)), s .pre .1)
+    omega (arith, c .before .count-pair .ensures .count, l .inv .2, row-fits (walkIn (g .firsts .now) (g .points .now) (g .left + g .right) (g .p)) (rightsIn (g .firsts .now) (g .points .now) (g .left) (g .right)) (l .q) (omega (arith, c .before .before .before .loop-test .taken, h)) (right-walk (g .firsts .now) (g .points .now) (g .left) (g .right) (l .q)), s .pre .1)
 
 add-q : tie.Need-add-q Inv-loop μ-loop
 add-q c = omega (arith, c .before .before .before .loop-test .taken)
@@ -48,7 +48,7 @@ loop-again c =
     let h = rights-count (g .firsts .now) (g .points .now) (g .left) (g .right) (s .pre .0 .0) in (
       omega (arith, t),
       c .work .given ∙ l .inv .1,
-      omega (arith, c .before .merge-one .ensures .count, l .inv .2, row-turn (walkIn (g .firsts .now) (g .points .now) (g .left + g .right) (g .p)) (rightsIn (g .firsts .now) (g .points .now) (g .left) (g .right)) (l .q) (omega (arith, t, h)) (right-walk (g .firsts .now) (g .points .now) (g .left) (g .right) (l .q))),
+      omega (arith, c .before .count-pair .ensures .count, l .inv .2, row-turn (walkIn (g .firsts .now) (g .points .now) (g .left + g .right) (g .p)) (rightsIn (g .firsts .now) (g .points .now) (g .left) (g .right)) (l .q) (omega (arith, t, h)) (right-walk (g .firsts .now) (g .points .now) (g .left) (g .right) (l .q))),
     )
 
 same-length : tie.Need-same-length Inv-loop μ-loop
@@ -62,4 +62,4 @@ returns c =
     l .inv .2 ∙ row-end (walkIn (g .firsts .now) (g .points .now) (g .left + g .right) (g .p)) (rightsIn (g .firsts .now) (g .points .now) (g .left) (g .right)) (l .q) (omega (arith, c .loop-test .left, rights-count (g .firsts .now) (g .points .now) (g .left) (g .right) (s .pre .0 .0)))
 
 pub count-row-spec : {M : Type 1} → statement M
-count-row-spec = tie.close (tie.spec Inv-loop μ-loop loop-holds merge-one-requires add-total add-q loop-less loop-again same-length returns)
+count-row-spec = tie.close (tie.spec Inv-loop μ-loop loop-holds count-pair-requires add-total add-q loop-less loop-again same-length returns)

@@ -7,7 +7,8 @@ use mir.Syntax.{w32}
 use mir.Val.{SFits}
 use Rattle.plane.specs.Plane.{inRange}
 use Rattle.table.specs.declared.IntRect.{IntRect}
-use Rattle.table.specs.Table.{offRange, boundsList}
+use Rattle.corners.specs.Corners.{offRange}
+use Rattle.table.specs.Table.{boundsList}
 use Rattle.minkowski_faults.proofs.Range.{held, off-in, off-out, off-last}
 use Rattle.minkowski_faults.proofs.bounds_off.Statement.{statement}
 use Rattle.minkowski_faults.proofs.bounds_off.Tie as tie

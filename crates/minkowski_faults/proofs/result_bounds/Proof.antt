@@ -3,7 +3,8 @@ use mathlib.Core.Path.{_≡_}
 use mathlib.Core.Bool.{Bool, true, false}
 use lib.IntN.{ℤ, _+ℤ_, _-ℤ_}
 use Rattle.table.specs.declared.IntRect.{IntRect}
-use Rattle.table.specs.Table.{offRange, boundsList}
+use Rattle.corners.specs.Corners.{offRange}
+use Rattle.table.specs.Table.{boundsList}
 use Rattle.minkowski.specs.Pairs.{resultBounds}
 use Rattle.minkowski_faults.proofs.Range.{held, bounds-small, held-both, held-sum, held-difference}
 use Rattle.minkowski_faults.proofs.result_bounds.Statement.{statement}

@@ -6,7 +6,8 @@ use Prim.Native.Nat.{ℕ, _≤_, _<_}
 use lib.Dec.{eqb}
 use lib.ListN.{length}
 use Rattle.integers.specs.Faults.{Kind, firstFault}
-use Rattle.table.specs.Table.{offRange, boundsList, partCount}
+use Rattle.corners.specs.Corners.{offRange}
+use Rattle.table.specs.Table.{boundsList, partCount}
 use Rattle.integers.proofs.Faults.{first-this, first-next, first-empty}
 use Rattle.minkowski_faults.proofs.Range.{no-parts, some-parts}
 use borrow.Author.Needs.{needs}

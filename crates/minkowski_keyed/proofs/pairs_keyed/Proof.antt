@@ -69,8 +69,8 @@ number-walks-requires c κs =
     let w = c .before .before .before .before .before .before .before .before .before .walks-fault .ensures .walked (c .before .before .before .before .before .if1 .left) in
     numberable x (s .pre .0 .accepted) w (omega (arith, s .pre .0 .room .small, c .before .before .before .before .before .before .before .before .points .given)) (omega (arith, s .pre .1, c .before .before .before .before .before .before .before .before .points .given))
 
-hand-out-requires : tie.Need-hand-out-requires
-hand-out-requires c κs =
+hand-out-keyed-requires : tie.Need-hand-out-keyed-requires
+hand-out-keyed-requires c κs =
     let s = c .before .before .before .before .before .before .before .before .before .before .before .before .before .before .before .before .before .before .before .before .before .before .before .before .before in
     let g = s .args in
     let x = callOf (g .operation) (g .left-starts .now) (g .left-corners .now) (g .right-starts .now) (g .right-corners .now) in
@@ -106,7 +106,7 @@ returns-2 c =
     let w = c .before .before .before .before .before .before .before .before .before .before .before .before .before .before .before .before .before .before .before .before .before .walks-fault .ensures in
     let n = c .before .before .before .before .before .before .before .before .before .before .before .before .before .before .before .before .before .if1 .left in
     let d = room-decides (x .reflected) (x .left) (x .right) (length (g .starts .now)) (length (g .corners .now)) (s .pre .0 .accepted) (sym (w .told) ∙ n) in
-    answered x (w .walked n) (g .starts .now) (g .corners .now) d (c .before .before .before .before .before .before .before .before .before .before .before .before .before .before .before .before .result-bounds .ensures) (c .before .before .before .hand-out .ensures)
+    answered x (w .walked n) (g .starts .now) (g .corners .now) d (c .before .before .before .before .before .before .before .before .before .before .before .before .before .before .before .before .result-bounds .ensures) (c .before .before .before .hand-out-keyed .ensures)
 
 pub pairs-keyed-spec : {M : Type 1} → statement M
 pairs-keyed-spec =
@@ -122,7 +122,7 @@ pairs-keyed-spec =
     sub-left
     sub-right
     number-walks-requires
-    hand-out-requires
+    hand-out-keyed-requires
     same-length-3
     same-length-4
     same-length-5

@@ -18,7 +18,7 @@ same-length-2 c = search needs
 returns : tie.Need-returns
 returns c =
     let a = c .before .before .before .tiny-pairs .ensures in
-    (a .counts, (a .starts, a .corners))
+    (a .counts, a .starts, a .corners)
 
 both-fit-requires-2 : tie.Need-both-fit-requires-2
 both-fit-requires-2 c κs = search needs
@@ -35,7 +35,7 @@ same-length-4 c = search needs
 returns-2 : tie.Need-returns-2
 returns-2 c =
     let a = c .before .before .before .small-pairs .ensures in
-    (a .counts, (a .starts, a .corners))
+    (a .counts, a .starts, a .corners)
 
 large-pairs-requires : tie.Need-large-pairs-requires
 large-pairs-requires c κs = search needs
@@ -49,7 +49,7 @@ same-length-6 c = search needs
 returns-3 : tie.Need-returns-3
 returns-3 c =
     let a = c .before .before .before .large-pairs .ensures in
-    (a .counts, (a .starts, a .corners))
+    (a .counts, a .starts, a .corners)
 
 pub difference-parts-spec : {M : Type 1} → statement M
 difference-parts-spec =

@@ -153,13 +153,12 @@ returns c =
     let t = c .before .before .before .before .before .before .before .before .before .before .before .before in
     let l = t .before .before .loop in
     let s = t .before .before .before .before .before .before .before .before .before .before .before .before in
-    let g = s .args in
-    record {
-      first = of-done (g .points .now) (g .numbers .now) (g .x .a) (l .a) (l .inv .0) (c .before .before .before .before .before .before .before .before .before .before .finish .ensures);
-      second = of-done (g .points .now) (g .numbers .now) (g .x .b) (l .b) (l .inv .1) (c .before .before .before .before .before .before .before .finish2 .ensures);
-      third = of-done (g .points .now) (g .numbers .now) (g .x .c) (l .c) (l .inv .2) (c .before .before .before .before .finish3 .ensures);
-      fourth = of-done (g .points .now) (g .numbers .now) (g .x .d) (l .d) (l .inv .3) (c .before .finish4 .ensures);
-    }
+    let g = s .args in (
+      of-done (g .points .now) (g .numbers .now) (g .x .a) (l .a) (l .inv .0) (c .before .before .before .before .before .before .before .before .before .before .finish .ensures),
+      of-done (g .points .now) (g .numbers .now) (g .x .b) (l .b) (l .inv .1) (c .before .before .before .before .before .before .before .finish2 .ensures),
+      of-done (g .points .now) (g .numbers .now) (g .x .c) (l .c) (l .inv .2) (c .before .before .before .before .finish3 .ensures),
+      of-done (g .points .now) (g .numbers .now) (g .x .d) (l .d) (l .inv .3) (c .before .finish4 .ensures),
+    )
 
 pub merge-four-spec : {M : Type 1} → statement M
 merge-four-spec =

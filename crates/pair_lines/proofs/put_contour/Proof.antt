@@ -2,8 +2,8 @@
 use mathlib.Core.Path.{ap}
 use native.Mathlib.Omega.{arith}
 use lib.ListN.{length}
-use Rattle.table.specs.Table.{pointsOf}
-use Rattle.table.proofs.Corners.{length-points}
+use Rattle.corners.specs.Corners.{pointsOf}
+use Rattle.corners.proofs.Corners.{length-points}
 use Rattle.text.specs.Text.{decimal}
 use Rattle.pair_lines.proofs.Pieces.{line-length, line-pieces}
 use borrow.Author.Needs.{needs}

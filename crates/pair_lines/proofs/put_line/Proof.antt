@@ -10,26 +10,26 @@ use borrow.Author.Needs.{needs}
 use Rattle.pair_lines.proofs.put_line.Statement.{statement}
 use Rattle.pair_lines.proofs.put_line.Tie as tie
 
-merge-one-requires : tie.Need-merge-one-requires
-merge-one-requires c κs = search needs
+merge-pair-requires : tie.Need-merge-pair-requires
+merge-pair-requires c κs = search needs
 
 mul-put-contour : tie.Need-mul-put-contour
 mul-put-contour c =
     let s = c .before .before .before .before .before .before in
     let g = s .args in
-    omega (arith, pair-count (g .firsts .now) (g .points .now) (g .numbers .now) (g .left) (g .right) (g .p) (g .q) (g .work .now) (g .out .now) (s .pre) (c .before .merge-one .ensures))
+    omega (arith, pair-count (g .firsts .now) (g .points .now) (g .numbers .now) (g .left) (g .right) (g .p) (g .q) (g .work .now) (g .out .now) (s .pre) (c .before .merge-pair .ensures))
 
 slice-reshare-prefix-put-contour : tie.Need-slice-reshare-prefix-put-contour
 slice-reshare-prefix-put-contour c =
     let s = c .before .before .before .before .before .before in
     let g = s .args in
-    omega (arith, pair-inside (g .firsts .now) (g .points .now) (g .numbers .now) (g .left) (g .right) (g .p) (g .q) (g .work .now) (g .out .now) (s .pre) (c .before .merge-one .ensures) refl)
+    omega (arith, pair-inside (g .firsts .now) (g .points .now) (g .numbers .now) (g .left) (g .right) (g .p) (g .q) (g .work .now) (g .out .now) (s .pre) (c .before .merge-pair .ensures) refl)
 
 slice-aggregate-put-contour : tie.Need-slice-aggregate-put-contour
 slice-aggregate-put-contour c =
     let s = c .before .before .before .before .before .before .before in
     let g = s .args in
-    sym (length-take-le _ _ (omega (arith, pair-inside (g .firsts .now) (g .points .now) (g .numbers .now) (g .left) (g .right) (g .p) (g .q) (g .work .now) (g .out .now) (s .pre) (c .before .before .merge-one .ensures) refl)))
+    sym (length-take-le _ _ (omega (arith, pair-inside (g .firsts .now) (g .points .now) (g .numbers .now) (g .left) (g .right) (g .p) (g .q) (g .work .now) (g .out .now) (s .pre) (c .before .before .merge-pair .ensures) refl)))
 
 put-contour-requires : tie.Need-put-contour-requires
 put-contour-requires c κs =
@@ -37,7 +37,7 @@ put-contour-requires c κs =
     let g = s .args in
     omega (
       arith,
-      ap (λ ps. length (pairLine (g .p) (g .q) ps)) (merged-front (c .before .before .before .merge-one .ensures)),
+      ap (λ ps. length (pairLine (g .p) (g .q) ps)) (merged-front (c .before .before .before .merge-pair .ensures)),
       pair-room (g .firsts .now) (g .points .now) (g .numbers .now) (g .left) (g .right) (g .p) (g .q) (g .work .now) (g .out .now) (s .pre),
     )
 
@@ -50,13 +50,13 @@ same-length-2 c = search needs
 returns : tie.Need-returns
 returns c =
     let g = c .before .before .before .before .before .before .before .before .before .before .before .args in
-    put-as (ap (pairLine (g .p) (g .q)) (merged-front (c .before .before .before .before .before .before .merge-one .ensures))) (c .before .before .put-contour .ensures)
+    put-as (ap (pairLine (g .p) (g .q)) (merged-front (c .before .before .before .before .before .before .merge-pair .ensures))) (c .before .before .put-contour .ensures)
 
 pub put-line-spec : {M : Type 1} → statement M
 put-line-spec =
     tie.close
     (tie.spec
-    merge-one-requires
+    merge-pair-requires
     mul-put-contour
     slice-reshare-prefix-put-contour
     slice-aggregate-put-contour

@@ -5,14 +5,14 @@ use borrow.Author.Needs.{needs}
 use Rattle.pair_merge.proofs.edge.Statement.{statement}
 use Rattle.pair_merge.proofs.edge.Tie as tie
 
-add-corner-at : tie.Need-add-corner-at
-add-corner-at c = search needs
+add-point-at : tie.Need-add-point-at
+add-point-at c = search needs
 
-corner-at-requires : tie.Need-corner-at-requires
-corner-at-requires c κs = search needs
+point-at-requires : tie.Need-point-at-requires
+point-at-requires c κs = search needs
 
-corner-at-requires-2 : tie.Need-corner-at-requires-2
-corner-at-requires-2 c κs = search needs
+point-at-requires-2 : tie.Need-point-at-requires-2
+point-at-requires-2 c κs = search needs
 
 subtract-requires : tie.Need-subtract-requires
 subtract-requires c κs = search needs
@@ -20,9 +20,9 @@ subtract-requires c κs = search needs
 returns : tie.Need-returns
 returns c =
     let g = c .before .before .before .args in
-    (c .subtract .ensures .0 ∙ edge-in (g .a .now) (g .i) (c .before .before .corner-at .ensures .0) (c .before .corner-at2 .ensures .0), c .subtract .ensures .1)
+    (c .subtract .ensures .0 ∙ edge-in (g .a .now) (g .i) (c .before .before .point-at .ensures .0) (c .before .point-at2 .ensures .0), c .subtract .ensures .1)
 
 pub edge-spec : {M : Type 1} → statement M
 edge-spec =
     tie.close
-    (tie.spec add-corner-at corner-at-requires corner-at-requires-2 subtract-requires returns)
+    (tie.spec add-point-at point-at-requires point-at-requires-2 subtract-requires returns)

@@ -2,7 +2,7 @@
 use Prim.Native.Nat.{_-_, _<_}
 use native.Mathlib.Omega.{arith}
 use lib.ListN.{length, drop}
-use Rattle.convex_ring.specs.Buffers.{cornerAt}
+use Rattle.points.specs.Points.{cornerIn}
 use Rattle.pair_points.specs.Points.{restOf}
 use Rattle.pair_merge.specs.Putting.{pointsIn, Reached}
 use Rattle.pair_merge.proofs.Placing.{reached-start}
@@ -11,7 +11,7 @@ use Rattle.pair_merge.proofs.rest.Statement.{statement}
 use Rattle.pair_merge.proofs.rest.Tie as tie
 
 abbrev Inv-loop : tie.InvT-loop
-Inv-loop a i b j out₀ at n p₀ k₀ out p k = (p < length a) × Reached (restOf (cornerAt b j) (drop i (pointsIn a))) (restOf (cornerAt b j) (drop p (pointsIn a))) out₀ at out k
+Inv-loop a i b j out₀ at n p₀ k₀ out p k = (p < length a) × Reached (restOf (cornerIn b j) (drop i (pointsIn a))) (restOf (cornerIn b j) (drop p (pointsIn a))) out₀ at out k
 
 abbrev μ-loop : tie.MeasureT-loop
 μ-loop a i b j out₀ at n p₀ k₀ out p k = length a - p
@@ -20,7 +20,7 @@ sub-n : tie.Need-sub-n Inv-loop μ-loop
 sub-n c = omega (arith, c .pre .0)
 
 loop-holds : tie.Need-loop-holds Inv-loop μ-loop
-loop-holds c = (c .pre .0, reached-start (restOf (cornerAt (c .args .b .now) (c .args .j)) (drop (c .args .i) (pointsIn (c .args .a .now)))) (c .args .out .now) (c .args .at))
+loop-holds c = (c .pre .0, reached-start (restOf (cornerIn (c .args .b .now) (c .args .j)) (drop (c .args .i) (pointsIn (c .args .a .now)))) (c .args .out .now) (c .args .at))
 
 put-sum-requires : tie.Need-put-sum-requires Inv-loop μ-loop
 put-sum-requires c κs =

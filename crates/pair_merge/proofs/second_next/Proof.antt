@@ -2,8 +2,9 @@
 use mathlib.Core.Path.{sym, _∙_, ap}
 use lib.ListN.{length-map}
 use Rattle.plane.specs.Plane.{isGreater}
-use Rattle.convex_ring.specs.Buffers.{cornerOf}
-use Rattle.pair_points.proofs.Turns.{edgeAt, second-last}
+use Rattle.points.specs.Points.{cornerOf}
+use Rattle.pair_points.specs.Points.{edgeAt}
+use Rattle.pair_points.proofs.Turns.{second-last}
 use Rattle.pair_merge.specs.Putting.{pointsIn}
 use Rattle.pair_merge.proofs.Merging.{tie-broken}
 use borrow.Author.Needs.{needs}

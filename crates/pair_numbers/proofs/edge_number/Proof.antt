@@ -3,9 +3,9 @@ use mathlib.Core.Path.{_≡_, refl, sym, _∙_, ap, ap₂, subst}
 use Prim.Native.Nat.{ℕ, _+_, _*_, _-_, _≤_, _<_}
 use native.Mathlib.Omega.{arith}
 use lib.ListN.{length, getD, length-map, length-set}
-use Rattle.convex_ring.specs.Buffers.{cornerOf}
+use Rattle.points.specs.Points.{cornerOf}
 use Rattle.pair_merge.specs.Putting.{pointsIn}
-use Rattle.plane.proofs.Directions.{Nz}
+use Rattle.plane.specs.Halves.{Nz}
 use Rattle.direction_keys.specs.Keys.{key}
 use Rattle.direction_keys.proofs.Steps.{edge-nz, right-is}
 use Rattle.pair_numbers.proofs.Filling.{small-edge}

@@ -3,7 +3,7 @@ use mathlib.Core.Path.{_≡_, refl, sym, _∙_, ap, ap₂, subst}
 use Prim.Native.Nat.{ℕ, _+_, _*_, _-_, _≤_, _<_}
 use native.Mathlib.Omega.{arith}
 use lib.ListN.{length, getD, length-map, length-set}
-use Rattle.convex_ring.specs.Buffers.{cornerOf}
+use Rattle.points.specs.Points.{cornerOf}
 use Rattle.pair_merge.specs.Putting.{pointsIn}
 use Rattle.plane.specs.declared.Ordering.the-variants.{Less, Equal, Greater}
 use Rattle.plane.specs.Plane.{angleCmp}

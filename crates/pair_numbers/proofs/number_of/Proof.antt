@@ -6,7 +6,7 @@ use Prim.Native.Nat.{ℕ, _+_, _-_, _≤_, _<_}
 use native.Mathlib.Omega.{arith}
 use lib.ListN.{length, length-map}
 use Rattle.plane.specs.Plane.{Pt}
-use Rattle.convex_ring.specs.Buffers.{cornerOf}
+use Rattle.points.specs.Points.{cornerOf}
 use Rattle.pair_merge.specs.Putting.{pointsIn}
 use Rattle.direction_keys.specs.Marks.{last}
 use Rattle.direction_keys.proofs.Steps.{left-last, right-last, left-is, right-is, mark-most}

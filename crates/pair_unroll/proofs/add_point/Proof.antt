@@ -29,11 +29,11 @@ returns c =
 goes-on-requires : tie.Need-goes-on-requires
 goes-on-requires c κs = search needs
 
-sub-put-corner : tie.Need-sub-put-corner
-sub-put-corner c = search needs
+sub-put-point : tie.Need-sub-put-point
+sub-put-point c = search needs
 
-put-corner-requires : tie.Need-put-corner-requires
-put-corner-requires c κs = search needs
+put-point-requires : tie.Need-put-point-requires
+put-point-requires c κs = search needs
 
 same-length-2 : tie.Need-same-length-2
 same-length-2 c = search needs
@@ -44,10 +44,10 @@ returns-2 c =
     let a = s .args in
     added-straight (point (a .r)) (a .from) (a .points .now) (a .count) (s .pre .0)
     (c .before .before .before .before .before .before .before .same-point .ensures ∙ ap (λ q. eqPt q (point (a .r))) (c .before .before .before .before .before .before .before .before .point-at .ensures)) (c .before .before .before .before .before .before .if1 .left)
-    (c .before .before .before .before .goes-on .ensures) (c .before .before .before .if2 .taken) (c .before .put-corner .ensures)
+    (c .before .before .before .before .goes-on .ensures) (c .before .before .before .if2 .taken) (c .before .put-point .ensures)
 
-put-corner-requires-2 : tie.Need-put-corner-requires-2
-put-corner-requires-2 c κs = search needs
+put-point-requires-2 : tie.Need-put-point-requires-2
+put-point-requires-2 c κs = search needs
 
 add-result : tie.Need-add-result
 add-result c = search needs
@@ -61,7 +61,7 @@ returns-3 c =
     let a = s .args in
     added-turning (point (a .r)) (a .from) (a .points .now) (a .count) (s .pre .0)
     (c .before .before .before .before .before .before .before .same-point .ensures ∙ ap (λ q. eqPt q (point (a .r))) (c .before .before .before .before .before .before .before .before .point-at .ensures)) (c .before .before .before .before .before .before .if1 .left)
-    (c .before .before .before .before .goes-on .ensures) (c .before .before .before .if2 .left) (c .before .put-corner2 .ensures)
+    (c .before .before .before .before .goes-on .ensures) (c .before .before .before .if2 .left) (c .before .put-point2 .ensures)
 
 pub add-point-spec : {M : Type 1} → statement M
 add-point-spec =
@@ -73,11 +73,11 @@ add-point-spec =
     same-length
     returns
     goes-on-requires
-    sub-put-corner
-    put-corner-requires
+    sub-put-point
+    put-point-requires
     same-length-2
     returns-2
-    put-corner-requires-2
+    put-point-requires-2
     add-result
     same-length-3
     returns-3)

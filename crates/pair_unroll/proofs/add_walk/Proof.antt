@@ -3,12 +3,12 @@ use mathlib.Core.Path.{_≡_, sym, _∙_, ap, subst}
 use mathlib.Core.Bool.{false}
 use native.Mathlib.Omega.{arith}
 use Rattle.plane.specs.Machine.{point}
-use Rattle.table.specs.Table.{pointsOf}
+use Rattle.corners.specs.Corners.{pointsOf}
 use Rattle.pair.specs.Walk.{advance}
 use Rattle.walk.specs.Calls.{misplaced}
 use Rattle.walk.proofs.Answers.{few-corners, index-inside}
 use Rattle.walk_read.proofs.Grid.{off-nowhere}
-use Rattle.convex_ring.specs.Buffers.{pairOf}
+use Rattle.points.specs.Points.{pairOf}
 use Rattle.pair_unroll.proofs.Walked.{fewer-steps, walking-placed, Walking, walking-start, walking-step, walking-adding, walking-end, onto, stored}
 use Rattle.pair_unroll.proofs.add_walk.Statement.{statement}
 use Rattle.pair_unroll.proofs.add_walk.Tie as tie
@@ -27,8 +27,8 @@ point-of-requires c κs =
     let s = c .before .before in
     (s .pre .placed, off-nowhere (s .args .contour .now) (s .args .start .index) (s .pre .ranged) (index-inside _ _ (s .pre .placed)))
 
-put-corner-requires : tie.Need-put-corner-requires Inv-loop μ-loop
-put-corner-requires c κs = omega (arith, c .before .before .before .pre .room)
+put-point-requires : tie.Need-put-point-requires Inv-loop μ-loop
+put-point-requires c κs = omega (arith, c .before .before .before .pre .room)
 
 add-count : tie.Need-add-count Inv-loop μ-loop
 add-count c = omega (arith, c .before .before .before .before .before .pre .room)
@@ -37,7 +37,7 @@ loop-holds : tie.Need-loop-holds Inv-loop μ-loop
 loop-holds c =
     let s = c .before .before .before .before .before in
     let a = s .args in
-    walking-start (pointsOf (a .contour .now)) (a .start) (a .from) _ (a .points .now) (s .pre .placed) (c .before .before .point-of .ensures) (omega (arith, s .pre .room)) (c .before .put-corner .ensures)
+    walking-start (pointsOf (a .contour .now)) (a .start) (a .from) _ (a .points .now) (s .pre .placed) (c .before .before .point-of .ensures) (omega (arith, s .pre .room)) (c .before .put-point .ensures)
 
 advance-of-requires : tie.Need-advance-of-requires Inv-loop μ-loop
 advance-of-requires c κs =
@@ -63,7 +63,7 @@ add-point-requires c κs =
           (omega (
             arith,
             s .pre .room,
-            stored (s .args .points .now) (s .args .from) (pairOf (point (p1 .before .point-of .result))) (p1 .put-corner .ensures) .0,
+            stored (s .args .points .now) (s .args .from) (pairOf (point (p1 .before .point-of .result))) (p1 .put-point .ensures) .0,
           )) (omega (arith, p2 .if1 .taken)),
       c .point-of2 .ensures .1,
     )
@@ -86,13 +86,13 @@ loop-again c =
 same-length : tie.Need-same-length Inv-loop μ-loop
 same-length c =
     let a = c .before .before .before .before .before .before .before .before .args in
-    omega (arith, c .before .before .loop .inv .appended .size, stored (a .points .now) (a .from) (pairOf (point (c .before .before .before .before .before .point-of .result))) (c .before .before .before .before .put-corner .ensures) .0)
+    omega (arith, c .before .before .loop .inv .appended .size, stored (a .points .now) (a .from) (pairOf (point (c .before .before .before .before .before .point-of .result))) (c .before .before .before .before .put-point .ensures) .0)
 
 returns : tie.Need-returns Inv-loop μ-loop
 returns c =
     let s = c .before .before .before .before .before .before .before .before in
     let a = s .args in
-    onto (stored (a .points .now) (a .from) (pairOf (point (c .before .before .before .before .before .point-of .result))) (c .before .before .before .before .put-corner .ensures)) (walking-end (pointsOf (a .contour .now)) (a .start) (a .from) (c .before .before .loop .inv) (omega (arith, c .if1 .left)))
+    onto (stored (a .points .now) (a .from) (pairOf (point (c .before .before .before .before .before .point-of .result))) (c .before .before .before .before .put-point .ensures)) (walking-end (pointsOf (a .contour .now)) (a .start) (a .from) (c .before .before .loop .inv) (omega (arith, c .if1 .left)))
 
 pub add-walk-spec : {M : Type 1} → statement M
 add-walk-spec =
@@ -102,7 +102,7 @@ add-walk-spec =
     μ-loop
     corner-count-requires
     point-of-requires
-    put-corner-requires
+    put-point-requires
     add-count
     loop-holds
     advance-of-requires

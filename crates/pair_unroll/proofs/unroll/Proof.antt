@@ -1,7 +1,7 @@
 -- `pair_unroll::unroll` meets its contract: an empty contour, a winding that leaves, and the walk, by Contours. Assumes nothing.
 use borrow.Author.Needs.{needs}
 use mathlib.Core.Path.{sym, _∙_}
-use Rattle.table.specs.Table.{pointsOf}
+use Rattle.corners.specs.Corners.{pointsOf}
 use Rattle.walk.proofs.Answers.{some-corner}
 use Rattle.pair_unroll.proofs.Contours.{told-to, told-leaves, none-unrolled, begun-at, begun-refused, walk-unrolled, walkable}
 use Rattle.pair_unroll.proofs.unroll.Statement.{statement}

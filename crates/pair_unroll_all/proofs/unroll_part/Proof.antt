@@ -2,7 +2,7 @@
 use borrow.Author.Needs.{needs}
 use mathlib.Core.Path.{_∙_, ap}
 use native.Mathlib.Omega.{arith}
-use Rattle.table.specs.Table.{pointsOf}
+use Rattle.corners.specs.Corners.{pointsOf}
 use Rattle.table.proofs.Shown.{placed, numbers-taken, part-is}
 use Rattle.pair_unroll_all.proofs.Parts.{unrollable-at, unrolled-at}
 use Rattle.pair_unroll_all.proofs.unroll_part.Statement.{statement}

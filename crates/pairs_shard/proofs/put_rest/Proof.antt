@@ -5,7 +5,7 @@ use native.Mathlib.Omega.{arith}
 use borrow.Author.Needs.{needs}
 use lib.ListN.{length, drop}
 use lib.Seq.{slice}
-use Rattle.table.proofs.Shown.{take-drop}
+use Rattle.corners.proofs.Corners.{take-drop}
 use Rattle.text.proofs.Puts.{put-length, put-as, put-after}
 use Rattle.pairs_job.specs.Job.{tableWords}
 use Rattle.pairs_shard.proofs.Known.{known}

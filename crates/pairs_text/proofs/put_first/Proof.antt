@@ -22,8 +22,8 @@ returns c =
     let g = s .args in
     put-as (first-refused (g .begun) (g .firsts .now) (g .points .now) (c .before .before .before .before .if1 .taken)) (c .before .before .put-refusal .ensures)
 
-count-all-requires : tie.Need-count-all-requires
-count-all-requires c κs =
+count-keyed-requires : tie.Need-count-keyed-requires
+count-keyed-requires c κs =
     let p = c .before .before .before .before .before .pre .0 in
     let e = c .before .if1 .left in
     (p .keyed e, omega (arith, p .few))
@@ -35,7 +35,7 @@ put-head-requires : tie.Need-put-head-requires
 put-head-requires c κs =
     let s = c .before .before .before .before .before .before .before in
     let x = s .args .begun in
-    omega (arith, head-any (x .left * x .right) (c .before .count-all .result) (x .bounds), s .pre .1)
+    omega (arith, head-any (x .left * x .right) (c .before .count-keyed .result) (x .bounds), s .pre .1)
 
 same-length-2 : tie.Need-same-length-2
 same-length-2 c = search needs
@@ -43,7 +43,7 @@ same-length-2 c = search needs
 returns-2 : tie.Need-returns-2
 returns-2 c =
     let g = c .before .before .before .before .before .before .before .before .before .before .args in
-    put-as (first-head (g .begun) (g .firsts .now) (g .points .now) (c .before .before .before .before .before .before .if1 .left) (c .before .before .before .before .count-all .ensures)) (c .before .before .put-head .ensures)
+    put-as (first-head (g .begun) (g .firsts .now) (g .points .now) (c .before .before .before .before .before .before .if1 .left) (c .before .before .before .before .count-keyed .ensures)) (c .before .before .put-head .ensures)
 
 pub put-first-spec : {M : Type 1} → statement M
-put-first-spec = tie.close (tie.spec put-refusal-requires same-length returns count-all-requires mul-put-head put-head-requires same-length-2 returns-2)
+put-first-spec = tie.close (tie.spec put-refusal-requires same-length returns count-keyed-requires mul-put-head put-head-requires same-length-2 returns-2)

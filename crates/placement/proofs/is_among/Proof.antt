@@ -6,7 +6,7 @@ use lib.ListN.{length}
 use mathlib.Core.Path.{_≡_, sym}
 use mathlib.Core.Bool.{Bool, true, false, cond}
 use Rattle.plane.specs.Machine.{point}
-use Rattle.table.specs.Table.{pointsOf}
+use Rattle.corners.specs.Corners.{pointsOf}
 use Rattle.placement.proofs.Contour.{AmongTurn, among-start, among-turn, among-end}
 use Rattle.placement.proofs.is_among.Statement.{statement}
 use Rattle.placement.proofs.is_among.Tie as tie

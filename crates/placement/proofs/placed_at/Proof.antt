@@ -2,7 +2,7 @@
 use mathlib.Core.Path.{_∙_, ap}
 use native.Mathlib.Omega.{arith}
 use Rattle.plane.specs.Machine.{point}
-use Rattle.table.specs.Table.{pointsOf, offRange}
+use Rattle.corners.specs.Corners.{pointsOf, offRange}
 use Rattle.table.proofs.Shown.{numbers-taken, part-is, part-ranged}
 use Rattle.placement.specs.Placement.{contactIn}
 use Rattle.placement.proofs.Contours.{lies}

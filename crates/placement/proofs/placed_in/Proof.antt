@@ -9,7 +9,7 @@ use lib.ListN.{length}
 use mir.Syntax.{w64}
 use Rattle.integers.proofs.Bits.{got}
 use Rattle.plane.specs.Machine.{point}
-use Rattle.table.specs.Table.{pointsOf}
+use Rattle.corners.specs.Corners.{pointsOf}
 use Rattle.placement.specs.declared.Contact.{Contact}
 use Rattle.placement.specs.declared.Contact.the-variants.{Apart, Touching}
 use Rattle.placement.proofs.Contour.{InTurn, empty-apart, turn-start, in-turn, turned-out, turned-strictly, turned}

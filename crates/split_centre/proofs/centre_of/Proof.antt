@@ -14,7 +14,7 @@ use Rattle.plane.specs.Plane.{Pt}
 use Rattle.plane.specs.Contour.{contourArea}
 use Rattle.plane.specs.Machine.{point, OnGrid}
 use Rattle.plane.proofs.Size.{on-grid-both}
-use Rattle.convex_ring.specs.Buffers.{cornerOf}
+use Rattle.points.specs.Points.{cornerOf}
 use Rattle.split.specs.Splitting.{leftOfAll, centreServes}
 use Rattle.split_centre.specs.declared.Centre.the-variants.{At, Unserved}
 use Rattle.split_centre.specs.Centre.{Summable, roundedCentre, gridPoint, centroidFound, centreFound}

@@ -19,7 +19,7 @@ use Rattle.plane.specs.Contour.{contourArea}
 use Rattle.plane.specs.Machine.{point, OnGrid}
 use Rattle.plane.proofs.Size.{coordinate-fits}
 use Rattle.wide.specs.Words.{value}
-use Rattle.convex_ring.specs.Buffers.{cornerOf, cornerAt}
+use Rattle.points.specs.Points.{cornerOf, cornerIn}
 use Rattle.split.specs.Splitting.{rounded, centreOf}
 use Rattle.split_centre.specs.declared.Sums.{Sums}
 use Rattle.split_centre.specs.declared.Centre.the-variants.{At, Unserved}
@@ -55,7 +55,7 @@ module _ (cs : List (List ℤ)) (h : Summable (map cornerOf cs)) (n : 3 ≤ leng
   third t = (ap (leZ (pos 0)) (area-kept ∙ sum-is) ∙ ≤-leZ (<-≤ (ltZ-< (pos 0) (contourArea l) (h .above))), ≤-leZ (ltZ-≤ threshold area t))
 
   -- the origin o, and d three times the area
-  module _ {o : IntPoint} {d : ℕ} (e : (point o ≡ cornerAt cs 0) × OnGrid o) (k : d ≡ 3 * natAbs area) where
+  module _ {o : IntPoint} {d : ℕ} (e : (point o ≡ cornerIn cs 0) × OnGrid o) (k : d ≡ 3 * natAbs area) where
     x-kept : toZ w32 (ofZ w32 (o .x)) ≡ getD l 0 O .x
     x-kept = kept (coordinate-fits (e .1 .x-small)) ∙ ap (λ p. p .x) (corner-read cs 0 (e .0))
 
@@ -87,8 +87,8 @@ sums-of-requires c κs = c .pre
 returns : tie.Need-returns
 returns c = let s = c .before .before .before .before in past (s .args .contour .now) (s .pre .0) (s .pre .1) (c .before .before .before .sums-of .ensures) (c .if1 .taken)
 
-corner-at-requires : tie.Need-corner-at-requires
-corner-at-requires c κs = let s = c .before .before .before .before in (omega (arith, s .pre .1), grid-of (s .args .contour .now) (s .pre .0 .grid))
+point-at-requires : tie.Need-point-at-requires
+point-at-requires c κs = let s = c .before .before .before .before in (omega (arith, s .pre .1), grid-of (s .args .contour .now) (s .pre .0 .grid))
 
 tripled-requires : tie.Need-tripled-requires
 tripled-requires c κs = let s = c .before .before .before .before .before .before in third (s .args .contour .now) (s .pre .0) (s .pre .1) (c .before .before .before .before .before .sums-of .ensures) (c .before .before .if1 .left)
@@ -96,12 +96,12 @@ tripled-requires c κs = let s = c .before .before .before .before .before .befo
 centred-requires : tie.Need-centred-requires
 centred-requires c κs =
     let s = c .before .before .before .before .before .before .before .before .before .before in
-    place-x (s .args .contour .now) (s .pre .0) (s .pre .1) (c .before .before .before .before .before .before .before .before .before .sums-of .ensures) (c .before .before .before .before .before .corner-at .ensures) (c .before .before .before .tripled .ensures)
+    place-x (s .args .contour .now) (s .pre .0) (s .pre .1) (c .before .before .before .before .before .before .before .before .before .sums-of .ensures) (c .before .before .before .before .before .point-at .ensures) (c .before .before .before .tripled .ensures)
 
 centred-requires-2 : tie.Need-centred-requires-2
 centred-requires-2 c κs =
     let s = c .before .before .before .before .before .before .before .before .before .before .before .before in
-    place-y (s .args .contour .now) (s .pre .0) (s .pre .1) (c .before .before .before .before .before .before .before .before .before .before .before .sums-of .ensures) (c .before .before .before .before .before .before .before .corner-at .ensures) (c .before .before .before .before .before .tripled .ensures)
+    place-y (s .args .contour .now) (s .pre .0) (s .pre .1) (c .before .before .before .before .before .before .before .before .before .before .before .sums-of .ensures) (c .before .before .before .before .before .before .before .point-at .ensures) (c .before .before .before .before .before .tripled .ensures)
 
 returns-2 : tie.Need-returns-2
 returns-2 c =
@@ -112,9 +112,9 @@ returns-2 c =
     let s = p1 .before in
     let x = p4 .centred in
     let y = c .centred2 in
-    found (s .args .contour .now) (s .pre .0) (s .pre .1) (p1 .sums-of .ensures) (p2 .corner-at .ensures) (p3 .tripled .ensures)
+    found (s .args .contour .now) (s .pre .0) (s .pre .1) (p1 .sums-of .ensures) (p2 .point-at .ensures) (p3 .tripled .ensures)
     (p2 .before .if1 .left) (got w32 (x .result) (x .ok) ∙ x .ensures) (got w32 (y .result) (y .ok) ∙ y .ensures)
 
 pub polygon-centroid-spec : {M : Type 1} → statement M
 polygon-centroid-spec =
-    tie.close (tie.spec sums-of-requires returns corner-at-requires tripled-requires centred-requires centred-requires-2 returns-2)
+    tie.close (tie.spec sums-of-requires returns point-at-requires tripled-requires centred-requires centred-requires-2 returns-2)

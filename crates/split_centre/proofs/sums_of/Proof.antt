@@ -9,7 +9,7 @@ use lib.IntN.{ℤ}
 use Rattle.plane.specs.declared.IntVector.{IntVector}
 use Rattle.plane.specs.Plane.{Pt, O, _-ᵖ_, cross}
 use Rattle.plane.specs.Machine.{vector, Short}
-use Rattle.convex_ring.specs.Buffers.{cornerOf}
+use Rattle.points.specs.Points.{cornerOf}
 use Rattle.split_centre.specs.declared.Sums.{Sums}
 use Rattle.split_centre.specs.Centre.{Summable, Roomy, Added, Summed}
 use Rattle.split_centre.proofs.Reading.{grid-of, vector-read}
@@ -57,30 +57,30 @@ Inv-loop contour origin s₀ a₀ i₀ s a i = Going contour s a i
 abbrev μ-loop : tie.MeasureT-loop
 μ-loop contour origin s₀ a₀ i₀ s a i = length contour - i
 
-corner-at-requires : tie.Need-corner-at-requires Inv-loop μ-loop
-corner-at-requires c κs = (omega (arith, c .pre .1), grid-of (c .args .contour .now) (c .pre .0 .grid))
+point-at-requires : tie.Need-point-at-requires Inv-loop μ-loop
+point-at-requires c κs = (omega (arith, c .pre .1), grid-of (c .args .contour .now) (c .pre .0 .grid))
 
-corner-at-requires-2 : tie.Need-corner-at-requires-2 Inv-loop μ-loop
-corner-at-requires-2 c κs = let s = c .before in (omega (arith, s .pre .1), grid-of (s .args .contour .now) (s .pre .0 .grid))
+point-at-requires-2 : tie.Need-point-at-requires-2 Inv-loop μ-loop
+point-at-requires-2 c κs = let s = c .before in (omega (arith, s .pre .1), grid-of (s .args .contour .now) (s .pre .0 .grid))
 
 subtract-requires : tie.Need-subtract-requires Inv-loop μ-loop
-subtract-requires c κs = (c .corner-at2 .ensures .1, c .before .corner-at .ensures .1)
+subtract-requires c κs = (c .point-at2 .ensures .1, c .before .point-at .ensures .1)
 
 loop-holds : tie.Need-loop-holds Inv-loop μ-loop
 loop-holds c =
     let s = c .before .before .before in
-    starts (s .args .contour .now) (s .pre .1) (vector-read (s .args .contour .now) 1 0 (c .subtract .ensures .0) (c .before .corner-at2 .ensures .0) (c .before .before .corner-at .ensures .0)) (c .subtract .ensures .1)
+    starts (s .args .contour .now) (s .pre .1) (vector-read (s .args .contour .now) 1 0 (c .subtract .ensures .0) (c .before .point-at2 .ensures .0) (c .before .before .point-at .ensures .0)) (c .subtract .ensures .1)
 
-corner-at-requires-3 : tie.Need-corner-at-requires-3 Inv-loop μ-loop
-corner-at-requires-3 c κs = let s = c .before .before .before .before .before in (c .loop-test .taken, grid-of (s .args .contour .now) (s .pre .0 .grid))
+point-at-requires-3 : tie.Need-point-at-requires-3 Inv-loop μ-loop
+point-at-requires-3 c κs = let s = c .before .before .before .before .before in (c .loop-test .taken, grid-of (s .args .contour .now) (s .pre .0 .grid))
 
 subtract-requires-2 : tie.Need-subtract-requires-2 Inv-loop μ-loop
-subtract-requires-2 c κs = (c .corner-at3 .ensures .1, c .before .before .before .before .before .corner-at .ensures .1)
+subtract-requires-2 c κs = (c .point-at3 .ensures .1, c .before .before .before .before .before .point-at .ensures .1)
 
 add-edge-requires : tie.Need-add-edge-requires Inv-loop μ-loop
 add-edge-requires c κs =
     let s = c .before .before .before .before .before .before .before in
-    let e = vector-read (s .args .contour .now) (c .before .before .before .loop .i) 0 (c .subtract2 .ensures .0) (c .before .corner-at3 .ensures .0) (c .before .before .before .before .before .before .corner-at .ensures .0) in
+    let e = vector-read (s .args .contour .now) (c .before .before .before .loop .i) 0 (c .subtract2 .ensures .0) (c .before .point-at3 .ensures .0) (c .before .before .before .before .before .before .point-at .ensures .0) in
     let g = c .before .before .before .loop .inv in
     (room (s .args .contour .now) (c .before .before .loop-test .taken) g e (s .pre .0), g .short, c .subtract2 .ensures .1)
 
@@ -95,7 +95,7 @@ loop-less c = omega (arith, c .before .before .before .loop-test .taken)
 loop-again : tie.Need-loop-again Inv-loop μ-loop
 loop-again c =
     let s = c .before .before .before .before .before .before .before .before in
-    let e = vector-read (s .args .contour .now) (c .before .before .before .before .loop .i) 0 (c .before .subtract2 .ensures .0) (c .before .before .corner-at3 .ensures .0) (c .before .before .before .before .before .before .before .corner-at .ensures .0) in
+    let e = vector-read (s .args .contour .now) (c .before .before .before .before .loop .i) 0 (c .before .subtract2 .ensures .0) (c .before .before .point-at3 .ensures .0) (c .before .before .before .before .before .before .before .point-at .ensures .0) in
     turns (s .args .contour .now) (c .before .before .before .loop-test .taken) (c .before .before .before .before .loop .inv) e (c .before .subtract2 .ensures .1) (c .add-edge .ensures)
 
 returns : tie.Need-returns Inv-loop μ-loop
@@ -107,11 +107,11 @@ sums-of-spec =
     (tie.spec
     Inv-loop
     μ-loop
-    corner-at-requires
-    corner-at-requires-2
+    point-at-requires
+    point-at-requires-2
     subtract-requires
     loop-holds
-    corner-at-requires-3
+    point-at-requires-3
     subtract-requires-2
     add-edge-requires
     add-i

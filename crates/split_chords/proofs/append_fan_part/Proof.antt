@@ -2,8 +2,8 @@
 use mathlib.Core.List.{[], _∷_}
 use Prim.Native.Nat.{_+_}
 use native.Mathlib.Omega.{arith}
-use Rattle.convex_ring.specs.Buffers.{cornerAt}
-use Rattle.convex_contour.proofs.Contours.{appended-more}
+use Rattle.points.specs.Points.{cornerIn}
+use Rattle.points.proofs.Points.{appended-more}
 use Rattle.split_chords.specs.Runs.{runOf}
 use Rattle.split_chords.proofs.Appending.{length-run, room-point, room-run, room-end, part-ended}
 use borrow.Author.Needs.{needs}
@@ -14,7 +14,7 @@ append-point-requires : tie.Need-append-point-requires
 append-point-requires c κs =
     let s = c .before .before in
     let g = s .args in
-    (omega (arith, s .pre .0), room-point (g .starts .now) (g .points .now) (g .t) (cornerAt (g .contour .now) 0) (runOf (g .contour .now) (g .start) (g .size + 1)) (s .pre .1))
+    (omega (arith, s .pre .0), room-point (g .starts .now) (g .points .now) (g .t) (cornerIn (g .contour .now) 0) (runOf (g .contour .now) (g .start) (g .size + 1)) (s .pre .1))
 
 add-append-run : tie.Need-add-append-run
 add-append-run c = search needs
@@ -24,15 +24,15 @@ append-run-requires c κs =
     let s = c .before .before .before .before .before in
     let g = s .args in
     let e = length-run (g .contour .now) (g .start) (g .size + 1) (omega (arith, s .pre .0)) in
-    let f = room-run (g .starts .now) (g .points .now) (g .t) (cornerAt (g .contour .now) 0) (runOf (g .contour .now) (g .start) (g .size + 1)) (s .pre .1) (c .before .before .append-point .ensures) in
+    let f = room-run (g .starts .now) (g .points .now) (g .t) (cornerIn (g .contour .now) 0) (runOf (g .contour .now) (g .start) (g .size + 1)) (s .pre .1) (c .before .before .append-point .ensures) in
     (omega (arith, s .pre .0), omega (arith, e, f))
 
 end-part-requires : tie.Need-end-part-requires
 end-part-requires c κs =
     let s = c .before .before .before .before .before .before .before .before in
     let g = s .args in
-    let a = appended-more (cornerAt (g .contour .now) 0 ∷ []) (runOf (g .contour .now) (g .start) (g .size + 1)) (c .before .before .before .before .before .append-point .ensures) (c .before .before .append-run .ensures) in
-    (s .pre .1 .for-starts, room-end (g .starts .now) (g .points .now) (g .t) (cornerAt (g .contour .now) 0 ∷ runOf (g .contour .now) (g .start) (g .size + 1)) (s .pre .1) a)
+    let a = appended-more (cornerIn (g .contour .now) 0 ∷ []) (runOf (g .contour .now) (g .start) (g .size + 1)) (c .before .before .before .before .before .append-point .ensures) (c .before .before .append-run .ensures) in
+    (s .pre .1 .for-starts, room-end (g .starts .now) (g .points .now) (g .t) (cornerIn (g .contour .now) 0 ∷ runOf (g .contour .now) (g .start) (g .size + 1)) (s .pre .1) a)
 
 same-length : tie.Need-same-length
 same-length c = search needs
@@ -44,8 +44,8 @@ returns : tie.Need-returns
 returns c =
     let s = c .before .before .before .before .before .before .before .before .before .before .before in
     let g = s .args in
-    let a = appended-more (cornerAt (g .contour .now) 0 ∷ []) (runOf (g .contour .now) (g .start) (g .size + 1)) (c .before .before .before .before .before .before .before .before .append-point .ensures) (c .before .before .before .before .before .append-run .ensures) in
-    part-ended (cornerAt (g .contour .now) 0 ∷ runOf (g .contour .now) (g .start) (g .size + 1)) (g .starts .now) (g .points .now) (g .t) (s .pre .1) a (c .before .before .end-part .ensures)
+    let a = appended-more (cornerIn (g .contour .now) 0 ∷ []) (runOf (g .contour .now) (g .start) (g .size + 1)) (c .before .before .before .before .before .before .before .before .append-point .ensures) (c .before .before .before .before .before .append-run .ensures) in
+    part-ended (cornerIn (g .contour .now) 0 ∷ runOf (g .contour .now) (g .start) (g .size + 1)) (g .starts .now) (g .points .now) (g .t) (s .pre .1) a (c .before .before .end-part .ensures)
 
 pub append-fan-part-spec : {M : Type 1} → statement M
 append-fan-part-spec =

@@ -3,7 +3,7 @@ use borrow.Author.Needs.{needs}
 use Prim.Native.Nat.{_-_, _≤_}
 use native.Mathlib.Omega.{arith}
 use lib.ListN.{length}
-use Rattle.convex_gather.specs.Gather.{cornersIn}
+use Rattle.points.specs.Points.{cornersIn}
 use Rattle.split.specs.Splitting.{fanParts}
 use Rattle.split_chords.proofs.Groups.{share-small}
 use Rattle.split_chords.proofs.Fans.{Fanning, fanning-start, fanning-within, fanning-room, fanning-turn, fanning-end}

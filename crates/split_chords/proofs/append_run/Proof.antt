@@ -3,8 +3,8 @@ use borrow.Author.Needs.{needs}
 use mathlib.Core.Path.{_≡_, subst}
 use Prim.Native.Nat.{_-_, _≤_}
 use native.Mathlib.Omega.{arith}
-use Rattle.convex_contour.specs.Contour.{Appended}
-use Rattle.convex_contour.proofs.Contours.{appended-none}
+use Rattle.points.specs.Points.{Appended}
+use Rattle.points.proofs.Points.{appended-none}
 use Rattle.split_chords.specs.Runs.{runOf}
 use Rattle.split_chords.proofs.Appending.{run-turn, length-run}
 use Rattle.split_chords.proofs.append_run.Statement.{statement}

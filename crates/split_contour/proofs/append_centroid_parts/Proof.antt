@@ -2,7 +2,7 @@
 use mathlib.Core.Path.{sym, _∙_}
 use native.Mathlib.Omega.{arith}
 use lib.ListN.{length, length-map}
-use Rattle.convex_ring.specs.Buffers.{cornerOf}
+use Rattle.points.specs.Points.{cornerOf}
 use Rattle.split_centre.proofs.Reading.{grid-of}
 use Rattle.split_contour.proofs.Contour.{centre-at, centre-grid, centre-unserved, same-room, same-parts}
 use borrow.Author.Needs.{needs}

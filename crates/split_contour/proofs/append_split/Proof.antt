@@ -2,8 +2,7 @@
 use mathlib.Core.Path.{sym, _∙_, ap}
 use native.Mathlib.Omega.{arith}
 use lib.ListN.{length, length-map}
-use Rattle.convex_ring.specs.Buffers.{cornerOf}
-use Rattle.convex_gather.specs.Gather.{cornersIn}
+use Rattle.points.specs.Points.{cornerOf, cornersIn}
 use Rattle.split.specs.Splitting.{splitBy}
 use Rattle.split_contour.proofs.Contour.{split-whole, split-past, same-room, same-parts}
 use borrow.Author.Needs.{needs}

@@ -2,8 +2,7 @@
 use mathlib.Core.List.{[], _∷_, flatten}
 use native.Mathlib.Omega.{arith}
 use lib.ListN.{length, length-append, length-map}
-use Rattle.convex_ring.specs.Buffers.{cornerOf}
-use Rattle.convex_gather.specs.Gather.{cornersIn}
+use Rattle.points.specs.Points.{cornerOf, cornersIn}
 use Rattle.split_chords.proofs.Appending.{room-end, part-ended}
 use Rattle.split_contour.proofs.Contour.{whole-run}
 use borrow.Author.Needs.{needs}

@@ -4,7 +4,7 @@ use mathlib.Core.Path.{_≡_, sym, _∙_, ap, subst}
 use Prim.Native.Nat.{_+_, _-_, _≤_, _<_}
 use native.Mathlib.Omega.{arith}
 use lib.ListN.{length, getD}
-use Rattle.convex_contour.specs.Contour.{Appended}
+use Rattle.points.specs.Points.{Appended}
 use Rattle.split_ears.specs.Rings.{stepped, cornersAfter}
 use Rattle.split_ears.proofs.Ringing.{stepped-none, stepped-more, after-none, after-turn}
 use Rattle.split_ears.proofs.append_after.Statement.{statement}

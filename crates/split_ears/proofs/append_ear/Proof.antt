@@ -2,8 +2,8 @@
 use mathlib.Core.List.{[], _∷_}
 use Prim.Native.Nat.{_+_}
 use native.Mathlib.Omega.{arith}
-use Rattle.convex_ring.specs.Buffers.{cornerAt}
-use Rattle.convex_contour.proofs.Contours.{appended-more}
+use Rattle.points.specs.Points.{cornerIn}
+use Rattle.points.proofs.Points.{appended-more}
 use Rattle.split_chords.proofs.Appending.{room-point, room-run, room-end, part-ended}
 use Rattle.split_ears.specs.Rings.{cornersAfter}
 use Rattle.split_ears.proofs.Ringing.{passed-over, length-after}
@@ -15,14 +15,14 @@ append-point-requires : tie.Need-append-point-requires
 append-point-requires c κs =
     let s = c .before .before .before in
     let g = s .args in
-    (s .pre .0, room-point (g .starts .now) (g .points .now) (g .t) (cornerAt (g .contour .now) (g .start)) (cornersAfter (g .contour .now) (g .ring .now) (g .start) (g .size + 1)) (s .pre .3))
+    (s .pre .0, room-point (g .starts .now) (g .points .now) (g .t) (cornerIn (g .contour .now) (g .start)) (cornersAfter (g .contour .now) (g .ring .now) (g .start) (g .size + 1)) (s .pre .3))
 
 add-n : tie.Need-add-n
 add-n c =
     let s = c .before .before .before .before .before in
     let g = s .args in
     let e = length-after (g .contour .now) (g .ring .now) (g .start) (g .size + 1) in
-    let f = room-run (g .starts .now) (g .points .now) (g .t) (cornerAt (g .contour .now) (g .start)) (cornersAfter (g .contour .now) (g .ring .now) (g .start) (g .size + 1)) (s .pre .3) (c .before .append-point .ensures) in
+    let f = room-run (g .starts .now) (g .points .now) (g .t) (cornerIn (g .contour .now) (g .start)) (cornersAfter (g .contour .now) (g .ring .now) (g .start) (g .size + 1)) (s .pre .3) (c .before .append-point .ensures) in
     omega (arith, e, f, c .before .append-point .ensures .size, s .pre .3 .small)
 
 append-after-requires : tie.Need-append-after-requires
@@ -30,7 +30,7 @@ append-after-requires c κs =
     let s = c .before .before .before .before .before .before .before in
     let g = s .args in
     let e = length-after (g .contour .now) (g .ring .now) (g .start) (g .size + 1) in
-    let f = room-run (g .starts .now) (g .points .now) (g .t) (cornerAt (g .contour .now) (g .start)) (cornersAfter (g .contour .now) (g .ring .now) (g .start) (g .size + 1)) (s .pre .3) (c .before .before .before .append-point .ensures) in
+    let f = room-run (g .starts .now) (g .points .now) (g .t) (cornerIn (g .contour .now) (g .start)) (cornersAfter (g .contour .now) (g .ring .now) (g .start) (g .size + 1)) (s .pre .3) (c .before .before .before .append-point .ensures) in
     (s .pre .0, s .pre .2, omega (arith, e, f))
 
 set-next-requires : tie.Need-set-next-requires
@@ -43,15 +43,15 @@ add-end-part c =
     let s = c .before .before .before .before .before .before .before .before .before .before .before .before .before .before in
     let g = s .args in
     let e = length-after (g .contour .now) (g .ring .now) (g .start) (g .size + 1) in
-    let f = room-run (g .starts .now) (g .points .now) (g .t) (cornerAt (g .contour .now) (g .start)) (cornersAfter (g .contour .now) (g .ring .now) (g .start) (g .size + 1)) (s .pre .3) (c .before .before .before .before .before .before .before .before .before .before .append-point .ensures) in
+    let f = room-run (g .starts .now) (g .points .now) (g .t) (cornerIn (g .contour .now) (g .start)) (cornersAfter (g .contour .now) (g .ring .now) (g .start) (g .size + 1)) (s .pre .3) (c .before .before .before .before .before .before .before .before .before .before .append-point .ensures) in
     omega (arith, e, f, c .before .before .before .before .before .before .before .before .before .before .append-point .ensures .size, s .pre .3 .small)
 
 end-part-requires : tie.Need-end-part-requires
 end-part-requires c κs =
     let s = c .before .before .before .before .before .before .before .before .before .before .before .before .before .before in
     let g = s .args in
-    let a = appended-more (cornerAt (g .contour .now) (g .start) ∷ []) (cornersAfter (g .contour .now) (g .ring .now) (g .start) (g .size + 1)) (c .before .before .before .before .before .before .before .before .before .before .append-point .ensures) (c .before .before .before .before .before .before .append-after .ensures .2) in
-    (s .pre .3 .for-starts, room-end (g .starts .now) (g .points .now) (g .t) (cornerAt (g .contour .now) (g .start) ∷ cornersAfter (g .contour .now) (g .ring .now) (g .start) (g .size + 1)) (s .pre .3) a)
+    let a = appended-more (cornerIn (g .contour .now) (g .start) ∷ []) (cornersAfter (g .contour .now) (g .ring .now) (g .start) (g .size + 1)) (c .before .before .before .before .before .before .before .before .before .before .append-point .ensures) (c .before .before .before .before .before .before .append-after .ensures .2) in
+    (s .pre .3 .for-starts, room-end (g .starts .now) (g .points .now) (g .t) (cornerIn (g .contour .now) (g .start) ∷ cornersAfter (g .contour .now) (g .ring .now) (g .start) (g .size + 1)) (s .pre .3) a)
 
 same-length : tie.Need-same-length
 same-length c = search needs
@@ -71,10 +71,10 @@ returns c =
     let s = p1 .before .before .before .before in
     let g = s .args in
     let a =
-    appended-more (cornerAt (g .contour .now) (g .start) ∷ []) (cornersAfter (g .contour .now) (g .ring .now) (g .start) (g .size + 1))
+    appended-more (cornerIn (g .contour .now) (g .start) ∷ []) (cornersAfter (g .contour .now) (g .ring .now) (g .start) (g .size + 1))
     (p1 .append-point .ensures) (p2 .append-after .ensures .2) in (
       passed-over (g .ring .now) (g .start) (g .size + 1) (p3 .set-next .ensures) (p2 .append-after .ensures .0),
-      part-ended (cornerAt (g .contour .now) (g .start) ∷ cornersAfter (g .contour .now) (g .ring .now) (g .start) (g .size + 1)) (g .starts .now)
+      part-ended (cornerIn (g .contour .now) (g .start) ∷ cornersAfter (g .contour .now) (g .ring .now) (g .start) (g .size + 1)) (g .starts .now)
           (g .points .now) (g .t) (s .pre .3) a (p4 .end-part .ensures),
     )
 

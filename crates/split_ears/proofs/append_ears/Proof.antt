@@ -4,7 +4,7 @@ use mathlib.Core.Path.{_≡_, refl, _∙_}
 use Prim.Native.Nat.{_+_, _-_, _≤_}
 use native.Mathlib.Omega.{arith}
 use lib.ListN.{length}
-use Rattle.convex_gather.specs.Gather.{cornersIn}
+use Rattle.points.specs.Points.{cornersIn}
 use Rattle.split.specs.Splitting.{earParts}
 use Rattle.split_chords.proofs.Groups.{share-small}
 use Rattle.split_ears.proofs.Ringing.{length-passed}

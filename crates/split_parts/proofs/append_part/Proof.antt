@@ -3,7 +3,7 @@ use mathlib.Core.Path.{sym, subst}
 use mathlib.Core.List.{[]}
 use native.Mathlib.Omega.{arith}
 use lib.ListN.{getD}
-use Rattle.convex_gather.specs.Gather.{RoomFor, PartsAppended}
+use Rattle.points.specs.Gathered.{RoomFor, PartsAppended}
 use Rattle.split.specs.Splitting.{splitContour}
 use Rattle.split_centre.specs.Centre.{Summable}
 use Rattle.split_parts.proofs.Each.{starts-enough, placed, sums-fit, at-part}

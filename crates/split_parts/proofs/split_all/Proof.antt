@@ -5,8 +5,8 @@ use Prim.Native.Nat.{_-_, _≤_, _<_}
 use native.Mathlib.Omega.{arith}
 use lib.ListN.{length, take, length-set}
 use lib.Seq.{take-all}
-use Rattle.convex_gather.specs.Gather.{Gathered, RoomFor, PartsAppended}
-use Rattle.convex_gather.proofs.Gathering.{none-appended}
+use Rattle.points.specs.Gathered.{Gathered, RoomFor, PartsAppended}
+use Rattle.points.proofs.Gathering.{none-appended}
 use Rattle.split_parts.specs.Parts.{partsIn, splitEach}
 use Rattle.split_parts.proofs.Each.{room-at, each-more, first-gathered, resized}
 use Rattle.split_parts.proofs.split_all.Statement.{statement}

@@ -3,7 +3,8 @@ use mathlib.Core.Path.{refl}
 use mathlib.Core.List.{[], _∷_}
 use Prim.Native.Nat.{_+_}
 use Rattle.plane.specs.Machine.{point}
-use Rattle.convex_contour.proofs.Contours.{appended-more, kept-yes}
+use Rattle.points.proofs.Points.{appended-more}
+use Rattle.convex_contour.proofs.Contours.{kept-yes}
 use Rattle.split_chords.proofs.Appending.{room-point, room-run, room-end, part-ended}
 use Rattle.split_sectors.specs.Arcs.{arcOf}
 use Rattle.split_sectors.proofs.Arcing.{length-arc}
@@ -12,8 +13,8 @@ use borrow.Author.Needs.{needs}
 use Rattle.split_sectors.proofs.append_sector.Statement.{statement}
 use Rattle.split_sectors.proofs.append_sector.Tie as tie
 
-put-corner-requires : tie.Need-put-corner-requires
-put-corner-requires c κs =
+put-point-requires : tie.Need-put-point-requires
+put-point-requires c κs =
     let s = c .before .before in
     let g = s .args in
     room-point (g .starts .now) (g .points .now) (g .t) (point (g .centre)) (arcOf (g .contour .now) (g .start) (g .n + 1)) (s .pre .2)
@@ -30,7 +31,7 @@ append-arc-requires c κs =
     let g = s .args in
     let l = arcOf (g .contour .now) (g .start) (g .n + 1) in
     let h = room-point (g .starts .now) (g .points .now) (g .t) (point (g .centre)) l (s .pre .2) in
-    let f = room-run (g .starts .now) (g .points .now) (g .t) (point (g .centre)) l (s .pre .2) (kept-yes (g .points .now) (g .t .corners) (point (g .centre)) refl h (c .before .before .put-corner .ensures)) in
+    let f = room-run (g .starts .now) (g .points .now) (g .t) (point (g .centre)) l (s .pre .2) (kept-yes (g .points .now) (g .t .corners) (point (g .centre)) refl h (c .before .before .put-point .ensures)) in
     (s .pre .0, omega (arith, s .pre .1), omega (arith, f, length-arc (g .contour .now) (g .start) (g .n + 1) (omega (arith, s .pre .1))))
 
 end-part-requires : tie.Need-end-part-requires
@@ -39,7 +40,7 @@ end-part-requires c κs =
     let g = s .args in
     let l = arcOf (g .contour .now) (g .start) (g .n + 1) in
     let h = room-point (g .starts .now) (g .points .now) (g .t) (point (g .centre)) l (s .pre .2) in
-    let a = appended-more (point (g .centre) ∷ []) l (kept-yes (g .points .now) (g .t .corners) (point (g .centre)) refl h (c .before .before .before .before .before .put-corner .ensures)) (c .before .before .append-arc .ensures) in
+    let a = appended-more (point (g .centre) ∷ []) l (kept-yes (g .points .now) (g .t .corners) (point (g .centre)) refl h (c .before .before .before .before .before .put-point .ensures)) (c .before .before .append-arc .ensures) in
     (s .pre .2 .for-starts, room-end (g .starts .now) (g .points .now) (g .t) (point (g .centre) ∷ l) (s .pre .2) a)
 
 same-length : tie.Need-same-length
@@ -54,14 +55,14 @@ returns c =
     let g = s .args in
     let l = arcOf (g .contour .now) (g .start) (g .n + 1) in
     let h = room-point (g .starts .now) (g .points .now) (g .t) (point (g .centre)) l (s .pre .2) in
-    let a = appended-more (point (g .centre) ∷ []) l (kept-yes (g .points .now) (g .t .corners) (point (g .centre)) refl h (c .before .before .before .before .before .before .before .before .put-corner .ensures)) (c .before .before .before .before .before .append-arc .ensures) in
+    let a = appended-more (point (g .centre) ∷ []) l (kept-yes (g .points .now) (g .t .corners) (point (g .centre)) refl h (c .before .before .before .before .before .before .before .before .put-point .ensures)) (c .before .before .before .before .before .append-arc .ensures) in
     part-ended (point (g .centre) ∷ l) (g .starts .now) (g .points .now) (g .t) (s .pre .2) a (c .before .before .end-part .ensures)
 
 pub append-sector-spec : {M : Type 1} → statement M
 append-sector-spec =
     tie.close
     (tie.spec
-    put-corner-requires
+    put-point-requires
     add-append-arc
     add-append-arc-2
     append-arc-requires

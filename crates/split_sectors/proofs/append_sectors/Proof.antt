@@ -4,8 +4,7 @@ use Prim.Native.Nat.{_-_, _≤_}
 use native.Mathlib.Omega.{arith}
 use lib.ListN.{length}
 use Rattle.plane.specs.Machine.{point}
-use Rattle.convex_ring.specs.Buffers.{cornerAt}
-use Rattle.convex_gather.specs.Gather.{cornersIn}
+use Rattle.points.specs.Points.{cornerIn, cornersIn}
 use Rattle.split.specs.Splitting.{centroidParts}
 use Rattle.split_chords.proofs.Groups.{share-small}
 use Rattle.split_sectors.proofs.Turns.{Sectoring, sectoring-start, sectoring-within, sectoring-room, sectoring-turn, sectoring-end}
@@ -13,7 +12,7 @@ use Rattle.split_sectors.proofs.append_sectors.Statement.{statement}
 use Rattle.split_sectors.proofs.append_sectors.Tie as tie
 
 abbrev Inv-loop : tie.InvT-loop
-Inv-loop contour centre limit starts₀ points₀ edges part-count size extra tally₀ start₀ i₀ starts points tally start i = (i ≤ part-count) × Sectoring contour (point centre) (centroidParts limit (point centre) (cornerAt contour 0) (cornersIn contour)) (length contour) part-count i start starts₀ points₀ tally₀ starts points tally
+Inv-loop contour centre limit starts₀ points₀ edges part-count size extra tally₀ start₀ i₀ starts points tally start i = (i ≤ part-count) × Sectoring contour (point centre) (centroidParts limit (point centre) (cornerIn contour 0) (cornersIn contour)) (length contour) part-count i start starts₀ points₀ tally₀ starts points tally
 
 abbrev μ-loop : tie.MeasureT-loop
 μ-loop contour centre limit starts₀ points₀ edges part-count size extra tally₀ start₀ i₀ starts points tally start i = part-count - i
@@ -46,7 +45,7 @@ add-target c =
     let s = c .before .before .before .before .before in
     let g = s .args in
     let l = c .before .before .loop in
-    let qs = centroidParts (g .limit) (point (g .centre)) (cornerAt (g .contour .now) 0) (cornersIn (g .contour .now)) in
+    let qs = centroidParts (g .limit) (point (g .centre)) (cornerIn (g .contour .now) 0) (cornersIn (g .contour .now)) in
     omega (arith, s .pre .2, sectoring-within (g .contour .now) (point (g .centre)) (g .starts .now) (g .points .now) (g .t) qs (length (g .contour .now)) (c .before .before .before .ceil-div .result) (l .i) (l .start) (l .inv .1) (c .before .loop-test .taken) (c .share .ensures))
 
 append-group-requires : tie.Need-append-group-requires Inv-loop μ-loop
@@ -57,7 +56,7 @@ append-group-requires c κs =
     let k = c .before .before .before .before .before .ceil-div .result in
     let h = c .before .before .before .loop-test .taken in
     let e = c .before .before .share .ensures in
-    let qs = centroidParts (g .limit) (point (g .centre)) (cornerAt (g .contour .now) 0) (cornersIn (g .contour .now)) in
+    let qs = centroidParts (g .limit) (point (g .centre)) (cornerIn (g .contour .now) 0) (cornersIn (g .contour .now)) in
     (omega arith, sectoring-within (g .contour .now) (point (g .centre)) (g .starts .now) (g .points .now) (g .t) qs (length (g .contour .now)) k (l .i) (l .start) (l .inv .1) h e, s .pre .3, s .pre .4, sectoring-room (g .contour .now) (point (g .centre)) (g .starts .now) (g .points .now) (g .t) qs (length (g .contour .now)) k (l .i) (l .start) (l .inv .1) h e (s .pre .5))
 
 add-i : tie.Need-add-i Inv-loop μ-loop
@@ -74,7 +73,7 @@ loop-again c =
     let g = at-loop .before .before .before .args in
     let l = at-loop .loop in
     let h = p1 .before .loop-test .taken in
-    let qs = centroidParts (g .limit) (point (g .centre)) (cornerAt (g .contour .now) 0) (cornersIn (g .contour .now)) in (
+    let qs = centroidParts (g .limit) (point (g .centre)) (cornerIn (g .contour .now) 0) (cornersIn (g .contour .now)) in (
       omega (arith, h),
       sectoring-turn (g .contour .now) (point (g .centre)) (g .starts .now) (g .points .now) (g .t) qs (length (g .contour .now))
           (at-loop .before .ceil-div .result) (l .i) (l .start) (l .inv .1) h (p1 .share .ensures) (p2 .append-group .ensures),
@@ -90,7 +89,7 @@ returns : tie.Need-returns Inv-loop μ-loop
 returns c =
     let g = c .before .before .before .before .args in
     let l = c .before .loop in
-    sectoring-end (g .contour .now) (point (g .centre)) (g .starts .now) (g .points .now) (g .t) (centroidParts (g .limit) (point (g .centre)) (cornerAt (g .contour .now) 0) (cornersIn (g .contour .now))) (length (g .contour .now)) (c .before .before .ceil-div .result) (l .i) (l .start) (l .inv .1) (c .loop-test .left)
+    sectoring-end (g .contour .now) (point (g .centre)) (g .starts .now) (g .points .now) (g .t) (centroidParts (g .limit) (point (g .centre)) (cornerIn (g .contour .now) 0) (cornersIn (g .contour .now))) (length (g .contour .now)) (c .before .before .ceil-div .result) (l .i) (l .start) (l .inv .1) (c .loop-test .left)
 
 pub append-sectors-spec : {M : Type 1} → statement M
 append-sectors-spec =

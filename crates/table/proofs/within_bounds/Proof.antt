@@ -49,17 +49,17 @@ returns c =
 
 returns-2 : tie.Need-returns-2
 returns-2 c =
-    right-of _ _ _ (search needs) (search needs) (search needs) (search needs) (search needs) (search needs) (c .before .before .before .if1 .left) (c .if2 .taken)
+    right-of _ _ _ (search needs) (search needs) (search needs) (search needs) (search needs) (search needs) (c .before .before .before .before .before .if1 .left) (c .if2 .taken)
 
 returns-3 : tie.Need-returns-3
 returns-3 c =
     below _ _ _ (search needs) (search needs) (search needs) (search needs) (search needs) (search needs)
-    (c .before .before .before .before .before .before .if1 .left) (c .before .before .before .if2 .left) (c .if3 .taken)
+    (c .before .before .before .before .before .before .before .before .before .before .if1 .left) (c .before .before .before .before .before .if2 .left) (c .if3 .taken)
 
 returns-4 : tie.Need-returns-4
 returns-4 c =
     by-top _ _ _ (search needs) (search needs) (search needs) (search needs) (search needs) (search needs)
-    (c .before .before .before .before .before .before .before .before .if1 .left) (c .before .before .before .before .before .if2 .left) (c .before .before .if3 .left)
+    (c .before .before .before .before .before .before .before .before .before .before .before .before .before .before .if1 .left) (c .before .before .before .before .before .before .before .before .before .if2 .left) (c .before .before .before .before .if3 .left)
 
 pub within-bounds-spec : {M : Type 1} → statement M
 within-bounds-spec = tie.close (tie.spec returns returns-2 returns-3 returns-4)

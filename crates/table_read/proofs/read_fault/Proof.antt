@@ -6,7 +6,7 @@ use Prim.Native.Nat.{ℕ, _+_}
 use native.Mathlib.Omega.{arith}
 use borrow.Author.Needs.{needs}
 use lib.ListN.{drop}
-use Rattle.table.specs.Table.{offRange}
+use Rattle.corners.specs.Corners.{offRange}
 use Rattle.table.specs.Stored.{wordsOf, wordAt, signed, storedCorners}
 use Rattle.table.proofs.StoredForm.{sized, whole-bytes}
 use Rattle.table_read.proofs.Reading.{fault-7, fault-2, fault-22, fault-21, no-fault-read}

@@ -8,7 +8,7 @@ use borrow.Author.Tests.{not-true, not-false}
 use lib.ListN.{drop}
 use mir.Syntax.{w32}
 use Rattle.integers.proofs.Bits.{got}
-use Rattle.table.specs.Table.{offRange}
+use Rattle.corners.specs.Corners.{offRange}
 use Rattle.table.specs.Stored.{wordsOf, signed}
 use Rattle.table_read.proofs.Reading.{found, passed, none-found}
 use Rattle.table_read.proofs.stored_off_range.Statement.{statement}

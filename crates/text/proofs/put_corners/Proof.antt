@@ -8,7 +8,7 @@ use Rattle.integers.proofs.Bits.{got}
 use Rattle.text.proofs.Corners.{corner-room, corner-put, corners-start, corners-all}
 use borrow.Author.Needs.{needs}
 use lib.ListN.{length, take, getD}
-use Rattle.table.specs.Table.{pointsOf}
+use Rattle.corners.specs.Corners.{pointsOf}
 use Rattle.text.specs.Text.{cornersText}
 use Rattle.text.specs.Put.{PutText}
 use Rattle.text.proofs.put_corners.Statement.{statement}

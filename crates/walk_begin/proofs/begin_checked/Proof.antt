@@ -2,7 +2,7 @@
 use mathlib.Core.Path.{sym, _∙_, ap}
 use mir.Syntax.{w64}
 use Rattle.integers.proofs.Bits.{kept}
-use Rattle.table.specs.Table.{pointsOf}
+use Rattle.corners.specs.Corners.{pointsOf}
 use Rattle.walk.specs.declared.Begun.the-variants.{At}
 use Rattle.walk.proofs.Answers.{some-corner}
 use Rattle.walk_begin.proofs.Begins.{begin-8, begin-20, begin-at, start-below, leaves-by, total-by, place-is}

@@ -11,7 +11,7 @@ use mir.Syntax.{w64}
 use mir.Val.{SFits, toZ, ofZ}
 use Rattle.integers.proofs.Bits.{kept}
 use Rattle.plane.specs.Plane.{Pt, eqPt}
-use Rattle.table.specs.Table.{pointsOf}
+use Rattle.corners.specs.Corners.{pointsOf}
 use Rattle.pair.specs.declared.Place.{Place}
 use Rattle.pair.specs.Walk.{cornerAt, endAt, placeBy}
 use Rattle.pair.proofs.Start.{end-inside}

@@ -3,7 +3,7 @@ use mathlib.Core.Path.{_≡_, sym, _∙_}
 use Prim.Native.Nat.{_<_, _-_}
 use native.Mathlib.Omega.{arith}
 use lib.ListN.{drop}
-use Rattle.table.specs.Table.{pointsOf}
+use Rattle.corners.specs.Corners.{pointsOf}
 use Rattle.pair.specs.Walk.{cornerAt, below, greatestFrom, greatestAt}
 use Rattle.walk_extremes.proofs.Searches.{greatest-begins, greatest-turn, greatest-ends, better-inside}
 use borrow.Author.Needs.{needs}

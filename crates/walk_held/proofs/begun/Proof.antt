@@ -5,7 +5,7 @@ use mathlib.Core.List.{List, [], _∷_}
 use lib.Dec.{eqb}
 use lib.IntN.{ℤ}
 use borrow.Author.Needs.{needs}
-use Rattle.table.specs.Table.{pointsOf}
+use Rattle.corners.specs.Corners.{pointsOf}
 use Rattle.pair.specs.declared.Place.{Place}
 use Rattle.pair.specs.Walk as walk
 use Rattle.walk.specs.declared.Begun.{Begun}

@@ -1,6 +1,6 @@
 -- `walk_merge::run` meets its contract. The loop's invariant: it will stop where the steps from s do. Assumes nothing.
 use mathlib.Core.Path.{_≡_, refl, sym, _∙_}
-use Rattle.table.specs.Table.{pointsOf}
+use Rattle.corners.specs.Corners.{pointsOf}
 use Rattle.walk_merge.specs.Merging.{Ready, finalOf, stepsToCome}
 use Rattle.walk_merge.proofs.Runs.{ready-first, final-first, final-last}
 use Rattle.walk_merge.proofs.run.Statement.{statement}

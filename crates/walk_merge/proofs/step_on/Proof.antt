@@ -1,6 +1,6 @@
 -- `walk_merge::step_on` meets its contract: none is left, an edge that belongs is taken, or one that does not is left. Assumes nothing.
 use mathlib.Core.Path.{sym, _∙_, ap, subst}
-use Rattle.table.specs.Table.{pointsOf}
+use Rattle.corners.specs.Corners.{pointsOf}
 use Rattle.walk_pick.specs.Picking.{pickOf, StepShort}
 use Rattle.walk_pick.proofs.Picks.{first-left, second-left}
 use Rattle.walk_merge.specs.Merging.{headingOf}

@@ -7,7 +7,7 @@ use lib.ListN.{length}
 use Rattle.integers.proofs.Ring.{_:≡ᵖ_, pt, ringᵖ}
 use Rattle.plane.specs.Plane.{Pt, _-ᵖ_, negᵖ}
 use Rattle.plane.proofs.Terms.{_-E_, negE}
-use Rattle.table.specs.Table.{pointsOf}
+use Rattle.corners.specs.Corners.{pointsOf}
 use Rattle.pair.specs.declared.Place.{Place}
 use Rattle.pair.specs.Walk.{cornerAt, nextIndex, turned, edgeOf}
 use Rattle.walk.proofs.Answers.{few-corners, index-inside, next-inside}

@@ -1,7 +1,7 @@
 -- `walk_next::emit` meets its contract: the sum of the points, and whether an edge was begun. Assumes nothing.
 use mathlib.Core.Path.{_∙_}
 use Rattle.plane.specs.Plane.{_+ᵖ_}
-use Rattle.table.specs.Table.{pointsOf}
+use Rattle.corners.specs.Corners.{pointsOf}
 use Rattle.walk.proofs.Answers.{index-inside}
 use Rattle.walk_read.proofs.Grid.{off-nowhere}
 use Rattle.walk_next.proofs.Promises.{corner-given, end-given}

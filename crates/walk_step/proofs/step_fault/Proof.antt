@@ -2,7 +2,7 @@
 use mathlib.Core.Path.{sym, _∙_, ap}
 use native.Mathlib.Omega.{arith}
 use lib.ListN.{length}
-use Rattle.table.specs.Table.{pointsOf}
+use Rattle.corners.specs.Corners.{pointsOf}
 use Rattle.pair.specs.Walk.{nextIndex}
 use Rattle.walk.specs.Calls.{misplaced, offAt}
 use Rattle.walk.proofs.Answers.{few-corners, index-inside, next-inside}

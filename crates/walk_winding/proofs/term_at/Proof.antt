@@ -6,8 +6,8 @@ use mir.Syntax.{w64}
 use Rattle.integers.proofs.Bits.{got}
 use Rattle.plane.specs.Plane.{_-ᵖ_, cross}
 use Rattle.plane.specs.Machine.{CrossSize}
-use Rattle.table.specs.Table.{pointsOf}
-use Rattle.table.proofs.Corners.{length-points}
+use Rattle.corners.specs.Corners.{pointsOf}
+use Rattle.corners.proofs.Corners.{length-points}
 use Rattle.pair.specs.Walk.{cornerAt}
 use Rattle.walk_read.proofs.Grid.{grid-at}
 use Rattle.walk_winding.specs.Winding.{roundTo}

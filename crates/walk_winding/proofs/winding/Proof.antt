@@ -8,7 +8,7 @@ use mir.Syntax.{w64}
 use mir.Val.{toZ}
 use Rattle.integers.proofs.Bits.{kept, got}
 use Rattle.plane.specs.Machine.{CrossSize}
-use Rattle.table.specs.Table.{pointsOf}
+use Rattle.corners.specs.Corners.{pointsOf}
 use Rattle.pair.specs.Walk.{windingTerms}
 use Rattle.walk_winding.specs.Winding.{windingOf}
 use Rattle.walk_winding.proofs.Windings.{length-terms, wound-turn, wound-leaves, wound-ends}

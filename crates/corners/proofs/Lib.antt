@@ -1,0 +1,3 @@
+-- Laws that belong to no one function, in reading order: numbers and points; numbers in range.
+pub mod Corners
+pub mod Range

@@ -1,0 +1,2 @@
+-- Corners counted.
+pub mod Counts

@@ -1,0 +1,2 @@
+-- Pairs in order.
+pub mod Order
