@@ -151,9 +151,9 @@ fn begin_shaped(
     begin_operands(
         operation,
         &left_starts[..l + 1],
-        &left_corners[..2 * m],
+        &left_corners[..corners::WIDTH * m],
         &right_starts[..r + 1],
-        &right_corners[..2 * n],
+        &right_corners[..corners::WIDTH * n],
         points,
         firsts,
         numbers,
@@ -174,9 +174,9 @@ pub fn begin_job(
         return refused(fault);
     }
     let mut left_starts = [0u32; STARTS];
-    let mut left_corners = [0i32; 2 * table::MAX_CORNERS];
+    let mut left_corners = [0i32; corners::WIDTH * table::MAX_CORNERS];
     let mut right_starts = [0u32; STARTS];
-    let mut right_corners = [0i32; 2 * table::MAX_CORNERS];
+    let mut right_corners = [0i32; corners::WIDTH * table::MAX_CORNERS];
     begin_shaped(
         bytes,
         &mut left_starts,
