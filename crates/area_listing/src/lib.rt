@@ -31,5 +31,9 @@ pub fn listing(bytes: &[u8], out: &mut [u8; LISTING]) -> usize
     }
     let parts = told.parts as usize;
     let count = told.corners as usize;
-    listing_lines::put_listing(&starts[..parts + 1], &corners[..2 * count], out)
+    listing_lines::put_listing(
+        &starts[..parts + 1],
+        &corners[..corners::WIDTH * count],
+        out,
+    )
 }

@@ -66,7 +66,7 @@ fn first_number(starts: &[u32], corners: &[i32], k: usize) -> usize
     requires { ⌜ (tableBroken (now starts) (now corners) ≡ false) × (k < partCount (now starts)) ⌝ }
     ensures { λ r. ⌜ r ≡ 2 * getD (now (starts .entry)) k 0 ⌝ }
 {
-    2 * (starts[k] as usize)
+    corners::WIDTH * (starts[k] as usize)
 }
 
 // table_shown::show_part: the part shown by where it lies in the lent corners of the operand asked for, never a copy.

@@ -17,7 +17,7 @@ use Rattle.integers.proofs.Elements.{getD-any}
 use Rattle.integers.proofs.Rotation.{rotate-eq, map-rotate, perm-rotate}
 use Rattle.integers.proofs.Neighbours.{neighbours-rotate, firsts-neighbours, seconds-neighbours}
 use Rattle.plane.specs.Plane.{Pt, O}
-use Rattle.convex.specs.Joining.{Corner, pointOf, afterIn, beforeIn, pointAfter, pointBefore, putAfter, placeOf}
+use Rattle.convex.specs.Joining.{Corner, pointNumbered, afterIn, beforeIn, pointAfter, pointBefore, putAfter, placeOf}
 
 -- ---- a list of numbered points
 
@@ -73,8 +73,8 @@ abbrev backward : Corner × Corner → ℕ × Pt
 backward e = (e .1 .number, e .0 .point)
 
 -- the three lookups of a contour are lookups of numbered points
-point-is : (n : ℕ) (l : List Corner) → pointOf n l ≡ look n (map own l)
-unfolding pointOf look
+point-is : (n : ℕ) (l : List Corner) → pointNumbered n l ≡ look n (map own l)
+unfolding pointNumbered look
 point-is n [] = refl
 point-is n (c ∷ l) = ap (cond (eqb (c .number) n) (c .point)) (point-is n l)
 
@@ -90,7 +90,7 @@ before-is n (e ∷ l) = ap (cond (eqb (e .1 .number) n) (e .0 .point)) (before-i
 
 module _ (n k : ℕ) (l : List Corner) (h : count n (numbers l) ≤ 1) where
   -- the point of the corner numbered n, from any start
-  pub point-rotate : pointOf n (rotate k l) ≡ pointOf n l
+  pub point-rotate : pointNumbered n (rotate k l) ≡ pointNumbered n l
   point-rotate =
       point-is n (rotate k l) ∙ ap (look n) (map-rotate own k l) ∙ look-rotate n k (map own l) (rw map-map h) ∙ sym (point-is n l)
 
@@ -124,8 +124,8 @@ abbrev pub points : List Corner → List Pt
 points l = map (λ c. c .point) l
 
 -- a is x itself
-pub ring-point : (x : Corner) (r : List Corner) → pointOf (x .number) (x ∷ r) ≡ x .point
-unfolding pointOf
+pub ring-point : (x : Corner) (r : List Corner) → pointNumbered (x .number) (x ∷ r) ≡ x .point
+unfolding pointNumbered
 ring-point x r = rw (eq-eqb (x .number) (x .number) refl)
 
 -- along the links from y through l to x, x is first come to from the last of y ∷ l
@@ -153,8 +153,8 @@ not-first x b r h = by-test (eqb (x .number) (b .number))
     (λ t. t)
 
 -- b: x is not numbered so, so the first of the ring is found
-pub ring-first : (x : Corner) (r : List Corner) → 2 ≤ length r → count (headNumber r) (numbers (x ∷ r)) ≤ 1 → pointOf (headNumber r) (x ∷ r) ≡ getD (points r) 0 O
-unfolding pointOf
+pub ring-first : (x : Corner) (r : List Corner) → 2 ≤ length r → count (headNumber r) (numbers (x ∷ r)) ≤ 1 → pointNumbered (headNumber r) (x ∷ r) ≡ getD (points r) 0 O
+unfolding pointNumbered
 ring-first x [] l h = absurd (omega arith)
 ring-first x (b ∷ r) l h = rw (not-first x b r h, eq-eqb (b .number) (b .number) refl)
 

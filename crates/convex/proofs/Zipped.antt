@@ -19,7 +19,7 @@ use Rattle.integers.proofs.Rotation.{rotate-append, map-rotate, map-reverse}
 use Rattle.plane.specs.Plane.{O}
 use Rattle.mesh.specs.Mesh.{Triangle, Mesh, none, vertex, neighbour, after, before, triangleAt}
 use Rattle.mesh.proofs.Accepted.{Accepted}
-use Rattle.convex.specs.Joining.{Corner, Edge, Region, stacked, start, pointOf, pointAfter, pointBefore, putAfter, joins, joinsAt, joined, isIn, dropped, step, grow, enough, region, regionsFrom, regions, placeOf, fromLast, withoutStraight, contourOf, parts}
+use Rattle.convex.specs.Joining.{Corner, Edge, Region, stacked, start, pointNumbered, pointAfter, pointBefore, putAfter, joins, joinsAt, joined, isIn, dropped, step, grow, enough, region, regionsFrom, regions, placeOf, fromLast, withoutStraight, contourOf, parts}
 use Rattle.convex.proofs.Ends.{left, step-less, grow-done, grow-step, start-left}
 use Rattle.convex.specs.Zipper.{Slot, Zipper, startZ, ring, moved, pushed, joinsZ, stepZ, growZ, zipped, fromLastZ, regionsZ, contourZ, partsZ}
 use Rattle.convex.proofs.Lookups.{numbers, points, headNumber, point-rotate, after-rotate, before-rotate, ring-point, ring-before, ring-first, ring-second, put-after, place-of}
@@ -191,12 +191,12 @@ module _ (r : Region) (z : Zipper) (s : Numbered) (ss : List Numbered) (done : L
             sym (before-rotate (e .a) k (r .contour) (once-le once (e .a))) ∙ ap₂ pointBefore ea turned
             ∙ ring-before (cornerOf s) after-top after-long (turned-once (s .number)) ∙ ap (λ l. getD l (length l - 1) O) ring-is
 
-        at-a : pointOf (e .a) (r .contour) ≡ s .slot .corner
-        at-a = sym (point-rotate (e .a) k (r .contour) (once-le once (e .a))) ∙ ap₂ pointOf ea turned ∙ ring-point (cornerOf s) after-top
+        at-a : pointNumbered (e .a) (r .contour) ≡ s .slot .corner
+        at-a = sym (point-rotate (e .a) k (r .contour) (once-le once (e .a))) ∙ ap₂ pointNumbered ea turned ∙ ring-point (cornerOf s) after-top
 
-        at-b : pointOf (e .b) (r .contour) ≡ getD (ring (slotsOf ss) (z .done)) 0 O
+        at-b : pointNumbered (e .b) (r .contour) ≡ getD (ring (slotsOf ss) (z .done)) 0 O
         at-b =
-            sym (point-rotate (e .b) k (r .contour) (once-le once (e .b))) ∙ ap₂ pointOf b-is turned
+            sym (point-rotate (e .b) k (r .contour) (once-le once (e .b))) ∙ ap₂ pointNumbered b-is turned
             ∙ ring-first (cornerOf s) after-top after-long (turned-once (headNumber after-top)) ∙ ap (λ l. getD l 0 O) ring-is
 
         after-it : pointAfter (e .b) (r .contour) ≡ getD (ring (slotsOf ss) (z .done)) 1 O

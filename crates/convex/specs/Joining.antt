@@ -50,9 +50,9 @@ start k t = record {
 -- ---- corners round the contour
 
 -- the point of the corner numbered n
-unfoldable pub pointOf : ℕ → List Corner → Pt
-pointOf n [] = O
-pointOf n (c ∷ l) = cond (eqb (c .number) n) (c .point) (pointOf n l)
+unfoldable pub pointNumbered : ℕ → List Corner → Pt
+pointNumbered n [] = O
+pointNumbered n (c ∷ l) = cond (eqb (c .number) n) (c .point) (pointNumbered n l)
 
 -- the second of the pair whose first is numbered n: the corner after it
 unfoldable pub afterIn : ℕ → List (Corner × Corner) → Pt
@@ -91,7 +91,7 @@ joined e u v s l taken = record {
 
 -- let "p be its far vertex, a and b the edge's ends, a0 before a, b0 after b"
 abbrev pub joinsAt : Edge → Triangle → ℕ → List Corner → Bool
-joinsAt e u v l = joins (pointBefore (e .a) l) (pointOf (e .a) l) (vertex u v) (pointOf (e .b) l) (pointAfter (e .b) l)
+joinsAt e u v l = joins (pointBefore (e .a) l) (pointNumbered (e .a) l) (vertex u v) (pointNumbered (e .b) l) (pointAfter (e .b) l)
 
 unfoldable pub isIn : ℕ → List ℕ → Bool
 isIn n [] = false

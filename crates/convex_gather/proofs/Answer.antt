@@ -16,11 +16,11 @@ use Rattle.integers.proofs.Overlay.{overlay-two}
 use Rattle.plane.specs.Plane.{Pt}
 use Rattle.mesh.specs.Mesh.{Mesh, meshKinds}
 use Rattle.table.specs.declared.Counts.{Counts}
-use Rattle.corners.specs.Corners.{numbersOf}
+use Rattle.corners.specs.Corners.{pointsOf, numbersOf, withCorner}
 use Rattle.table.specs.Table.{startsOf, cornersOf, roomKinds, Answered}
 use Rattle.integers.proofs.Faults.{append-some, append-none}
 use Rattle.table.proofs.Answers.{refused-counts, refused-buffer, accepted-counts, accepted-buffer}
-use Rattle.corners.proofs.Corners.{length-numbers, numbers-append}
+use Rattle.corners.proofs.Corners.{length-points, length-numbers, numbers-append}
 use Rattle.table.proofs.Parts.{length-startsFrom}
 use Rattle.points.specs.declared.Tally.{Tally}
 use Rattle.points.specs.Points.{cornerOf, cornerIn, firstPoints}
@@ -38,13 +38,13 @@ numbers-more points i h =
     ap (λ l. numbersOf (map cornerOf l)) (ap (λ n. take n points) (add-one i) ∙ take-suc points i [] h) ∙ ap numbersOf (map-append cornerOf (take i points) (getD points i [] ∷ []))
     ∙ numbers-append (firstPoints i points) (cornerIn points i ∷ [])
 
-pub points-turn : (points : List (List ℤ)) (to₀ : List ℤ) {to to′ : List ℤ} (i : ℕ) → i < length points → 2 * i + 1 < length to₀ → to ≡ overlay (numbersOf (firstPoints i points)) to₀ → to′ ≡ set (set to (2 * i) (cornerIn points i .x)) (2 * i + 1) (cornerIn points i .y) → to′ ≡ overlay (numbersOf (firstPoints (i + 1) points)) to₀
+pub points-turn : (points : List (List ℤ)) (to₀ : List ℤ) {to to′ : List ℤ} (i : ℕ) → i < length points → i < length (pointsOf to₀) → to ≡ overlay (numbersOf (firstPoints i points)) to₀ → to′ ≡ withCorner to i (cornerIn points i) → to′ ≡ overlay (numbersOf (firstPoints (i + 1) points)) to₀
 points-turn points to₀ i h k p e =
     let n = numbersOf (firstPoints i points) in
     let x = cornerIn points i .x in
     let y = cornerIn points i .y in
     let size : length n ≡ 2 * i = omega (arith, length-numbers (firstPoints i points), length-first points i (omega arith)) in
-    e ∙ overlay-two n to₀ (2 * i) x y p size k ∙ ap (λ l. overlay l to₀) (sym (numbers-more points i h))
+    e ∙ overlay-two n to₀ (2 * i) x y p size (omega (arith, k, length-points to₀)) ∙ ap (λ l. overlay l to₀) (sym (numbers-more points i h))
 
 -- ---- faults of the room
 

@@ -4,9 +4,10 @@ ghost use mathlib.Core.Path.{_≡_};
 ghost use Prim.Native.Nat.{_+_, _<_, _≤_, _*_, _^_};
 ghost use lib.ListN.{length, getD, set, take};
 ghost use Rattle.integers.specs.Lists.{overlay};
-ghost use Rattle.corners.specs.Corners.{numbersOf};
+ghost use Rattle.corners.specs.Corners.{pointsOf, numbersOf, withCorner};
 ghost use Rattle.points.specs.Points.{cornerIn, firstPoints};
 ghost use Rattle.convex_gather.specs.Gather.{HandedOut};
+use plane::IntPoint;
 use points::Tally;
 use table::Counts;
 
@@ -23,26 +24,24 @@ fn copy_starts(from: &[u32], n: usize, to: &mut [u32])
     }
 }
 
-// Point i as two numbers.
-fn put_pair(points: &[[i32; 2]], i: usize, to: &mut [i32])
-    requires { ⌜ (i < length (now points)) × (2 * i + 1 < length (now to)) ⌝ }
-    ensures { λ r. ⌜ now (to .exit) ≡ set (set (now (to .entry)) (2 * i) (cornerIn (now (points .entry)) i .x)) (2 * i + 1)
-        (cornerIn (now (points .entry)) i .y) ⌝ }
+// Point i as corner i.
+fn put_point(points: &[[i32; 2]], i: usize, to: &mut [i32])
+    requires { ⌜ (i < length (now points)) × (i < length (pointsOf (now to))) ⌝ }
+    ensures { λ r. ⌜ now (to .exit) ≡ withCorner (now (to .entry)) i (cornerIn (now (points .entry)) i) ⌝ }
 {
     let c = points[i];
-    let at = 2 * i;
-    to[at] = c[0];
-    to[at + 1] = c[1];
+    let p = IntPoint { x: c[0], y: c[1] };
+    corners::put_corner(to, i, p);
 }
 
-// The first n points as numbers, x and y in turn, on the front of the lent ones.
+// The first n points as corners, on the front of the lent ones.
 fn copy_points(points: &[[i32; 2]], n: usize, to: &mut [i32])
-    requires { ⌜ (n ≤ length (now points)) × (2 * n ≤ length (now to)) ⌝ }
+    requires { ⌜ (n ≤ length (now points)) × (n ≤ length (pointsOf (now to))) ⌝ }
     ensures { λ r. ⌜ now (to .exit) ≡ overlay (numbersOf (firstPoints n (now (points .entry)))) (now (to .entry)) ⌝ }
 {
     let mut i: usize = 0;
     while i < n {
-        put_pair(points, i, to);
+        put_point(points, i, to);
         i += 1;
     }
 }
@@ -75,7 +74,7 @@ pub fn hand_out(
     if starts.len() < parts + 1 {
         return refusal(integers::fault::START_ROOM);
     }
-    if corners.len() / 2 < count {
+    if corners::corner_count(corners) < count {
         return refusal(integers::fault::CORNER_ROOM);
     }
     copy_starts(begins, parts + 1, starts);

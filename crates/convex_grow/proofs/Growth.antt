@@ -13,7 +13,7 @@ use Rattle.mesh.proofs.Accepted.{accepted}
 use Rattle.convex.specs.Zipper.{Slot, Zipper, startZ, stepZ, growZ}
 use Rattle.convex_ring.specs.declared.Progress.{Progress}
 use Rattle.points.specs.Points.{cornerOf, pairOf}
-use Rattle.convex_ring.specs.Buffers.{slotAt, pendingOf, free, Marked, Holds, Ready, Sound}
+use Rattle.convex_ring.specs.Buffers.{slotAt, pendingOf, free, Marked, Holds, RegionBuffers, Sound}
 use Rattle.convex_grow.specs.Growing.{Stepped, Started, Ran, Grown}
 use Rattle.convex_ring.proofs.Reading.{pending-cons}
 use Rattle.mesh.proofs.Sides.{after-side}
@@ -36,7 +36,7 @@ free-le [] = omega arith
 free-le (true ∷ l) = omega (arith, free-le l)
 free-le (false ∷ l) = omega (arith, free-le l)
 
-module _ (size : ℕ) (m : Mesh) (cs : List (List ℤ)) (es : List (List ℕ)) (flags : List Bool) (k : ℕ) (s : Ready size m cs es flags) (l : k < length m) (f : getD flags k false ≡ false) where
+module _ (size : ℕ) (m : Mesh) (cs : List (List ℤ)) (es : List (List ℕ)) (flags : List Bool) (k : ℕ) (s : RegionBuffers size m cs es flags) (l : k < length m) (f : getD flags k false ≡ false) where
   abbrev t : Triangle
   t = triangleAt m k
 
@@ -58,7 +58,7 @@ module _ (size : ℕ) (m : Mesh) (cs : List (List ℤ)) (es : List (List ℕ)) (
   less : suc (free (set flags k true)) ≡ free flags
   less = free-set flags k (omega (arith, s .marks)) f
 
-  ready : Ready size m cs′ es′ (set flags k true)
+  ready : RegionBuffers size m cs′ es′ (set flags k true)
   ready =
       let a = accepted m (s .accepted) in
       record {

@@ -9,7 +9,7 @@ ghost use Rattle.plane.specs.Machine.{point};
 ghost use Rattle.mesh.specs.Mesh.{vertex, neighbour, before};
 ghost use Rattle.mesh.specs.Rows.{rowTriangle, rowsMesh};
 ghost use Rattle.points.specs.Points.{pairOf};
-ghost use Rattle.convex_ring.specs.Buffers.{Ready, Sound};
+ghost use Rattle.convex_ring.specs.Buffers.{RegionBuffers, Sound};
 ghost use Rattle.convex_grow.specs.Growing.{movedBy, pushedBy, Stepped, Started, Ran, Grown};
 use convex_ring::Progress;
 use mesh::Far;
@@ -118,7 +118,7 @@ fn start_region(
     taken: &mut [bool],
     k: usize,
 ) -> Progress
-    requires { ⌜ Ready (length (now corners)) (rowsMesh (now mesh)) (now corners) (now edges) (now taken)
+    requires { ⌜ RegionBuffers (length (now corners)) (rowsMesh (now mesh)) (now corners) (now edges) (now taken)
         × (k < length (now mesh))
         × (getD (now taken) k false ≡ false) ⌝ }
     ensures { λ r. ⌜ Started (length (now (corners .entry))) (rowsMesh (now (mesh .entry))) k (now (taken .entry)) (now (corners .exit)) (now (edges .exit))
@@ -164,7 +164,7 @@ pub fn grow(
     taken: &mut [bool],
     k: usize,
 ) -> Progress
-    requires { ⌜ Ready (length (now corners)) (rowsMesh (now mesh)) (now corners) (now edges) (now taken)
+    requires { ⌜ RegionBuffers (length (now corners)) (rowsMesh (now mesh)) (now corners) (now edges) (now taken)
         × (k < length (now mesh))
         × (getD (now taken) k false ≡ false) ⌝ }
     ensures { λ r. ⌜ Grown (length (now (corners .entry))) (rowsMesh (now (mesh .entry))) k (now (taken .entry)) (now (corners .exit)) (now (edges .exit))

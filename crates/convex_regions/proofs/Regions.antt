@@ -27,7 +27,7 @@ use Rattle.points.specs.declared.Tally.{Tally}
 use Rattle.points.specs.Gathered.{Gathered}
 use Rattle.points.proofs.Gathering.{part-appended}
 use Rattle.points.specs.Points.{cornerIn, Appended}
-use Rattle.convex_ring.specs.Buffers.{free, Marked, Ready}
+use Rattle.convex_ring.specs.Buffers.{free, Marked, RegionBuffers}
 use Rattle.convex_grow.specs.Growing.{Grown}
 use Rattle.convex_contour.specs.Contour.{contourAt, Whole}
 use Rattle.convex_regions.specs.Parts.{total, inCorner, inEdge, inFlag, Fresh, Room, seenNext, partsNext, Joined, Visited}
@@ -86,7 +86,7 @@ module _ (size : ℕ) (m : Mesh) (k : ℕ) (flags : List Bool) (starts : List �
 -- ---- a triangle visited
 
 module _ (size : ℕ) (m : Mesh) (k : ℕ) (flags : List Bool) (starts : List ℕ) (points : List (List ℤ)) (t : Tally) (l : k < length flags) where
-  pub visited-skip : {cs : List (List ℤ)} {es : List (List ℕ)} → Ready size m cs es flags → Room m flags starts points t → getD flags k false ≡ true → Visited size m k flags starts points t cs es flags starts points t
+  pub visited-skip : {cs : List (List ℤ)} {es : List (List ℕ)} → RegionBuffers size m cs es flags → Room m flags starts points t → getD flags k false ≡ true → Visited size m k flags starts points t cs es flags starts points t
   visited-skip s r f = record {
     ready = s;
     starts-size = refl;
@@ -110,7 +110,7 @@ module _ (size : ℕ) (m : Mesh) (k : ℕ) (flags : List Bool) (starts : List �
 
 -- the parts of the triangles before k are gathered; the buffers have the sizes that they were lent with
 pub record Visiting (size starts-size points-size : ℕ) (m : Mesh) (cs : List (List ℤ)) (es : List (List ℕ)) (flags : List Bool) (starts : List ℕ) (points : List (List ℤ)) (t : Tally) (k : ℕ) : Type 0 where
-  pub ready : Ready size m cs es flags
+  pub ready : RegionBuffers size m cs es flags
   pub starts-same : length starts ≡ starts-size
   pub points-same : length points ≡ points-size
   pub room : Room m flags starts points t
@@ -137,14 +137,14 @@ next-same true ps z F s s′ = refl
 next-same false ps z F s s′ = append-assoc ps (contourZ z ∷ []) (map contourZ (F s′))
 
 -- a visit is told by the size that its buffer has
-visited-there : {size : ℕ} {m : Mesh} {k : ℕ} {cs : List (List ℤ)} {es : List (List ℕ)} {flags : List Bool} {starts : List ℕ} {points : List (List ℤ)} {t : Tally} {cs′ : List (List ℤ)} {es′ : List (List ℕ)} {flags′ : List Bool} {starts′ : List ℕ} {points′ : List (List ℤ)} {t′ : Tally} → Ready size m cs es flags → Visited (length cs) m k flags starts points t cs′ es′ flags′ starts′ points′ t′ → Visited size m k flags starts points t cs′ es′ flags′ starts′ points′ t′
+visited-there : {size : ℕ} {m : Mesh} {k : ℕ} {cs : List (List ℤ)} {es : List (List ℕ)} {flags : List Bool} {starts : List ℕ} {points : List (List ℤ)} {t : Tally} {cs′ : List (List ℤ)} {es′ : List (List ℕ)} {flags′ : List Bool} {starts′ : List ℕ} {points′ : List (List ℤ)} {t′ : Tally} → RegionBuffers size m cs es flags → Visited (length cs) m k flags starts points t cs′ es′ flags′ starts′ points′ t′ → Visited size m k flags starts points t cs′ es′ flags′ starts′ points′ t′
 visited-there {size} {m} {k} {flags = flags} {starts = starts} {points = points} {t = t} {cs′} {es′} {flags′} {starts′} {points′} {t′} s = subst (λ n. Visited n m k flags starts points t cs′ es′ flags′ starts′ points′ t′) (s .corners)
 
-pub ready-here : {size : ℕ} {m : Mesh} {cs : List (List ℤ)} {es : List (List ℕ)} {flags : List Bool} → Ready size m cs es flags → Ready (length cs) m cs es flags
-ready-here {m = m} {cs} {es} {flags} s = subst (λ n. Ready n m cs es flags) (sym (s .corners)) s
+pub ready-here : {size : ℕ} {m : Mesh} {cs : List (List ℤ)} {es : List (List ℕ)} {flags : List Bool} → RegionBuffers size m cs es flags → RegionBuffers (length cs) m cs es flags
+ready-here {m = m} {cs} {es} {flags} s = subst (λ n. RegionBuffers n m cs es flags) (sym (s .corners)) s
 
 module _ (size starts-size points-size : ℕ) (m : Mesh) where
-  pub visiting-start : {cs : List (List ℤ)} {es : List (List ℕ)} {flags : List Bool} {starts : List ℕ} {points : List (List ℤ)} → Ready size m cs es flags → Marked flags [] → length starts ≡ starts-size → length points ≡ points-size → length m < starts-size → 3 * length m ≤ points-size → getD starts 0 0 ≡ 0 → Visiting size starts-size points-size m cs es flags starts points (record { parts = 0; corners = 0 }) 0
+  pub visiting-start : {cs : List (List ℤ)} {es : List (List ℕ)} {flags : List Bool} {starts : List ℕ} {points : List (List ℤ)} → RegionBuffers size m cs es flags → Marked flags [] → length starts ≡ starts-size → length points ≡ points-size → length m < starts-size → 3 * length m ≤ points-size → getD starts 0 0 ≡ 0 → Visiting size starts-size points-size m cs es flags starts points (record { parts = 0; corners = 0 }) 0
   unfolding partsZ flatten
   visiting-start {flags = flags} {starts = starts} s h a b f g e = record {
     ready = s;
@@ -208,7 +208,7 @@ module _ (rows : List (List ℤ)) {cs : List (List ℤ)} {es : List (List ℕ)} 
   pub first-flags : length (take (length rows) flags) ≡ length rows
   first-flags = length-take-le (length rows) flags (u .for-flags)
 
-  pub first-ready : firstFault (meshKinds (rowsMesh rows)) ≡ 0 → Ready (length cs) (rowsMesh rows) cs es (take (length rows) flags)
+  pub first-ready : firstFault (meshKinds (rowsMesh rows)) ≡ 0 → RegionBuffers (length cs) (rowsMesh rows) cs es (take (length rows) flags)
   first-ready a = record {
     accepted = a;
     enough = omega (arith, u .for-corners, length-rows rows);

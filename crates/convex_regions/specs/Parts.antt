@@ -13,7 +13,7 @@ use Rattle.convex.specs.Joining.{isIn}
 use Rattle.convex.specs.Zipper.{zipped, contourZ}
 use Rattle.points.specs.declared.Tally.{Tally}
 use Rattle.points.specs.Gathered.{Gathered}
-use Rattle.convex_ring.specs.Buffers.{free, Marked, Ready}
+use Rattle.convex_ring.specs.Buffers.{free, Marked, RegionBuffers}
 use Rattle.points.specs.Points.{firstPoints}
 
 -- a mesh of at most so many triangles is tiny, small, or medium: its work arrays are of that size
@@ -67,7 +67,7 @@ partsNext m seen k ps = cond (isIn k seen) ps (ps ++ (contourZ (zipped m seen k)
 
 -- a region that starts with triangle k was gathered
 pub record Joined (size : ℕ) (m : Mesh) (k : ℕ) (flags : List Bool) (starts : List ℕ) (points : List (List ℤ)) (t : Tally) (cs′ : List (List ℤ)) (es′ : List (List ℕ)) (flags′ : List Bool) (starts′ : List ℕ) (points′ : List (List ℤ)) (t′ : Tally) : Type 0 where
-  pub ready : Ready size m cs′ es′ flags′
+  pub ready : RegionBuffers size m cs′ es′ flags′
   pub starts-size : length starts′ ≡ length starts
   pub points-size : length points′ ≡ length points
   pub room : Room m flags′ starts′ points′ t′
@@ -76,7 +76,7 @@ pub record Joined (size : ℕ) (m : Mesh) (k : ℕ) (flags : List Bool) (starts 
 
 -- triangle k was visited
 pub record Visited (size : ℕ) (m : Mesh) (k : ℕ) (flags : List Bool) (starts : List ℕ) (points : List (List ℤ)) (t : Tally) (cs′ : List (List ℤ)) (es′ : List (List ℕ)) (flags′ : List Bool) (starts′ : List ℕ) (points′ : List (List ℤ)) (t′ : Tally) : Type 0 where
-  pub ready : Ready size m cs′ es′ flags′
+  pub ready : RegionBuffers size m cs′ es′ flags′
   pub starts-size : length starts′ ≡ length starts
   pub points-size : length points′ ≡ length points
   pub room : Room m flags′ starts′ points′ t′

@@ -10,7 +10,7 @@ ghost use Rattle.integers.specs.Faults.{firstFault};
 ghost use Rattle.mesh.specs.Mesh.{maxTriangles, meshKinds};
 ghost use Rattle.mesh.specs.Rows.{rowsMesh};
 ghost use Rattle.convex.specs.Joining.{parts};
-ghost use Rattle.convex_ring.specs.Buffers.{Marked, Ready};
+ghost use Rattle.convex_ring.specs.Buffers.{Marked, RegionBuffers};
 ghost use Rattle.points.specs.Gathered.{Gathered};
 ghost use Rattle.convex_regions.specs.Parts.{tiny, small, medium, Fresh, Room, Joined, Visited};
 use mesh::Row;
@@ -34,7 +34,7 @@ fn append_region(
     k: usize,
     t: Tally,
 ) -> Tally
-    requires { ⌜ Ready (length (now corners)) (rowsMesh (now mesh)) (now corners) (now edges) (now taken)
+    requires { ⌜ RegionBuffers (length (now corners)) (rowsMesh (now mesh)) (now corners) (now edges) (now taken)
         × (k < length (now mesh))
         × (getD (now taken) k false ≡ false)
         × Room (rowsMesh (now mesh)) (now taken) (now starts) (now points) t ⌝ }
@@ -62,7 +62,7 @@ fn visit(
     k: usize,
     t: Tally,
 ) -> Tally
-    requires { ⌜ Ready (length (now corners)) (rowsMesh (now mesh)) (now corners) (now edges) (now taken)
+    requires { ⌜ RegionBuffers (length (now corners)) (rowsMesh (now mesh)) (now corners) (now edges) (now taken)
         × (k < length (now mesh))
         × Room (rowsMesh (now mesh)) (now taken) (now starts) (now points) t ⌝ }
     ensures { λ r. ⌜ Visited (length (now (corners .entry))) (rowsMesh (now (mesh .entry))) k (now (taken .entry)) (now (starts .entry))
@@ -83,7 +83,7 @@ fn visit_all(
     starts: &mut [u32],
     points: &mut [[i32; 2]],
 ) -> Tally
-    requires { ⌜ Ready (length (now corners)) (rowsMesh (now mesh)) (now corners) (now edges) (now taken)
+    requires { ⌜ RegionBuffers (length (now corners)) (rowsMesh (now mesh)) (now corners) (now edges) (now taken)
         × Marked (now taken) []
         × (length (now mesh) < length (now starts))
         × (3 * length (now mesh) ≤ length (now points))

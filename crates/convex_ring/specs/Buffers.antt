@@ -61,7 +61,7 @@ pub record Holds (size : ℕ) (cs : List (List ℤ)) (es : List (List ℕ)) (fla
 
 -- what a region's work asks of the buffers: an accepted mesh and two places more than it has triangles, for a region has at most two corners more than
 -- triangles; and every entry on the grid and in the mesh, used or not
-pub record Ready (size : ℕ) (m : Mesh) (cs : List (List ℤ)) (es : List (List ℕ)) (flags : List Bool) : Type 0 where
+pub record RegionBuffers (size : ℕ) (m : Mesh) (cs : List (List ℤ)) (es : List (List ℕ)) (flags : List Bool) : Type 0 where
   pub accepted : firstFault (meshKinds m) ≡ 0
   pub enough : length m + 2 ≤ size
   pub corners : length cs ≡ size
@@ -72,7 +72,7 @@ pub record Ready (size : ℕ) (m : Mesh) (cs : List (List ℤ)) (es : List (List
 
 -- and of the counts: each triangle not taken has a place between those pending and those done; the last corner added is done, or will be, right before `last`, and is done where nothing is pending
 pub record Sound (size : ℕ) (m : Mesh) (cs : List (List ℤ)) (es : List (List ℕ)) (flags : List Bool) (p : Progress) : Type 0 where
-  pub ready : Ready size m cs es flags
+  pub ready : RegionBuffers size m cs es flags
   pub meshed : 0 < length m
   pub room : p .pending + free flags ≤ p .done
   pub whole : p .done ≤ size

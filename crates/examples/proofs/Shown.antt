@@ -6,7 +6,7 @@ use Rattle.integers.specs.Faults.{firstFault}
 use Rattle.plane.specs.Plane.{inRange, onGrid, isZero, lower, byCross, angleCmp}
 use Rattle.plane.specs.Contour.{lastOf, contourArea}
 use Rattle.mesh.specs.Mesh.{vertex, neighbour, after, someFrom, tooMany, offGrid, strayNeighbour, named, misnamed, opposite, runsOppositely, mismatched, flat, meshArea, tooLarge}
-use Rattle.convex.specs.Joining.{stacked, start, pointOf, afterIn, beforeIn, putAfter, joins, joined, isIn, step, grow, regionsFrom, regions, placeOf, turning, withoutStraight, contourOf, parts}
+use Rattle.convex.specs.Joining.{stacked, start, pointNumbered, afterIn, beforeIn, putAfter, joins, joined, isIn, step, grow, regionsFrom, regions, placeOf, turning, withoutStraight, contourOf, parts}
 use Rattle.split.specs.Splitting.{sharesFrom, clipped, fanned, fanParts, rounded, momentX, momentY, centreOf, leftOfAll, centreServes, taking, groupParts, sectors, centredParts, splitContour, splitParts}
 use Rattle.pair.specs.Walk.{below, leastFrom, greatestFrom, leastAt, greatestAt, startAt, endAt, windingTerms, winding, begin, nextIndex, edgeOf, advance}
 use Rattle.pair.specs.Walk as walk
@@ -14,5 +14,5 @@ use Rattle.pair.specs.Pair.{lesser, nextStep, belongs, headed, run, pairStep, e
 use Rattle.examples.specs.Starred.{starred, StarredHold}
 
 pub starred-hold : StarredHold
-unfolding starred sumℤ upTo rotate links neighbours firstFault inRange onGrid isZero lower byCross angleCmp lastOf contourArea vertex neighbour after someFrom tooMany offGrid strayNeighbour named misnamed opposite runsOppositely mismatched flat meshArea tooLarge stacked start pointOf afterIn beforeIn putAfter joins joined isIn step grow regionsFrom regions placeOf turning withoutStraight contourOf parts sharesFrom clipped fanned fanParts rounded momentX momentY centreOf leftOfAll centreServes taking groupParts sectors centredParts splitContour splitParts below leastFrom greatestFrom leastAt greatestAt startAt endAt windingTerms winding begin nextIndex walk.pointOf edgeOf advance lesser nextStep belongs headed run pairStep emit pairContour flatten
+unfolding starred sumℤ upTo rotate links neighbours firstFault inRange onGrid isZero lower byCross angleCmp lastOf contourArea vertex neighbour after someFrom tooMany offGrid strayNeighbour named misnamed opposite runsOppositely mismatched flat meshArea tooLarge stacked start pointNumbered afterIn beforeIn putAfter joins joined isIn step grow regionsFrom regions placeOf turning withoutStraight contourOf parts sharesFrom clipped fanned fanParts rounded momentX momentY centreOf leftOfAll centreServes taking groupParts sectors centredParts splitContour splitParts below leastFrom greatestFrom leastAt greatestAt startAt endAt windingTerms winding begin nextIndex walk.pointOf edgeOf advance lesser nextStep belongs headed run pairStep emit pairContour flatten
 starred-hold = (refl, (refl, (refl, (refl, (refl, (refl, (refl, (refl, (refl, (refl, (refl, (refl, (refl, tt)))))))))))))

@@ -12,7 +12,7 @@ use lib.Seq.{take-all}
 use lib.IntN.{pos, negℤ}
 use Rattle.integers.specs.Word.{unsigned}
 use Rattle.integers.proofs.Order.{by-test}
-use Rattle.fields.specs.Fields.{isDigit, runOf}
+use Rattle.fields.specs.Fields.{isDigit, runLength}
 use Rattle.field_numbers.specs.declared.Reading.{Reading}
 use Rattle.field_numbers.specs.Numbers.{valueOf, isNumber, isCoordinate, coordinateOf, hasMinus, told, numberRead, coordinateRead}
 
@@ -39,7 +39,7 @@ is-wrong false n e h = (refl, e)
 -- ---- numbers
 
 -- a run from the front on
-pub front-run : (l : List ℕ) {r : ℕ} → r ≡ 0 + runOf isDigit l → r ≡ runOf isDigit l
+pub front-run : (l : List ℕ) {r : ℕ} → r ≡ 0 + runLength isDigit l → r ≡ runLength isDigit l
 front-run l e = omega arith
 
 module _ (most : ℕ) (l : List ℕ) where
@@ -53,18 +53,18 @@ module _ (most : ℕ) (l : List ℕ) where
     too-long h = rw (ne-eqb (length l) 0 a, lt-ltb 10 (length l) h)
 
     module _ (b : length l ≤ 10) where
-      pub other-bytes : (runOf isDigit l ≡ length l → ⊥) → isNumber most l ≡ false
+      pub other-bytes : (runLength isDigit l ≡ length l → ⊥) → isNumber most l ≡ false
       unfolding isNumber
-      other-bytes h = rw (ne-eqb (length l) 0 a, le-ltb 10 (length l) b, ne-eqb (runOf isDigit l) (length l) h)
+      other-bytes h = rw (ne-eqb (length l) 0 a, le-ltb 10 (length l) b, ne-eqb (runLength isDigit l) (length l) h)
 
-      module _ (d : runOf isDigit l ≡ length l) where
+      module _ (d : runLength isDigit l ≡ length l) where
         pub too-large : most < valueOf l → isNumber most l ≡ false
         unfolding isNumber
-        too-large h = rw (ne-eqb (length l) 0 a, le-ltb 10 (length l) b, eq-eqb (runOf isDigit l) (length l) d, lt-ltb most (valueOf l) h)
+        too-large h = rw (ne-eqb (length l) 0 a, le-ltb 10 (length l) b, eq-eqb (runLength isDigit l) (length l) d, lt-ltb most (valueOf l) h)
 
         pub is-number : valueOf l ≤ most → isNumber most l ≡ true
         unfolding isNumber
-        is-number h = rw (ne-eqb (length l) 0 a, le-ltb 10 (length l) b, eq-eqb (runOf isDigit l) (length l) d, le-ltb most (valueOf l) h)
+        is-number h = rw (ne-eqb (length l) 0 a, le-ltb 10 (length l) b, eq-eqb (runLength isDigit l) (length l) d, le-ltb most (valueOf l) h)
 
   -- the value of a number
   pub at-most : isNumber most l ≡ true → valueOf l ≤ most
@@ -72,7 +72,7 @@ module _ (most : ℕ) (l : List ℕ) where
   at-most e =
       by-test (eqb (length l) 0) (λ q. absurd (true-false (sym (rw q at e)))) (λ p.
       by-test (ltb 10 (length l)) (λ q. absurd (true-false (sym (rw (p, q) at e)))) (λ p₂.
-      by-test (eqb (runOf isDigit l) (length l)) (λ p₃.
+      by-test (eqb (runLength isDigit l) (length l)) (λ p₃.
       by-test (ltb most (valueOf l)) (λ q. absurd (true-false (sym (rw (p, p₂, p₃, q) at e)))) (λ q. ltb-false most (valueOf l) q))
       (λ q. absurd (true-false (sym (rw (p, p₂, q) at e))))))
 

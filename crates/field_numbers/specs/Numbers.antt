@@ -7,7 +7,7 @@ use lib.ListN.{length, getD, drop}
 use lib.IntN.{ℤ, pos, negℤ}
 use Rattle.integers.specs.Word.{unsigned}
 use Rattle.field_numbers.specs.declared.Reading.{Reading}
-use Rattle.fields.specs.Fields.{isDigit, runOf}
+use Rattle.fields.specs.Fields.{isDigit, runLength}
 
 -- ---- a number
 
@@ -24,7 +24,7 @@ unfoldable pub isNumber : ℕ → List ℕ → Bool
 isNumber most l =
     cond (eqb (length l) 0) false
     (cond (ltb 10 (length l)) false
-    (cond (eqb (runOf isDigit l) (length l)) (cond (ltb most (valueOf l)) false true) false))
+    (cond (eqb (runLength isDigit l) (length l)) (cond (ltb most (valueOf l)) false true) false))
 
 -- ---- a coordinate
 

@@ -6,7 +6,7 @@ ghost use Prim.Native.Nat.{_-_, _<_, _≤_};
 ghost use lib.ListN.{length};
 ghost use lib.IntN.{pos, negℤ};
 ghost use Rattle.integers.specs.Word.{unsigned};
-ghost use Rattle.fields.specs.Fields.{isDigit, runOf};
+ghost use Rattle.fields.specs.Fields.{isDigit, runLength};
 ghost use Rattle.field_numbers.specs.Numbers.{valueOf, numberRead, coordinateRead};
 use fields::Run;
 
@@ -36,7 +36,7 @@ fn digit(b: u8) -> u64
 
 // The value of up to ten digits.
 fn value(digits: &[u8]) -> u64
-    requires { ⌜ (length (now digits) ≤ 10) × (runOf isDigit (now digits) ≡ length (now digits)) ⌝ }
+    requires { ⌜ (length (now digits) ≤ 10) × (runLength isDigit (now digits) ≡ length (now digits)) ⌝ }
     ensures { λ r. ⌜ r ≡ valueOf (now (digits .entry)) ⌝ }
 {
     let mut v: u64 = 0;

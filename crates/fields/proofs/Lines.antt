@@ -6,7 +6,7 @@ use Prim.Native.Nat.{ℕ, zero, suc, _+_}
 use lib.Dec.{eqb}
 use lib.ListN.{take, drop}
 use Rattle.integers.proofs.Order.{by-test}
-use Rattle.fields.specs.Fields.{runOf, inRun, linesOf, onFirst}
+use Rattle.fields.specs.Fields.{runLength, inRun, linesOf, onFirst}
 use Rattle.fields.specs.declared.Run.the-variants as run
 
 pub lines-none : linesOf [] ≡ []
@@ -23,8 +23,8 @@ lines-byte b l e = rw e
 
 -- the first line is a run, and the others follow the byte that ends it
 pub lines-first : (b : ℕ) (l : List ℕ)
-    → linesOf (b ∷ l) ≡ take (runOf (inRun run.Line) (b ∷ l)) (b ∷ l) ∷ linesOf (drop (suc (runOf (inRun run.Line) (b ∷ l))) (b ∷ l))
-unfolding runOf
+    → linesOf (b ∷ l) ≡ take (runLength (inRun run.Line) (b ∷ l)) (b ∷ l) ∷ linesOf (drop (suc (runLength (inRun run.Line) (b ∷ l))) (b ∷ l))
+unfolding runLength
 lines-first b [] =
     by-test (eqb b 10)
     (λ e. lines-end b [] e ∙ rw e)

@@ -28,9 +28,9 @@ inRun run.Comma b = not (eqb b 44)
 -- ---- runs
 
 -- how many bytes at the front are of a kind
-unfoldable pub runOf : (ℕ → Bool) → List ℕ → ℕ
-runOf p [] = 0
-runOf p (b ∷ l) = cond (p b) (suc (runOf p l)) 0
+unfoldable pub runLength : (ℕ → Bool) → List ℕ → ℕ
+runLength p [] = 0
+runLength p (b ∷ l) = cond (p b) (suc (runLength p l)) 0
 
 -- ---- lines
 
@@ -48,13 +48,13 @@ linesOf (b ∷ l) = cond (eqb b 10) ([] ∷ linesOf l) (onFirst b (linesOf l))
 
 -- without the blanks at its front
 abbrev pub skipped : List ℕ → List ℕ
-skipped l = drop (runOf isBlank l) l
+skipped l = drop (runLength isBlank l) l
 
 -- a line from its field k on, k counted from 0; nothing where it has no more
 unfoldable pub fieldsFrom : ℕ → List ℕ → List ℕ
 fieldsFrom zero l = skipped l
-fieldsFrom (suc k) l = skipped (drop (runOf (inRun run.Field) (fieldsFrom k l)) (fieldsFrom k l))
+fieldsFrom (suc k) l = skipped (drop (runLength (inRun run.Field) (fieldsFrom k l)) (fieldsFrom k l))
 
 -- field k
 abbrev pub fieldOf : ℕ → List ℕ → List ℕ
-fieldOf k l = take (runOf (inRun run.Field) (fieldsFrom k l)) (fieldsFrom k l)
+fieldOf k l = take (runLength (inRun run.Field) (fieldsFrom k l)) (fieldsFrom k l)

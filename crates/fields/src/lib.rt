@@ -4,7 +4,7 @@ ghost use mathlib.Core.Path.{_≡_};
 ghost use mathlib.Core.Bool.{not};
 ghost use Prim.Native.Nat.{_+_, _≤_};
 ghost use lib.ListN.{length, drop};
-ghost use Rattle.fields.specs.Fields.{isBlank, isDigit, inRun, runOf, fieldsFrom, fieldOf};
+ghost use Rattle.fields.specs.Fields.{isBlank, isDigit, inRun, runLength, fieldsFrom, fieldOf};
 
 // What a run is of: blanks, the bytes of a field, digits, the bytes of a line, the bytes before a comma.
 pub enum Run {
@@ -62,7 +62,7 @@ fn belongs(kind: Run, b: u8) -> bool
 // The place where the run that begins at `from` ends.
 pub fn run_end(kind: Run, text: &[u8], from: usize) -> usize
     requires { ⌜ from ≤ length (now text) ⌝ }
-    ensures { λ r. ⌜ (r ≡ from + runOf (inRun kind) (drop from (now (text .entry)))) × (from ≤ r) × (r ≤ length (now (text .entry))) ⌝ }
+    ensures { λ r. ⌜ (r ≡ from + runLength (inRun kind) (drop from (now (text .entry)))) × (from ≤ r) × (r ≤ length (now (text .entry))) ⌝ }
 {
     let mut i = from;
     while i < text.len() {

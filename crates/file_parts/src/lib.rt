@@ -10,7 +10,7 @@ use table::Counts;
 // As many starts and corners' numbers as the split parts of any mesh have: at most six corners of two numbers for each triangle.
 pub const STARTS: usize = table::MAX_PARTS + 1;
 
-pub const NUMBERS: usize = 12 * mesh::MAX_TRIANGLES;
+pub const NUMBERS: usize = corners::WIDTH * (6 * mesh::MAX_TRIANGLES);
 
 // The split parts of a file whose header is sound, its mesh read into as many rows.
 fn split_sound(

@@ -3,7 +3,7 @@
 use mathlib.Core.Path.{_≡_, refl, sym, _∙_, ap, subst}
 use mathlib.Core.Bool.{false}
 use mathlib.Core.List.{List, [], _∷_, _++_, flatten}
-use Prim.Native.Nat.{ℕ, suc, _+_, _-_, _/_, _≤_, _<_}
+use Prim.Native.Nat.{ℕ, suc, _+_, _-_, _≤_, _<_}
 use native.Mathlib.Numerals.{add-one}
 use native.Mathlib.Omega.{arith}
 use lib.ListN.{length, drop, getD, length-append, drop-of-length-le}
@@ -29,25 +29,25 @@ use Rattle.listing_lines.proofs.Putting.{joined, Putting, putting-start
 abbrev pub headPieces : ℕ → ℕ → ℕ → List (List ℕ)
 headPieces parts corners area = (partsWord ++ decimal parts) ∷ (cornersWord ++ decimal corners) ∷ (areaWord ++ decimal area) ∷ newline ∷ []
 
-head-makes : (s : List ℕ) (c : List ℤ) (total : ℕ) → tableBroken s c ≡ false → total ≡ totalArea (tableParts s c) → flatten (headPieces (length s - 1) (length c / 2) total) ≡ headLine (tableParts s c)
+head-makes : (s : List ℕ) (c : List ℤ) (total n : ℕ) → tableBroken s c ≡ false → total ≡ totalArea (tableParts s c) → n ≡ length (pointsOf c) → flatten (headPieces (length s - 1) n total) ≡ headLine (tableParts s c)
 unfolding headLine
-head-makes s c total h e = (λ i. flatten (headPieces (sym (count-parts s c h) i) (sym (count-corners s c h) i) (e i))) ∙ joined _ _
+head-makes s c total n h e f = (λ i. flatten (headPieces (sym (count-parts s c h) i) ((f ∙ length-points c ∙ sym (count-corners s c h)) i) (e i))) ∙ joined _ _
 
-pub head-start : {s : List ℕ} {c : List ℤ} {total : ℕ} {out : List ℕ} → HeadRoom s c total out → Putting (headLine (tableParts s c)) 0 out (headPieces (length s - 1) (length c / 2) total) out 0
-head-start {s} {c} {total} h = putting-start (head-makes s c total (h .whole) (h .sum)) (omega (arith, h .room))
+pub head-start : {s : List ℕ} {c : List ℤ} {total n : ℕ} {out : List ℕ} → HeadRoom s c total out → n ≡ length (pointsOf c) → Putting (headLine (tableParts s c)) 0 out (headPieces (length s - 1) n total) out 0
+head-start {s} {c} {total} {n} h f = putting-start (head-makes s c total n (h .whole) (h .sum) f) (omega (arith, h .room))
 
 -- ---- a part's line
 
 abbrev pub partPieces : ℕ → ℕ → ℕ → ℕ → List Pt → List (List ℕ)
 partPieces k corners area share p = decimal k ∷ (space ++ decimal corners) ∷ (space ++ decimal area) ∷ (space ++ decimal share) ∷ cornersText p ∷ newline ∷ []
 
-part-makes : (k : ℕ) (part : List ℤ) (total area share : ℕ) → area ≡ areaOf (pointsOf part) → share ≡ shareOf total area → flatten (partPieces k (length part / 2) area share (pointsOf part)) ≡ partLine total k (pointsOf part)
+part-makes : (k : ℕ) (part : List ℤ) (total n area share : ℕ) → n ≡ length (pointsOf part) → area ≡ areaOf (pointsOf part) → share ≡ shareOf total area → flatten (partPieces k n area share (pointsOf part)) ≡ partLine total k (pointsOf part)
 unfolding partLine
-part-makes k part total area share e f = (λ i. flatten (partPieces k (sym (length-points part) i) (e i) ((f ∙ ap (shareOf total) e) i) (pointsOf part))) ∙ joined _ _
+part-makes k part total n area share g e f = (λ i. flatten (partPieces k (g i) (e i) ((f ∙ ap (shareOf total) e) i) (pointsOf part))) ∙ joined _ _
 
-pub part-start : {k : ℕ} {part : List ℤ} {total : ℕ} {out : List ℕ} {at area share : ℕ} → PartRoom k part total out at → area ≡ areaOf (pointsOf part) → share ≡ shareOf total area
-    → Putting (partLine total k (pointsOf part)) at out (partPieces k (length part / 2) area share (pointsOf part)) out at
-part-start {k} {part} {total} {area = area} {share = share} h e f = putting-start (part-makes k part total area share e f) (h .room)
+pub part-start : {k : ℕ} {part : List ℤ} {total : ℕ} {out : List ℕ} {at n area share : ℕ} → PartRoom k part total out at → n ≡ length (pointsOf part) → area ≡ areaOf (pointsOf part) → share ≡ shareOf total area
+    → Putting (partLine total k (pointsOf part)) at out (partPieces k n area share (pointsOf part)) out at
+part-start {k} {part} {total} {n = n} {area = area} {share = share} h g e f = putting-start (part-makes k part total n area share g e f) (h .room)
 
 -- ---- room for the line of part k
 

@@ -1,6 +1,6 @@
 // The text of an area listing (document 01, "The file and its listing"), put into lent bytes: `put_listing` leaves exactly listing's `listingOf` of a part table
 // that can be listed, and every byte past it as it was; the caller has shown that there is room. The total is added up once, and each part's area once for
-// its line. Leans on listing_areas, text and table_shown.
+// its line. Leans on listing_areas, text, table_shown and corners.
 ghost use mathlib.Core.List.{[]};
 ghost use Prim.Native.Nat.{_≤_};
 ghost use lib.ListN.{length, getD};
@@ -16,9 +16,10 @@ fn put_head(starts: &[u32], corners: &[i32], total: u64, out: &mut [u8]) -> usiz
     requires { ⌜ HeadRoom (now starts) (now corners) total (now out) ⌝ }
     ensures { λ r. ⌜ PutText (headLine (tableParts (now (starts .entry)) (now (corners .entry)))) 0 (now (out .entry)) (now (out .exit)) r ⌝ }
 {
+    let count = corners::corner_count(corners);
     let parts = text::put_word_decimal(b"parts ", (starts.len() - 1) as u64, out, 0);
-    let count = text::put_word_decimal(b" corners ", (corners.len() / 2) as u64, out, parts);
-    let area = text::put_word_decimal(b" area2 ", total, out, count);
+    let counted = text::put_word_decimal(b" corners ", count as u64, out, parts);
+    let area = text::put_word_decimal(b" area2 ", total, out, counted);
     text::put_bytes(b"\n", out, area)
 }
 
@@ -27,11 +28,12 @@ fn put_part(k: u64, part: &[i32], total: u64, out: &mut [u8], at: usize) -> usiz
     requires { ⌜ PartRoom k (now part) total (now out) at ⌝ }
     ensures { λ r. ⌜ PutText (partLine total k (pointsOf (now (part .entry)))) at (now (out .entry)) (now (out .exit)) r ⌝ }
 {
+    let count = corners::corner_count(part);
     let area = listing_areas::part_area(part);
     let share = listing_areas::share(area, total);
     let number = text::put_decimal(k, out, at);
-    let count = text::put_word_decimal(b" ", (part.len() / 2) as u64, out, number);
-    let size = text::put_word_decimal(b" ", area, out, count);
+    let counted = text::put_word_decimal(b" ", count as u64, out, number);
+    let size = text::put_word_decimal(b" ", area, out, counted);
     let shown = text::put_word_decimal(b" ", share, out, size);
     let last = text::put_corners(part, out, shown);
     text::put_bytes(b"\n", out, last)

@@ -11,12 +11,12 @@ use lib.Dec.{eqb, ltb}
 use lib.ListN.{length, getD, take, drop}
 use Rattle.integers.specs.Word.{unsigned}
 use Rattle.integers.proofs.Order.{by-test}
-use Rattle.fields.specs.Fields.{runOf, inRun}
+use Rattle.fields.specs.Fields.{runLength, inRun}
 use Rattle.fields.specs.declared.Run.the-variants as run
 use Rattle.field_numbers.specs.declared.Reading.{Reading}
 use Rattle.field_numbers.specs.Numbers.{told, valueOf, isNumber, numberRead, isCoordinate, coordinateOf, coordinateRead}
 use Rattle.mesh_fields.specs.Put.{Put}
-use Rattle.mesh_fields.specs.Entries.{sameBytes, isNone, isEar, isFan, isCentroid, isNumberOrNone, numberOrNone, isSplit, splitOf, commaFrom, commaOf, xText, yText, isPoint, pointOf, pointWords}
+use Rattle.mesh_fields.specs.Entries.{sameBytes, isNone, isEar, isFan, isCentroid, isNumberOrNone, numberOrNone, isSplit, splitOf, commaFrom, commaOf, xText, yText, isPoint, pointRead, pointWords}
 use Rattle.mesh_fields.proofs.Puts.{put-wrong, put-told, put-then, put-stops}
 
 true-false : true ≡ false → ⊥
@@ -133,9 +133,9 @@ module _ (l : List ℕ) {c : ℕ} (e : c ≡ commaOf l) where
   y-read = ap (λ k. coordinateRead (take (length l - 1 - (k + 1)) (drop (k + 1) l))) e
 
   module _ (h : c ≡ 0 → ⊥) {n : Reading} {at : ℕ} {a b : List ℕ} {r : Bool} (x : n ≡ coordinateRead (take (c - 1) (drop 1 l))) (p : Put (n .right) (n .bits ∷ []) at a b r) where
-    pub put-no-x : r ≡ false → Put (isPoint l) (pointWords (pointOf l)) at a b false
+    pub put-no-x : r ≡ false → Put (isPoint l) (pointWords (pointRead l)) at a b false
     put-no-x f = rw (point-test h) (put-stops (put-told (isCoordinate (xText l)) (unsigned (coordinateOf (xText l))) (x ∙ x-read) p) (isCoordinate (yText l)) (unsigned (coordinateOf (yText l)) ∷ []) f)
 
     pub put-both : {m : Reading} {b′ : List ℕ} {s : Bool} → r ≡ true → m ≡ coordinateRead (take (length l - 1 - (c + 1)) (drop (c + 1) l))
-        → Put (m .right) (m .bits ∷ []) (at + 1) b b′ s → Put (isPoint l) (pointWords (pointOf l)) at a b′ s
+        → Put (m .right) (m .bits ∷ []) (at + 1) b b′ s → Put (isPoint l) (pointWords (pointRead l)) at a b′ s
     put-both f y q = rw (point-test h) (put-then (put-told (isCoordinate (xText l)) (unsigned (coordinateOf (xText l))) (x ∙ x-read) p) f refl (put-told (isCoordinate (yText l)) (unsigned (coordinateOf (yText l))) (y ∙ y-read) q))

@@ -7,7 +7,7 @@ use lib.Dec.{eqb, ltb}
 use lib.ListN.{length, getD, take, drop}
 use Rattle.integers.specs.Word.{unsigned}
 use Rattle.plane.specs.Plane.{Pt}
-use Rattle.fields.specs.Fields.{runOf, inRun}
+use Rattle.fields.specs.Fields.{runLength, inRun}
 use Rattle.fields.specs.declared.Run.the-variants as run
 use Rattle.field_numbers.specs.Numbers.{valueOf, isNumber, isCoordinate, coordinateOf}
 
@@ -55,7 +55,7 @@ splitOf l = cond (isEar l) 0 (cond (isFan l) 1 2)
 
 -- where the first comma behind the first byte stands
 abbrev pub commaFrom : List ℕ → ℕ
-commaFrom l = 1 + runOf (inRun run.Comma) (drop 1 l)
+commaFrom l = 1 + runLength (inRun run.Comma) (drop 1 l)
 
 -- the comma's place in a field that opens with `(`, ends with `)` and has a comma between; 0 in
 -- another
@@ -73,8 +73,8 @@ yText l = take (length l - 1 - (commaOf l + 1)) (drop (commaOf l + 1) l)
 unfoldable pub isPoint : List ℕ → Bool
 isPoint l = cond (eqb (commaOf l) 0) false (cond (isCoordinate (xText l)) (isCoordinate (yText l)) false)
 
-abbrev pub pointOf : List ℕ → Pt
-pointOf l = record { x = coordinateOf (xText l); y = coordinateOf (yText l) }
+abbrev pub pointRead : List ℕ → Pt
+pointRead l = record { x = coordinateOf (xText l); y = coordinateOf (yText l) }
 
 -- its words in the file
 abbrev pub pointWords : Pt → List ℕ

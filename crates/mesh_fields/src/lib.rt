@@ -9,7 +9,7 @@ ghost use mathlib.Core.Logic.{_⊎_};
 ghost use Prim.Native.Nat.{_+_, _<_, _≤_};
 ghost use lib.ListN.{length};
 ghost use Rattle.field_numbers.specs.Numbers.{told};
-ghost use Rattle.mesh_fields.specs.Entries.{sameBytes, isNumberOrNone, numberOrNone, isSplit, splitOf, commaOf, isPoint, pointOf, pointWords};
+ghost use Rattle.mesh_fields.specs.Entries.{sameBytes, isNumberOrNone, numberOrNone, isSplit, splitOf, commaOf, isPoint, pointRead, pointWords};
 ghost use Rattle.mesh_fields.specs.Put.{Put};
 use field_numbers::Reading;
 use fields::Run;
@@ -98,7 +98,7 @@ fn comma(entry: &[u8]) -> usize
 // Puts the field's two coordinates, where it is a point.
 pub fn put_point(entry: &[u8], at: usize, words: &mut [u32]) -> bool
     requires { ⌜ at + 2 ≤ length (now words) ⌝ }
-    ensures { λ r. ⌜ Put (isPoint (now (entry .entry))) (pointWords (pointOf (now (entry .entry)))) at (now (words .entry)) (now (words .exit)) r ⌝ }
+    ensures { λ r. ⌜ Put (isPoint (now (entry .entry))) (pointWords (pointRead (now (entry .entry)))) at (now (words .entry)) (now (words .exit)) r ⌝ }
 {
     let c = comma(entry);
     if c == 0 {

@@ -14,7 +14,7 @@ use Rattle.integers.proofs.Order.{by-test}
 use Rattle.fields.specs.Fields.{fieldsFrom, fieldOf}
 use Rattle.field_numbers.specs.declared.Reading.{Reading}
 use Rattle.field_numbers.specs.Numbers.{told}
-use Rattle.mesh_fields.specs.Entries.{sameBytes, isPoint, pointOf, pointWords, isNumberOrNone, numberOrNone, isSplit, splitOf}
+use Rattle.mesh_fields.specs.Entries.{sameBytes, isPoint, pointRead, pointWords, isNumberOrNone, numberOrNone, isSplit, splitOf}
 use Rattle.mesh_fields.specs.Put.{Put}
 use Rattle.mesh_fields.proofs.Puts.{put-told, put-wrong, put-then, put-stops, put-none}
 use Rattle.mesh_lines.specs.Lines.{endsAt, isPassedOver, isLimit}
@@ -54,8 +54,8 @@ module _ (l : List ℕ) {s : ℕ} (e : drop s l ≡ fieldsFrom 0 l) (h : s ≤ l
 -- ---- a field's put
 
 module _ {l m : List ℕ} (e : l ≡ m) {at : ℕ} {a b : List ℕ} {r : Bool} where
-  pub put-point-of : Put (isPoint l) (pointWords (pointOf l)) at a b r → Put (isPoint m) (pointWords (pointOf m)) at a b r
-  put-point-of p = subst (λ f. Put (isPoint f) (pointWords (pointOf f)) at a b r) e p
+  pub put-point-of : Put (isPoint l) (pointWords (pointRead l)) at a b r → Put (isPoint m) (pointWords (pointRead m)) at a b r
+  put-point-of p = subst (λ f. Put (isPoint f) (pointWords (pointRead f)) at a b r) e p
 
   module _ {n : Reading} (p : Put (n .right) (n .bits ∷ []) at a b r) where
     pub put-number-of : n ≡ told (isNumberOrNone l) (numberOrNone l) → Put (isNumberOrNone m) (numberOrNone m ∷ []) at a b r

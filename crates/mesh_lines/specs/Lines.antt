@@ -7,7 +7,7 @@ use lib.Dec.{eqb}
 use lib.ListN.{length, getD}
 use Rattle.mesh.specs.Mesh.{Triangle}
 use Rattle.fields.specs.Fields.{fieldsFrom, fieldOf}
-use Rattle.mesh_fields.specs.Entries.{sameBytes, isPoint, pointOf, pointWords, isNumberOrNone, numberOrNone, isSplit, splitOf}
+use Rattle.mesh_fields.specs.Entries.{sameBytes, isPoint, pointRead, pointWords, isNumberOrNone, numberOrNone, isSplit, splitOf}
 
 -- the line has no field k
 abbrev pub endsAt : ℕ → List ℕ → Bool
@@ -44,9 +44,9 @@ isTriangle l = cond (arePoints l) (cond (areNeighbours l) (endsAt 6 l) false) fa
 abbrev pub triangleOf : List ℕ → Triangle
 triangleOf l =
     record {
-      v0 = pointOf (fieldOf 0 l);
-      v1 = pointOf (fieldOf 1 l);
-      v2 = pointOf (fieldOf 2 l);
+      v0 = pointRead (fieldOf 0 l);
+      v1 = pointRead (fieldOf 1 l);
+      v2 = pointRead (fieldOf 2 l);
       n0 = numberOrNone (fieldOf 3 l);
       n1 = numberOrNone (fieldOf 4 l);
       n2 = numberOrNone (fieldOf 5 l);

@@ -9,7 +9,7 @@ ghost use Prim.Native.Nat.{_+_, _≤_};
 ghost use lib.ListN.{length};
 ghost use Rattle.mesh.specs.Rows.{rowWidth};
 ghost use Rattle.fields.specs.Fields.{fieldOf};
-ghost use Rattle.mesh_fields.specs.Entries.{isPoint, pointOf, pointWords, isNumberOrNone, numberOrNone, isSplit, splitOf};
+ghost use Rattle.mesh_fields.specs.Entries.{isPoint, pointRead, pointWords, isNumberOrNone, numberOrNone, isSplit, splitOf};
 ghost use Rattle.mesh_fields.specs.Put.{Put};
 ghost use Rattle.mesh_lines.specs.Lines.{endsAt, isPassedOver, arePoints, areNeighbours, isTriangle, triangleOf, triangleWords, sidesOf, cornersOf, isLimit, isHead, headWords};
 
@@ -35,7 +35,7 @@ pub fn passed_over(line: &[u8]) -> bool
 // Puts the point that is field k.
 fn put_point_at(line: &[u8], k: usize, at: usize, words: &mut [u32]) -> bool
     requires { ⌜ at + 2 ≤ length (now words) ⌝ }
-    ensures { λ r. ⌜ Put (isPoint (fieldOf k (now (line .entry)))) (pointWords (pointOf (fieldOf k (now (line .entry))))) at (now (words .entry))
+    ensures { λ r. ⌜ Put (isPoint (fieldOf k (now (line .entry)))) (pointWords (pointRead (fieldOf k (now (line .entry))))) at (now (words .entry))
         (now (words .exit)) r ⌝ }
 {
     let entry = fields::field(line, k);

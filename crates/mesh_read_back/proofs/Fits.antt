@@ -18,7 +18,7 @@ use Rattle.table.proofs.Words.{Word}
 use Rattle.fields.specs.Fields.{fieldOf}
 use Rattle.field_numbers.specs.Numbers.{valueOf, isNumber, isCoordinate, coordinateOf, hasMinus}
 use Rattle.field_numbers.proofs.Readings.{at-most}
-use Rattle.mesh_fields.specs.Entries.{sameBytes, isNone, isNumberOrNone, numberOrNone, isEar, isFan, splitOf, commaOf, xText, yText, isPoint, pointOf}
+use Rattle.mesh_fields.specs.Entries.{sameBytes, isNone, isNumberOrNone, numberOrNone, isEar, isFan, splitOf, commaOf, xText, yText, isPoint, pointRead}
 use Rattle.mesh_lines.specs.Lines.{isLimit, isHead, arePoints, areNeighbours, isTriangle, triangleOf}
 
 -- ---- coordinates
@@ -49,7 +49,7 @@ pub record PointFits (p : Pt) : Type 0 where
   pub x-fits : SFits w32 (p .x)
   pub y-fits : SFits w32 (p .y)
 
-point-fits : (l : List ℕ) → isPoint l ≡ true → PointFits (pointOf l)
+point-fits : (l : List ℕ) → isPoint l ≡ true → PointFits (pointRead l)
 unfolding isPoint
 point-fits l e =
     let w = both-true (isCoordinate (xText l)) (isCoordinate (yText l)) (not-then (eqb (commaOf l) 0) _ e .1) in

@@ -13,7 +13,7 @@ use lib.ListN.{length, getD, take, drop, drop-of-length-le}
 use lib.Seq.{drop-cons, drop-drop}
 use Rattle.integers.proofs.Order.{by-test}
 use Rattle.mesh.specs.Rows.{rowWidth}
-use Rattle.fields.specs.Fields.{runOf, inRun, linesOf}
+use Rattle.fields.specs.Fields.{runLength, inRun, linesOf}
 use Rattle.fields.specs.declared.Run.the-variants as run
 use Rattle.fields.proofs.Lines.{lines-none, lines-first}
 use Rattle.mesh_fields.specs.Put.{Put}
@@ -134,15 +134,15 @@ module _ (l : List ℕ) (k : ℕ) (old : List ℕ) where
 -- ---- the whole text
 
 -- the line at a place, and those behind it
-pub lines-at : (text : List ℕ) (at : ℕ) {e : ℕ} → at < length text → e ≡ at + runOf (inRun run.Line) (drop at text)
+pub lines-at : (text : List ℕ) (at : ℕ) {e : ℕ} → at < length text → e ≡ at + runLength (inRun run.Line) (drop at text)
     → linesOf (drop at text) ≡ take (e - at) (drop at text) ∷ linesOf (drop (e + 1) text)
 lines-at text at {e} h q =
-    let n : e - at ≡ runOf (inRun run.Line) (drop at text) = omega arith in
-    let m : at + suc (runOf (inRun run.Line) (drop at text)) ≡ e + 1 = omega arith in
+    let n : e - at ≡ runLength (inRun run.Line) (drop at text) = omega arith in
+    let m : at + suc (runLength (inRun run.Line) (drop at text)) ≡ e + 1 = omega arith in
     let d = drop-cons text at 0 h in
-    let f : linesOf (drop at text) ≡ take (runOf (inRun run.Line) (drop at text)) (drop at text) ∷ linesOf (drop (suc (runOf (inRun run.Line) (drop at text))) (drop at text)) =
+    let f : linesOf (drop at text) ≡ take (runLength (inRun run.Line) (drop at text)) (drop at text) ∷ linesOf (drop (suc (runLength (inRun run.Line) (drop at text))) (drop at text)) =
     rw d (lines-first (getD text at 0) (drop (suc at) text)) in
-    f ∙ (λ i. take (sym n i) (drop at text) ∷ linesOf (drop-drop (suc (runOf (inRun run.Line) (drop at text))) at text i))
+    f ∙ (λ i. take (sym n i) (drop at text) ∷ linesOf (drop-drop (suc (runLength (inRun run.Line) (drop at text))) at text i))
     ∙ ap (λ j. take (e - at) (drop at text) ∷ linesOf (drop j text)) m
 
 -- what holds where the lines before place `at`, of which `count` said something, are taken
@@ -169,7 +169,7 @@ going-begins text old {at} e h =
     }
 
 module _ {text old : List ℕ} {at line count : ℕ} {words : List ℕ} (g : Going text old at line count words) where
-  module _ {new : List ℕ} {e : ℕ} {r : Step} (h : at < length text) (q : e ≡ at + runOf (inRun run.Line) (drop at text)) (u : e ≤ length text) (t : Taken (take (e - at) (drop at text)) count words new r) where
+  module _ {new : List ℕ} {e : ℕ} {r : Step} (h : at < length text) (q : e ≡ at + runLength (inRun run.Line) (drop at text)) (u : e ≤ length text) (t : Taken (take (e - at) (drop at text)) count words new r) where
     judged-line : wrongLine text ≡ cond (r .right) (wrongFrom (r .count) (line + 1) (linesOf (drop (e + 1) text))) (line + 1)
     judged-line = g .judged ∙ ap (wrongFrom count line) (lines-at text at h q) ∙ t .judged line (linesOf (drop (e + 1) text))
 

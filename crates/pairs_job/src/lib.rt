@@ -21,7 +21,7 @@ pub const DIFFERENCE: u32 = 1;
 
 // The bytes of the longest good job: an operation, and of either operand four bounds, two counts, the starts and the corners.
 pub const LONGEST: usize = WORD
-    * (1 + 2 * (4 + 2 + (table::MAX_PARTS + 1) + 2 * table::MAX_CORNERS));
+    * (1 + 2 * (4 + 2 + (table::MAX_PARTS + 1) + corners::WIDTH * table::MAX_CORNERS));
 
 // How many words the table at word k has, as its counts say.
 fn table_size(bytes: &[u8], k: usize) -> usize
@@ -31,7 +31,7 @@ fn table_size(bytes: &[u8], k: usize) -> usize
 {
     let parts = word_at(bytes, k) as usize;
     let count = word_at(bytes, k + 1) as usize;
-    3 + parts + 2 * count
+    3 + parts + corners::WIDTH * count
 }
 
 // The word that the right table begins at.
@@ -112,5 +112,5 @@ pub fn read_operand(bytes: &[u8], k: usize, starts: &mut [u32], corners: &mut [i
     let parts = word_at(bytes, k) as usize;
     let count = word_at(bytes, k + 1) as usize;
     table_words::read_words(bytes, k + 2, parts + 1, starts);
-    table_words::read_numbers(bytes, k + 3 + parts, 2 * count, corners);
+    table_words::read_numbers(bytes, k + 3 + parts, corners::WIDTH * count, corners);
 }

@@ -94,10 +94,10 @@ fn put_rest(bytes: &[u8], first: usize, past: usize, out: &mut [u8], at: usize) 
     let parts = word_at(bytes, LEFT) as usize;
     let count = word_at(bytes, LEFT + 1) as usize;
     let corners = LEFT + 3 + parts;
-    let base = corners + 2 * (word_at(bytes, LEFT + 2 + first) as usize);
-    let end = corners + 2 * (word_at(bytes, LEFT + 2 + past) as usize);
+    let base = corners + corners::WIDTH * (word_at(bytes, LEFT + 2 + first) as usize);
+    let end = corners + corners::WIDTH * (word_at(bytes, LEFT + 2 + past) as usize);
     let after = text::put_bytes(&bytes[4 * base..4 * end], out, at);
-    text::put_bytes(&bytes[4 * (corners + 2 * count)..], out, after)
+    text::put_bytes(&bytes[4 * (corners + corners::WIDTH * count)..], out, after)
 }
 
 // Writes the shard of the left parts `from` up to, and without, `to` on the front of the lent bytes. Refuses with 13, 7, in this order, before the first store.

@@ -1,19 +1,20 @@
 // What a call that writes parts answered, as the programs here print it on one line: the fault and the counts, and then the parts, a colon before
 // the first, a semicolon before each other one, and the corners of a part as (x,y), each after a space (`print_answer`); or all that the lent places
 // hold, so that a refusal which changed something shows (`print_lent`). The lists are read as far as they reach, so any lists are taken; what is
-// written is in io's hands, and each program's is held to its file `stdout`. Leans on table and lines.
+// written is in io's hands, and each program's is held to its file `stdout`. Leans on table, corners and lines.
 use table::Counts;
 
 // Writes corner j, where there is one.
 fn print_corner(corners: &[i32], j: u32) {
-    let at = 2 * (j as usize);
-    if corners.len() <= at + 1 {
+    let k = j as usize;
+    if corners::corner_count(corners) <= k {
         return;
     }
+    let p = corners::corner_at(corners, k);
     io::write_all(1, b" (");
-    lines::print_number(corners[at]);
+    lines::print_number(p.x);
     io::write_all(1, b",");
-    lines::print_number(corners[at + 1]);
+    lines::print_number(p.y);
     io::write_all(1, b")");
 }
 

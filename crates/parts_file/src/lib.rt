@@ -31,5 +31,9 @@ pub fn stored_parts(bytes: &[u8], out: &mut [u8; PARTS]) -> Stored
     }
     let parts = told.parts as usize;
     let count = told.corners as usize;
-    table_write::write_table(&starts[..parts + 1], &corners[..2 * count], out)
+    table_write::write_table(
+        &starts[..parts + 1],
+        &corners[..corners::WIDTH * count],
+        out,
+    )
 }

@@ -168,9 +168,9 @@ fn placed_at(starts: &[u32], corners: &[i32], k: usize, z: IntPoint) -> Contact
     requires { ⌜ Placeable (now starts) (now corners) × (k < partCount (now starts)) × OnGrid z ⌝ }
     ensures { λ r. ⌜ r ≡ contactIn (point z) (getD (tableParts (now (starts .entry)) (now (corners .entry))) k []) ⌝ }
 {
-    let from = 2 * (starts[k] as usize);
-    let to = 2 * (starts[k + 1] as usize);
-    placed_in(&corners[from..to], z)
+    let from = starts[k] as usize;
+    let to = starts[k + 1] as usize;
+    placed_in(corners::part(corners, from, to), z)
 }
 
 // Where z lies by all contours.

@@ -24,7 +24,7 @@ fn length_broken(bytes: &[u8]) -> bool
     }
     let parts = word_at(bytes, 0) as usize;
     let count = word_at(bytes, 1) as usize;
-    bytes.len() != HEADER + WORD * (parts + 1) + 2 * WORD * count
+    bytes.len() != HEADER + WORD * (parts + 1) + corners::WIDTH * WORD * count
 }
 
 // Whether the starts in the bytes break a rule, beside the corner count that the bytes tell.
@@ -97,7 +97,7 @@ fn read_fault(bytes: &[u8], starts: usize, corners: usize) -> u32
     if starts < parts + 1 {
         return integers::fault::START_ROOM;
     }
-    if corners / 2 < count {
+    if corners / corners::WIDTH < count {
         return integers::fault::CORNER_ROOM;
     }
     0
@@ -121,7 +121,7 @@ pub fn read_table(bytes: &[u8], starts: &mut [u32], corners: &mut [i32]) -> Coun
     let count = word_at(bytes, 1);
     let first = parts as usize;
     table_words::read_words(bytes, 2, first + 1, starts);
-    table_words::read_numbers(bytes, first + 3, 2 * (count as usize), corners);
+    table_words::read_numbers(bytes, first + 3, corners::WIDTH * (count as usize), corners);
     Counts {
         fault: fault,
         parts: parts,

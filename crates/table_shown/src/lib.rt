@@ -1,7 +1,7 @@
 // The part shown (document 01: "The desk asks for part k of the left or the right operand and gets those corners themselves, not a copy"):
 // `show_part` returns a part of one of the two lent corner slices, at their lifetime, and tells the fault number, 0 for none, in a lent
 // number. It takes any input: the part and the number equal the definitions of table's specs/Shown.antt, and where the part lies that of
-// specs/Place.antt, in the asked operand's own corners. A refusal shows an empty part, at the left corners. Leans on table.
+// specs/Place.antt, in the asked operand's own corners. A refusal shows an empty part, at the left corners. Leans on table and corners.
 ghost use mathlib.Core.Path.{_≡_};
 ghost use mathlib.Core.Bool.{false};
 ghost use Prim.Native.Nat.{_<_};
@@ -46,9 +46,9 @@ pub fn part_of<'a>(starts: &[u32], corners: &'a [i32], k: usize) -> &'a [i32]
     ensures numbers { λ r. ⌜ now r ≡ partNumbers (now (starts .entry)) (now (corners .entry)) k ⌝ }
     ensures placed { λ r. ⌜ r .ptr ≡ partPlace (now (starts .entry)) (corners .entry .ptr) k ⌝ }
 {
-    let from = 2 * (starts[k] as usize);
-    let to = 2 * (starts[k + 1] as usize);
-    &corners[from..to]
+    let from = starts[k] as usize;
+    let to = starts[k + 1] as usize;
+    corners::part(corners, from, to)
 }
 
 // Part k of the right table, or of the left one, and the fault number in `fault`. Refuses with 7, 12, in this order.

@@ -52,7 +52,7 @@ fn extreme(bytes: &[u8], greatest: bool, from: usize, count: usize) -> u32
     let mut word = word_at(bytes, from);
     let mut k = 1;
     while k < count {
-        word = picked(greatest, word, word_at(bytes, from + 2 * k));
+        word = picked(greatest, word, word_at(bytes, from + corners::WIDTH * k));
         k += 1;
     }
     word
@@ -82,7 +82,7 @@ fn put_operand(bytes: &[u8], k: usize, out: &mut [u8], at: usize) -> usize
     let corners = k + 3 + parts;
     put_bounds(bytes, corners, count, out, at);
     text::put_bytes(
-        &bytes[WORD * k..WORD * (corners + 2 * count)],
+        &bytes[WORD * k..WORD * (corners + corners::WIDTH * count)],
         out,
         WORD * (at + 4),
     )
@@ -110,7 +110,7 @@ fn table_size(bytes: &[u8], k: usize) -> usize
 {
     let parts = word_at(bytes, k) as usize;
     let count = word_at(bytes, k + 1) as usize;
-    3 + parts + 2 * count
+    3 + parts + corners::WIDTH * count
 }
 
 // Whether the bytes are not as many as the counts of both tables say, or end before a count.

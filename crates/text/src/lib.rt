@@ -1,14 +1,16 @@
 // Numbers and corners as text (specs/Text.antt), put at a place of lent bytes: each `put_..` tells the place after its text and leaves every other byte
 // as it was (`PutText`, specs/Put.antt); the caller has shown that there is room. That the digits denote the number is specs/Denotes.antt. Leans on the
-// kit's io for digits, and on table, plane and integers.
+// kit's io for digits, and on corners, plane and integers.
 ghost use mathlib.Core.Path.{_≡_};
 ghost use mathlib.Core.List.{_++_};
 ghost use Prim.Native.Nat.{_+_, _≤_};
 ghost use lib.ListN.{length};
 ghost use lib.IntN.{natAbs};
+ghost use Rattle.plane.specs.Machine.{point};
 ghost use Rattle.corners.specs.Corners.{pointsOf};
 ghost use Rattle.text.specs.Text.{decimal, signedDecimal, cornerText, cornersText, refusal};
 ghost use Rattle.text.specs.Put.{PutText};
+use plane::IntPoint;
 
 // The bytes as they are.
 pub fn put_bytes(from: &[u8], out: &mut [u8], at: usize) -> usize
@@ -72,26 +74,26 @@ pub fn put_word_signed(word: &[u8], n: i32, out: &mut [u8], at: usize) -> usize
 }
 
 // " (x,y)".
-pub fn put_corner(x: i32, y: i32, out: &mut [u8], at: usize) -> usize
-    requires { ⌜ at + length (cornerText (record { x = x; y = y })) ≤ length (now out) ⌝ }
-    ensures { λ r. ⌜ PutText (cornerText (record { x = x; y = y })) at (now (out .entry)) (now (out .exit)) r ⌝ }
+pub fn put_corner(p: IntPoint, out: &mut [u8], at: usize) -> usize
+    requires { ⌜ at + length (cornerText (point p)) ≤ length (now out) ⌝ }
+    ensures { λ r. ⌜ PutText (cornerText (point p)) at (now (out .entry)) (now (out .exit)) r ⌝ }
 {
-    let first = put_word_signed(b" (", x, out, at);
-    let second = put_word_signed(b",", y, out, first);
+    let first = put_word_signed(b" (", p.x, out, at);
+    let second = put_word_signed(b",", p.y, out, first);
     put_bytes(b")", out, second)
 }
 
-// The corners of numbers, x and y in turn; a last x without its y is none.
+// The corners of a list; a last x without its y is none.
 pub fn put_corners(corners: &[i32], out: &mut [u8], at: usize) -> usize
     requires { ⌜ at + length (cornersText (pointsOf (now corners))) ≤ length (now out) ⌝ }
     ensures { λ r. ⌜ PutText (cornersText (pointsOf (now (corners .entry)))) at (now (out .entry)) (now (out .exit)) r ⌝ }
 {
-    let count = corners.len() / 2;
+    let count = corners::corner_count(corners);
     let mut after = at;
     let mut k = 0;
     while k < count {
-        let x = 2 * k;
-        after = put_corner(corners[x], corners[x + 1], out, after);
+        let p = corners::corner_at(corners, k);
+        after = put_corner(p, out, after);
         k += 1;
     }
     after

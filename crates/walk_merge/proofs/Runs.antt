@@ -19,7 +19,7 @@ use Rattle.walk.proofs.Answers.{advance-placed}
 use Rattle.walk_pick.specs.Picking.{Judged}
 use Rattle.walk_pick.proofs.Picks.{first-left, second-left}
 use Rattle.walk_merge.specs.declared.Going.{Going}
-use Rattle.walk_merge.specs.Merging.{headingBy, headingOf, runOf, finalOf, Took, Ready, stepsToCome, SteppedOn}
+use Rattle.walk_merge.specs.Merging.{headingBy, headingOf, stopOf, finalOf, Took, MayStep, stepsToCome, SteppedOn}
 
 -- ---- which edges belong
 
@@ -104,7 +104,7 @@ module _ {l r : List ℤ} {s : ConvexSum} (j : Judged l r s) where
 
 -- ---- one turn of the loop
 
-module _ (l r : List ℤ) (g : Going) (on : g .on ≡ true) (ready : Ready l r g) where
+module _ (l r : List ℤ) (g : Going) (on : g .on ≡ true) (ready : MayStep l r g) where
   abbrev A : List Pt
   A = pointsOf l
 
@@ -117,12 +117,12 @@ module _ (l r : List ℤ) (g : Going) (on : g .on ≡ true) (ready : Ready l r g
 
   final-ahead : finalOf A B g ≡ ahead
   unfolding finalOf
-  final-ahead = ap (λ b. cond b ahead (runOf g)) on
+  final-ahead = ap (λ b. cond b ahead (stopOf g)) on
 
   abbrev stopped : Going
   stopped = record { on = false; headed = g .headed; heading = g .heading; at = g .at }
 
-  pub stopped-on : {h : Going} → h ≡ stopped → ahead ≡ runOf g → SteppedOn l r g h
+  pub stopped-on : {h : Going} → h ≡ stopped → ahead ≡ stopOf g → SteppedOn l r g h
   unfolding finalOf stepsToCome
   stopped-on e f = subst (SteppedOn l r g) (sym e) (record {
     ready = record { judged = ready .judged; short = ready .short };
@@ -130,7 +130,7 @@ module _ (l r : List ℤ) (g : Going) (on : g .on ≡ true) (ready : Ready l r g
     fewer = less;
   })
     where
-      there : finalOf A B stopped ≡ runOf g
+      there : finalOf A B stopped ≡ stopOf g
       there = refl
 
       less : stepsToCome stopped < stepsToCome g
@@ -145,7 +145,7 @@ module _ (l r : List ℤ) (g : Going) (on : g .on ≡ true) (ready : Ready l r g
   }
     where
       there : finalOf A B h ≡ run (stepsLeft t) A B (headed (headingOf g) e) t
-      there = ap (λ b. cond b (run (stepsLeft (h .at)) A B (headingOf h) (h .at)) (runOf h)) (k .on) ∙ (λ i. run (stepsLeft (k .at i)) A B (k .heads i) (k .at i))
+      there = ap (λ b. cond b (run (stepsLeft (h .at)) A B (headingOf h) (h .at)) (stopOf h)) (k .on) ∙ (λ i. run (stepsLeft (k .at i)) A B (k .heads i) (k .at i))
 
       less : stepsToCome h < stepsToCome g
       less = rw (on, k .on, k .at) (omega arith)
@@ -155,22 +155,22 @@ module _ (l r : List ℤ) (g : Going) (on : g .on ≡ true) (ready : Ready l r g
   unfolding advance
   took-first e p b {t} {h} u k =
       went-on e t k (subst (Judged l r) (sym u) (first-judged (ready .judged))) (omega (arith, first-left A B (g .at) e p .0) ∙ ap (λ z. suc (stepsLeft z)) (sym u))
-      (run-first A B (headingOf g) (g .at) e p ∙ ap (λ z. cond z (run (stepsLeft (stepFirst A (g .at))) A B (headed (headingOf g) e) (stepFirst A (g .at))) (runOf g)) b ∙ ap (λ z. run (stepsLeft z) A B (headed (headingOf g) e) z) (sym u))
+      (run-first A B (headingOf g) (g .at) e p ∙ ap (λ z. cond z (run (stepsLeft (stepFirst A (g .at))) A B (headed (headingOf g) e) (stepFirst A (g .at))) (stopOf g)) b ∙ ap (λ z. run (stepsLeft z) A B (headed (headingOf g) e) z) (sym u))
 
   pub took-second : (e : Pt) → second e ≡ nextStep A B (g .at) → belongs (headingOf g) e ≡ true → {t : ConvexSum} {h : Going} → t ≡ stepSecond B (g .at) → Took g e t h → SteppedOn l r g h
   unfolding advance
   took-second e p b {t} {h} u k =
       went-on e t k (subst (Judged l r) (sym u) (second-judged (ready .judged))) (omega (arith, second-left A B (g .at) e p .0) ∙ ap (λ z. suc (stepsLeft z)) (sym u))
-      (run-second A B (headingOf g) (g .at) e p ∙ ap (λ z. cond z (run (stepsLeft (stepSecond B (g .at))) A B (headed (headingOf g) e) (stepSecond B (g .at))) (runOf g)) b ∙ ap (λ z. run (stepsLeft z) A B (headed (headingOf g) e) z) (sym u))
+      (run-second A B (headingOf g) (g .at) e p ∙ ap (λ z. cond z (run (stepsLeft (stepSecond B (g .at))) A B (headed (headingOf g) e) (stepSecond B (g .at))) (stopOf g)) b ∙ ap (λ z. run (stepsLeft z) A B (headed (headingOf g) e) z) (sym u))
 
   -- one that does not is left
   pub left-first : (e : Pt) → first e ≡ nextStep A B (g .at) → belongs (headingOf g) e ≡ false → {h : Going} → h ≡ stopped → SteppedOn l r g h
   left-first e p b u =
-      stopped-on u (run-first A B (headingOf g) (g .at) e p ∙ ap (λ z. cond z (run (stepsLeft (stepFirst A (g .at))) A B (headed (headingOf g) e) (stepFirst A (g .at))) (runOf g)) b)
+      stopped-on u (run-first A B (headingOf g) (g .at) e p ∙ ap (λ z. cond z (run (stepsLeft (stepFirst A (g .at))) A B (headed (headingOf g) e) (stepFirst A (g .at))) (stopOf g)) b)
 
   pub left-second : (e : Pt) → second e ≡ nextStep A B (g .at) → belongs (headingOf g) e ≡ false → {h : Going} → h ≡ stopped → SteppedOn l r g h
   left-second e p b u =
-      stopped-on u (run-second A B (headingOf g) (g .at) e p ∙ ap (λ z. cond z (run (stepsLeft (stepSecond B (g .at))) A B (headed (headingOf g) e) (stepSecond B (g .at))) (runOf g)) b)
+      stopped-on u (run-second A B (headingOf g) (g .at) e p ∙ ap (λ z. cond z (run (stepsLeft (stepSecond B (g .at))) A B (headed (headingOf g) e) (stepSecond B (g .at))) (stopOf g)) b)
 
 -- ---- the loop's first and last
 
@@ -178,13 +178,13 @@ module _ (l r : List ℤ) (g : Going) (on : g .on ≡ true) (ready : Ready l r g
 abbrev begun : ConvexSum → Going
 begun s = record { on = true; headed = false; heading = record { x = pos 0; y = pos 0 }; at = s }
 
-pub ready-first : {l r : List ℤ} {s : ConvexSum} → Judged l r s → Ready l r (begun s)
+pub ready-first : {l r : List ℤ} {s : ConvexSum} → Judged l r s → MayStep l r (begun s)
 ready-first j = record { judged = j; short = record { x-small = record { abs = omega arith }; y-small = record { abs = omega arith } } }
 
 pub final-first : (A B : List Pt) (s : ConvexSum) → finalOf A B (begun s) ≡ run (stepsLeft s) A B unset s
 unfolding finalOf
 final-first A B s = refl
 
-pub final-last : (A B : List Pt) (g : Going) → g .on ≡ false → finalOf A B g ≡ runOf g
+pub final-last : (A B : List Pt) (g : Going) → g .on ≡ false → finalOf A B g ≡ stopOf g
 unfolding finalOf
-final-last A B g h = ap (λ b. cond b (run (stepsLeft (g .at)) A B (headingOf g) (g .at)) (runOf g)) h
+final-last A B g h = ap (λ b. cond b (run (stepsLeft (g .at)) A B (headingOf g) (g .at)) (stopOf g)) h

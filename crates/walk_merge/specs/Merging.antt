@@ -22,12 +22,12 @@ abbrev pub headingOf : Going → Heading
 headingOf g = headingBy (g .headed) (g .heading)
 
 -- where the steps stop, as they stand
-abbrev pub runOf : Going → Run
-runOf g = record { heading = headingOf g; at = g .at }
+abbrev pub stopOf : Going → Run
+stopOf g = record { heading = headingOf g; at = g .at }
 
 -- where they will stop: there where they have, else after the steps that are left
 unfoldable pub finalOf : List Pt → List Pt → Going → Run
-finalOf A B g = cond (g .on) (run (stepsLeft (g .at)) A B (headingOf g) (g .at)) (runOf g)
+finalOf A B g = cond (g .on) (run (stepsLeft (g .at)) A B (headingOf g) (g .at)) (stopOf g)
 
 -- an edge taken: the walks stand at t, and the direction is that after it
 pub record Took (g : Going) (e : Pt) (t : ConvexSum) (r : Going) : Type 0 where
@@ -37,7 +37,7 @@ pub record Took (g : Going) (e : Pt) (t : ConvexSum) (r : Going) : Type 0 where
   pub short : Short (r .heading)
 
 -- both walks judged where they stand, and the direction short
-pub record Ready (l r : List ℤ) (g : Going) : Type 0 where
+pub record MayStep (l r : List ℤ) (g : Going) : Type 0 where
   pub judged : Judged l r (g .at)
   pub short : Short (g .heading)
 
@@ -47,6 +47,6 @@ stepsToCome g = cond (g .on) (suc (stepsLeft (g .at))) 0
 
 -- one more step, or a stop: it will stop where it would have, after fewer steps
 pub record SteppedOn (l r : List ℤ) (g h : Going) : Type 0 where
-  pub ready : Ready l r h
+  pub ready : MayStep l r h
   pub same : finalOf (pointsOf l) (pointsOf r) h ≡ finalOf (pointsOf l) (pointsOf r) g
   pub fewer : stepsToCome h < stepsToCome g

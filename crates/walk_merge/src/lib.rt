@@ -10,7 +10,7 @@ ghost use Rattle.corners.specs.Corners.{pointsOf};
 ghost use Rattle.pair.specs.Pair.{stepFirst, stepSecond, unset, belongs, run, stepsLeft};
 ghost use Rattle.walk.specs.Calls.{lengthBroken, misplaced};
 ghost use Rattle.walk_pick.specs.Picking.{Judged};
-ghost use Rattle.walk_merge.specs.Merging.{headingBy, runOf, Took, Ready, SteppedOn};
+ghost use Rattle.walk_merge.specs.Merging.{headingBy, stopOf, Took, MayStep, SteppedOn};
 use corners::corner_count;
 use pair::ConvexSum;
 use plane::IntVector;
@@ -109,7 +109,7 @@ fn step_second(right: &[i32], s: ConvexSum) -> ConvexSum
 
 // One more step of the edge, or a stop.
 fn step_on(left: &[i32], right: &[i32], g: Going) -> Going
-    requires { ⌜ (g .on ≡ true) × Ready (now left) (now right) g ⌝ }
+    requires { ⌜ (g .on ≡ true) × MayStep (now left) (now right) g ⌝ }
     ensures { λ r. ⌜ SteppedOn (now (left .entry)) (now (right .entry)) g r ⌝ }
 {
     let at = g.at;
@@ -135,7 +135,7 @@ fn step_on(left: &[i32], right: &[i32], g: Going) -> Going
 // The steps of one edge from s, to where they stop.
 pub fn run(left: &[i32], right: &[i32], s: ConvexSum) -> Going
     requires { ⌜ Judged (now left) (now right) s ⌝ }
-    ensures { λ r. ⌜ runOf r ≡ run (stepsLeft s) (pointsOf (now (left .entry))) (pointsOf (now (right .entry))) unset s ⌝ }
+    ensures { λ r. ⌜ stopOf r ≡ run (stepsLeft s) (pointsOf (now (left .entry))) (pointsOf (now (right .entry))) unset s ⌝ }
 {
     let mut g = Going {
         on: true,

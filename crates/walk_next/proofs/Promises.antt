@@ -26,7 +26,7 @@ use Rattle.walk.proofs.Answers.{accepts, refuses, by-answer, next-number}
 use Rattle.walk.proofs.Promises.{choice-value, strays}
 use Rattle.walk_pick.specs.Picking.{Judged}
 use Rattle.walk_merge.specs.declared.Going.{Going}
-use Rattle.walk_merge.specs.Merging.{headingBy, runOf}
+use Rattle.walk_merge.specs.Merging.{headingBy, stopOf}
 use Rattle.walk_next.proofs.Leaves.{Placed, run-placed, BothOut, run-out}
 
 -- ---- the faults, each where those before it do not hold
@@ -132,7 +132,7 @@ module _ (A B : List Pt) (s : ConvexSum) where
           absurd (let q : next.Corner (record { x = sumPoint A B s .x; y = sumPoint A B s .y }) (stops .at) ≡ next.End t = sym (rw e) ∙ h in let z : _≡_ {A = ℕ} 0 1 = cc in omega (arith, z))
 
 -- by the steps that the code took, to g
-module _ (A B : List Pt) (s : ConvexSum) (g : Going) (e : runOf g ≡ run (stepsLeft s) A B unset s) where
+module _ (A B : List Pt) (s : ConvexSum) (g : Going) (e : stopOf g ≡ run (stepsLeft s) A B unset s) where
   -- the answer, whether the edge is begun or not
   abbrev told : Bool → Next
   told b = nextOf (emittedBy (sumPoint A B s) (record { heading = headingBy b (g .heading); at = g .at }))

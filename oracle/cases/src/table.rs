@@ -21,7 +21,8 @@ use judge::Contour;
 /// The definitions' names, here and in `DECLARATIONS`.
 const USES: &str = "\
 use Rattle.table.specs.declared.IntRect.{IntRect}
-use Rattle.table.specs.Table.{pointsOf, tableBroken, offRange, boundsBroken, tableParts, startsOf, cornersOf}
+use Rattle.corners.specs.Corners.{pointsOf, offRange}
+use Rattle.table.specs.Table.{tableBroken, boundsBroken, tableParts, startsOf, cornersOf}
 use Rattle.table.specs.Stored.{storedOf, readFault, writeFault, storedStarts, storedCorners}
 use Rattle.table.specs.Shown.{shownFault, shownPart}
 ";

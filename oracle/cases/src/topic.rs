@@ -85,7 +85,12 @@ pub mod layers {
     }
 
     pub fn table() -> Vec<Module> {
-        let own = [("table", "Table"), ("table", "Stored"), ("table", "Shown")];
+        let own = [
+            ("corners", "Corners"),
+            ("table", "Table"),
+            ("table", "Stored"),
+            ("table", "Shown"),
+        ];
         over(BASE.to_vec(), &own)
     }
 

@@ -6,6 +6,7 @@ use lib.ListN.{length, length-set}
 use Rattle.integers.specs.Lists.{overlay}
 use Rattle.integers.proofs.Overlay.{overlay-nil}
 use Rattle.corners.specs.Corners.{numbersOf}
+use Rattle.corners.proofs.Corners.{length-points}
 use Rattle.points.specs.Points.{firstPoints}
 use Rattle.convex_gather.proofs.Answer.{points-turn}
 use Rattle.convex_gather.proofs.copy_points.Statement.{statement}
@@ -21,11 +22,11 @@ loop-holds : tie.Need-loop-holds Inv-loop μ-loop
 unfolding numbersOf
 loop-holds c = (omega arith, refl, sym (overlay-nil (c .args .to .now)))
 
-put-pair-requires : tie.Need-put-pair-requires Inv-loop μ-loop
-put-pair-requires c κs =
+put-point-requires : tie.Need-put-point-requires Inv-loop μ-loop
+put-point-requires c κs =
     let s = c .before .before .before in
     let h = c .before .loop-test .taken in
-    (omega (arith, h, s .pre .0), omega (arith, h, s .pre .1, c .before .before .loop .inv .1))
+    (omega (arith, h, s .pre .0), omega (arith, h, s .pre .1, c .before .before .loop .inv .1, length-points (s .args .to .now), length-points (c .before .before .loop .to)))
 
 add-i : tie.Need-add-i Inv-loop μ-loop
 add-i c = omega (arith, c .before .before .before .loop-test .taken)
@@ -38,7 +39,7 @@ loop-again c =
     let l = c .before .before .before .before in
     let s = c .before .before .before .before .before in
     let h = c .before .before .before .loop-test .taken in
-    let e = c .before .put-pair .ensures in
+    let e = c .before .put-point .ensures in
     (omega (arith, h), ap length e ∙ simp length-set (l .loop .inv .1), points-turn (s .args .points .now) (s .args .to .now) (l .loop .i) (omega (arith, h, s .pre .0)) (omega (arith, h, s .pre .1)) (l .loop .inv .2) e)
 
 same-length : tie.Need-same-length Inv-loop μ-loop
@@ -57,7 +58,7 @@ copy-points-spec =
     Inv-loop
     μ-loop
     loop-holds
-    put-pair-requires
+    put-point-requires
     add-i
     loop-less
     loop-again

@@ -4,7 +4,7 @@ use Prim.Native.Nat.{_+_, _-_, _≤_}
 use native.Mathlib.Omega.{arith}
 use borrow.Author.Needs.{needs}
 use lib.ListN.{length, drop}
-use Rattle.fields.specs.Fields.{inRun, runOf}
+use Rattle.fields.specs.Fields.{inRun, runLength}
 use Rattle.fields.proofs.Runs.{run-more, run-stop, run-past}
 use Rattle.fields.proofs.run_end.Statement.{statement}
 use Rattle.fields.proofs.run_end.Tie as tie
@@ -14,7 +14,7 @@ use Rattle.fields.proofs.belongs.Reads as belongs-reads
 
 abbrev Inv-loop : tie.InvT-loop
 Inv-loop kind text from i₀ i =
-    (from ≤ i) × (i ≤ length text) × (from + runOf (inRun kind) (drop from text) ≡ i + runOf (inRun kind) (drop i text))
+    (from ≤ i) × (i ≤ length text) × (from + runLength (inRun kind) (drop from text) ≡ i + runLength (inRun kind) (drop i text))
 
 abbrev μ-loop : tie.MeasureT-loop
 μ-loop kind text from i₀ i = length text - i

@@ -6,16 +6,19 @@ use Rattle.listing_lines.proofs.Lines.{part-start}
 use Rattle.listing_lines.proofs.put_part.Statement.{statement}
 use Rattle.listing_lines.proofs.put_part.Tie as tie
 
+corner-count-requires : tie.Need-corner-count-requires
+corner-count-requires c κs = search needs
+
 part-area-requires : tie.Need-part-area-requires
-part-area-requires c κs = c .before .pre .measurable
+part-area-requires c κs = c .before .before .pre .measurable
 
 share-requires : tie.Need-share-requires
-share-requires c κs = let s = c .before .before in (omega (arith, c .part-area .ensures, s .pre .within), omega (arith, s .pre .some))
+share-requires c κs = let s = c .before .before .before in (omega (arith, c .part-area .ensures, s .pre .within), omega (arith, s .pre .some))
 
 put-decimal-requires : tie.Need-put-decimal-requires
 put-decimal-requires c κs =
     let s = c .before .before .before .before in
-    putting-room (part-start (s .pre) (c .before .before .part-area .ensures) (c .before .share .ensures))
+    putting-room (part-start (s .before .pre) (c .before .before .before .corner-count .ensures) (c .before .before .part-area .ensures) (c .before .share .ensures))
 
 slice-aggregate-put-word-decimal : tie.Need-slice-aggregate-put-word-decimal
 slice-aggregate-put-word-decimal c = search needs
@@ -24,7 +27,7 @@ put-word-decimal-requires : tie.Need-put-word-decimal-requires
 put-word-decimal-requires c κs =
     let a = c .before .before .before .before in
     let z = a .before .before in
-    putting-room (putting-step (part-start (z .before .before .before .pre) (z .before .part-area .ensures) (z .share .ensures)) (a .put-decimal .ensures))
+    putting-room (putting-step (part-start (z .before .before .before .before .pre) (z .before .before .corner-count .ensures) (z .before .part-area .ensures) (z .share .ensures)) (a .put-decimal .ensures))
 
 slice-aggregate-put-word-decimal-2 : tie.Need-slice-aggregate-put-word-decimal-2
 slice-aggregate-put-word-decimal-2 c = search needs
@@ -35,7 +38,7 @@ put-word-decimal-requires-2 c κs =
     let a = b .before .before .before .before .before in
     let z = a .before .before in
     putting-room
-    (putting-step (putting-step (part-start (z .before .before .before .pre) (z .before .part-area .ensures) (z .share .ensures)) (a .put-decimal .ensures)) (b .put-word-decimal .ensures))
+    (putting-step (putting-step (part-start (z .before .before .before .before .pre) (z .before .before .corner-count .ensures) (z .before .part-area .ensures) (z .share .ensures)) (a .put-decimal .ensures)) (b .put-word-decimal .ensures))
 
 slice-aggregate-put-word-decimal-3 : tie.Need-slice-aggregate-put-word-decimal-3
 slice-aggregate-put-word-decimal-3 c = search needs
@@ -48,7 +51,7 @@ put-word-decimal-requires-3 c κs =
     let z = a .before .before in
     putting-room
     (putting-step
-    (putting-step (putting-step (part-start (z .before .before .before .pre) (z .before .part-area .ensures) (z .share .ensures)) (a .put-decimal .ensures)) (b .put-word-decimal .ensures))
+    (putting-step (putting-step (part-start (z .before .before .before .before .pre) (z .before .before .corner-count .ensures) (z .before .part-area .ensures) (z .share .ensures)) (a .put-decimal .ensures)) (b .put-word-decimal .ensures))
     (d .put-word-decimal2 .ensures))
 
 put-corners-requires : tie.Need-put-corners-requires
@@ -61,7 +64,7 @@ put-corners-requires c κs =
     putting-room
     (putting-step
     (putting-step
-    (putting-step (putting-step (part-start (z .before .before .before .pre) (z .before .part-area .ensures) (z .share .ensures)) (a .put-decimal .ensures)) (b .put-word-decimal .ensures))
+    (putting-step (putting-step (part-start (z .before .before .before .before .pre) (z .before .before .corner-count .ensures) (z .before .part-area .ensures) (z .share .ensures)) (a .put-decimal .ensures)) (b .put-word-decimal .ensures))
     (d .put-word-decimal2 .ensures))
     (e .put-word-decimal3 .ensures))
 
@@ -80,7 +83,7 @@ put-bytes-requires c κs =
     (putting-step
     (putting-step
     (putting-step
-    (putting-step (putting-step (part-start (z .before .before .before .pre) (z .before .part-area .ensures) (z .share .ensures)) (a .put-decimal .ensures)) (b .put-word-decimal .ensures))
+    (putting-step (putting-step (part-start (z .before .before .before .before .pre) (z .before .before .corner-count .ensures) (z .before .part-area .ensures) (z .share .ensures)) (a .put-decimal .ensures)) (b .put-word-decimal .ensures))
     (d .put-word-decimal2 .ensures))
     (e .put-word-decimal3 .ensures))
     (f .put-corners .ensures))
@@ -102,7 +105,7 @@ returns c =
     (putting-step
     (putting-step
     (putting-step
-    (putting-step (putting-step (part-start (z .before .before .before .pre) (z .before .part-area .ensures) (z .share .ensures)) (a .put-decimal .ensures)) (b .put-word-decimal .ensures))
+    (putting-step (putting-step (part-start (z .before .before .before .before .pre) (z .before .before .corner-count .ensures) (z .before .part-area .ensures) (z .share .ensures)) (a .put-decimal .ensures)) (b .put-word-decimal .ensures))
     (d .put-word-decimal2 .ensures))
     (e .put-word-decimal3 .ensures))
     (f .put-corners .ensures))
@@ -112,6 +115,7 @@ pub put-part-spec : {M : Type 1} → statement M
 put-part-spec =
     tie.close
     (tie.spec
+    corner-count-requires
     part-area-requires
     share-requires
     put-decimal-requires

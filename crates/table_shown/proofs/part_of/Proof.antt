@@ -1,19 +1,29 @@
 -- `table_shown::part_of` meets its contract: part k of a table that is not broken lies within its corners. Assumes nothing.
-use mathlib.Core.Path.{_≡_, ap}
+use mathlib.Core.Path.{_≡_, refl, _∙_, ap}
 use mathlib.Core.List.{List}
-use Prim.Native.Nat.{ℕ, _+_, _*_}
+use Prim.Native.Nat.{ℕ, suc, _+_, _*_}
+use lib.IntN.{ℤ}
 use lib.ListN.{getD}
+use lib.Seq.{slice}
+use native.Mathlib.Numerals.{add-one}
 use native.Mathlib.Omega.{arith}
 use borrow.Author.Needs.{needs}
-use Rattle.table.proofs.Shown.{placed, numbers-taken}
+use Rattle.corners.specs.Corners.{cornersBetween, cornerPlace}
+use Rattle.corners.proofs.Corners.{length-points}
+use Rattle.table.specs.Shown.{partNumbers}
+use Rattle.table.proofs.Shown.{placed}
 use Rattle.table_shown.specs.Place.{partPlace}
 use Rattle.table_shown.proofs.part_of.Statement.{statement}
 use Rattle.table_shown.proofs.part_of.Tie as tie
 
--- the numbers before the part, in bytes
-placed-at : (starts : List ℕ) (place : ℕ × ℕ) (k : ℕ) → (place .0, (2 * getD starts k 0) * 4 + place .1) ≡ partPlace starts place k
-unfolding partPlace
-placed-at starts place k = ap (λ o. (place .0, o)) (omega arith)
+module _ (starts : List ℕ) (k : ℕ) where
+  numbers-at : (corners : List ℤ) → cornersBetween (getD starts k 0) (getD starts (k + 1) 0) corners ≡ partNumbers starts corners k
+  unfolding partNumbers
+  numbers-at corners = ap (λ m. slice (2 * getD starts k 0) (2 * getD starts m 0) corners) (add-one k)
+
+  placed-at : (place : ℕ × ℕ) → cornerPlace place (getD starts k 0) ≡ partPlace starts place k
+  unfolding partPlace
+  placed-at place = refl
 
 mul-from : tie.Need-mul-from
 mul-from c = search needs
@@ -22,10 +32,7 @@ shared-slice-read-from : tie.Need-shared-slice-read-from
 shared-slice-read-from c = search needs
 
 cast-from : tie.Need-cast-from
-cast-from c = let p = placed _ _ _ (c .before .pre .0) (c .before .pre .1) in omega arith
-
-mul-from-2 : tie.Need-mul-from-2
-mul-from-2 c = let p = placed _ _ _ (c .before .pre .0) (c .before .pre .1) in omega arith
+cast-from c = let p = placed _ _ _ (c .before .before .pre .0) (c .before .before .pre .1) in omega arith
 
 add-to : tie.Need-add-to
 add-to c = search needs
@@ -37,27 +44,18 @@ shared-slice-read-to : tie.Need-shared-slice-read-to
 shared-slice-read-to c = search needs
 
 cast-to : tie.Need-cast-to
-cast-to c = let p = placed _ _ _ (c .before .before .pre .0) (c .before .before .pre .1) in omega arith
+cast-to c = let p = placed _ _ _ (c .before .before .before .pre .0) (c .before .before .before .pre .1) in omega arith
 
-mul-to-2 : tie.Need-mul-to-2
-mul-to-2 c = let p = placed _ _ _ (c .before .before .pre .0) (c .before .before .pre .1) in omega arith
-
-mul-result : tie.Need-mul-result
-mul-result c = let p = placed _ _ _ (c .before .before .pre .0) (c .before .before .pre .1) in omega arith
-
-sub-result : tie.Need-sub-result
-sub-result c = let p = placed _ _ _ (c .before .before .pre .0) (c .before .before .pre .1) in omega arith
-
-part-result-start : tie.Need-part-result-start
-part-result-start c = let p = placed _ _ _ (c .before .before .pre .0) (c .before .before .pre .1) in omega arith
-
-part-result-end : tie.Need-part-result-end
-part-result-end c = let p = placed _ _ _ (c .before .before .pre .0) (c .before .before .pre .1) in omega arith
+part-requires : tie.Need-part-requires
+part-requires c κs =
+    let s = c .before .before .before in
+    let p = placed _ _ _ (s .pre .0) (s .pre .1) in
+    (p .rises, omega (arith, p .within, length-points (s .args .corners .now)))
 
 returns : tie.Need-returns
 returns c =
-    let p = placed _ _ _ (c .before .before .before .pre .0) (c .before .before .before .pre .1) in
-    (numbers-taken _ _ _ (p .rises), placed-at _ _ _)
+    let p = c .part .ensures in
+    (p .0 ∙ numbers-at _ _ _, p .1 ∙ placed-at _ _ _)
 
 pub part-of-spec : {M : Type 1} → statement M
 part-of-spec =
@@ -66,14 +64,9 @@ part-of-spec =
     mul-from
     shared-slice-read-from
     cast-from
-    mul-from-2
     add-to
     mul-to
     shared-slice-read-to
     cast-to
-    mul-to-2
-    mul-result
-    sub-result
-    part-result-start
-    part-result-end
+    part-requires
     returns)

@@ -1,13 +1,13 @@
 -- `walk_merge::run` meets its contract. The loop's invariant: it will stop where the steps from s do. Assumes nothing.
 use mathlib.Core.Path.{_≡_, refl, sym, _∙_}
 use Rattle.corners.specs.Corners.{pointsOf}
-use Rattle.walk_merge.specs.Merging.{Ready, finalOf, stepsToCome}
+use Rattle.walk_merge.specs.Merging.{MayStep, finalOf, stepsToCome}
 use Rattle.walk_merge.proofs.Runs.{ready-first, final-first, final-last}
 use Rattle.walk_merge.proofs.run.Statement.{statement}
 use Rattle.walk_merge.proofs.run.Tie as tie
 
 abbrev Inv-loop : tie.InvT-loop
-Inv-loop left right g₀ g = Ready left right g × (finalOf (pointsOf left) (pointsOf right) g ≡ finalOf (pointsOf left) (pointsOf right) g₀)
+Inv-loop left right g₀ g = MayStep left right g × (finalOf (pointsOf left) (pointsOf right) g ≡ finalOf (pointsOf left) (pointsOf right) g₀)
 
 abbrev μ-loop : tie.MeasureT-loop
 μ-loop left right g₀ g = stepsToCome g
