@@ -3,7 +3,8 @@
 
 typedef std::vector<C> Operand;
 
-// An operand of `parts` contours: part p has the corners starts[p] .. starts[p + 1], x and y in turn.
+// An operand of `parts` contours: part p has the corners starts[p] .. starts[p + 1], x and y in
+// turn.
 extern "C" Operand* peers_operand(const uint32_t* starts, size_t parts, const int32_t* corners) {
   Operand* out = new Operand(parts);
   for (size_t p = 0; p < parts; p++)

@@ -1,5 +1,6 @@
-// CGAL's Minkowski sum of each two contours, for oracle/bench where CGAL is installed (libcgal-dev; its own licence, GPL, is
-// why nothing else here links it). Exact numbers, as its manual's first example has them.
+// CGAL's Minkowski sum of each two contours, for oracle/bench where CGAL is installed (libcgal-dev;
+// its own licence, GPL, is why nothing else here links it). Exact numbers, as its manual's first
+// example has them.
 #include "peers.h"
 #include <CGAL/Exact_predicates_exact_constructions_kernel.h>
 #include <CGAL/Polygon_2.h>

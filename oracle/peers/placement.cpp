@@ -1,5 +1,6 @@
-// Plain loops that tell of a place whether it is apart from contours (0), touching (1) or overlapping (2), to time ours beside
-// (oracle/bench). A contour has the corners starts[p] .. starts[p + 1], x and y in turn. Source and licence: as peers.h.
+// Plain loops that tell of a place whether it is apart from contours (0), touching (1) or
+// overlapping (2), to time ours beside (oracle/bench). A contour has the corners starts[p] ..
+// starts[p + 1], x and y in turn. Source and licence: as peers.h.
 #include <algorithm>
 #include <cstddef>
 #include <cstdint>
@@ -11,7 +12,8 @@ struct Contours {
   const int32_t* corners;
 };
 
-// Above 0 where (x, y) is left of the edge from corner a to corner b, below 0 where it is right of it.
+// Above 0 where (x, y) is left of the edge from corner a to corner b, below 0 where it is right of
+// it.
 inline int64_t side(const int32_t* a, const int32_t* b, int32_t x, int32_t y) {
   return ((int64_t)b[0] - a[0]) * ((int64_t)y - a[1]) - ((int64_t)b[1] - a[1]) * ((int64_t)x - a[0]);
 }
@@ -78,7 +80,8 @@ extern "C" uint32_t peers_placement_whole(const uint32_t* starts, size_t parts, 
   return most;
 }
 
-// A contour left at the first edge that the place is right of; done at the first that the place is strictly inside.
+// A contour left at the first edge that the place is right of; done at the first that the place is
+// strictly inside.
 extern "C" uint32_t peers_placement_leaving(const uint32_t* starts, size_t parts, const int32_t* corners, int32_t x, int32_t y) {
   return first_edges(Contours{starts, parts, corners}, x, y);
 }

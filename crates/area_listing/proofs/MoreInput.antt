@@ -1,4 +1,5 @@
--- More input changes nothing: bytes past the longest good file are refused, and by the same number. Assumes nothing.
+-- More input changes nothing: bytes past the longest good file are refused, and by the same number.
+-- Assumes nothing.
 use mathlib.Core.Path.{refl, sym, _∙_, ap}
 use native.Mathlib.Omega.{arith}
 use lib.ListN.{length-append}

@@ -1,4 +1,5 @@
--- What the area program prints, as the code goes about it: a file's refusal, or the listing of its parts, which stand on the front of the arrays. Assumes nothing.
+-- What the area program prints, as the code goes about it: a file's refusal, or the listing of its
+-- parts, which stand on the front of the arrays. Assumes nothing.
 use mathlib.Core.Path.{_≡_, sym, _∙_, ap, subst}
 use mathlib.Core.List.{List}
 use Prim.Native.Nat.{ℕ, _+_, _*_, _≤_}

@@ -1,5 +1,5 @@
--- Why the area program reads no more than one byte past the longest good file, 20 + 36 · 1,024 = 36,884 bytes ("that more input cannot change the
--- answer is a law"). Assumes nothing.
+-- Why the area program reads no more than one byte past the longest good file, 20 + 36 · 1,024 =
+-- 36,884 bytes ("that more input cannot change the answer is a law"). Assumes nothing.
 use mathlib.Core.Path.{_≡_}
 use mathlib.Core.List.{List, _++_}
 use Prim.Native.Nat.{ℕ, _+_, _*_}

@@ -1,6 +1,7 @@
-// Prints the convex parts of a mesh file with their areas and shares, or its refusal: document 01's area program ("The file and its listing"). It reads at
-// most one byte more than the longest good file from standard input; more input would change nothing (area_listing/specs/MoreInput.antt). Leans on input and
-// area_listing.
+// Prints the convex parts of a mesh file with their areas and shares, or its refusal: document 01's
+// area program ("The file and its listing"). It reads at most one byte more than the longest good
+// file from standard input; more input would change nothing (area_listing/specs/MoreInput.antt).
+// Leans on input and area_listing.
 use area_listing::INPUT;
 use area_listing::LISTING;
 

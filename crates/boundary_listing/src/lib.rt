@@ -1,5 +1,6 @@
-// The area listing, exported to C for the package (./package) and the runs beside the Rust (oracle/beside): area_listing's `listing`, with
-// the same contract and no `requires`. Leans on area_listing.
+// The area listing, exported to C for the package (./package) and the runs beside the Rust
+// (oracle/beside): area_listing's `listing`, with the same contract and no `requires`. Leans on
+// area_listing.
 ghost use mathlib.Core.Path.{_≡_};
 ghost use lib.ListN.{length};
 ghost use Rattle.integers.specs.Lists.{overlay};

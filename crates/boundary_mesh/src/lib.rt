@@ -1,6 +1,7 @@
-// The mesh and its parts, exported to C: one thin function over each call, with no `requires` and the same contract. The package
-// (./package) and the runs beside the Rust (oracle/beside) link these same functions. A mesh is lent as rows of nine numbers. Leans on
-// convex_join and mesh_faults.
+// The mesh and its parts, exported to C: one thin function over each call, with no `requires` and
+// the same contract. The package (./package) and the runs beside the Rust (oracle/beside) link
+// these same functions. A mesh is lent as rows of nine numbers. Leans on convex_join and
+// mesh_faults.
 ghost use mathlib.Core.Path.{_≡_};
 ghost use Rattle.integers.specs.Faults.{firstFault};
 ghost use Rattle.mesh.specs.Mesh.{meshKinds};

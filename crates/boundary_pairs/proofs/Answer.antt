@@ -1,4 +1,5 @@
--- A sum's (false) or a difference's (true) answer, over bounds that equal those lent, is the one that the boundary tells (`as-told`). Assumes nothing.
+-- A sum's (false) or a difference's (true) answer, over bounds that equal those lent, is the one
+-- that the boundary tells (`as-told`). Assumes nothing.
 use mathlib.Core.Path.{_≡_, _∙_, ap, ap₂}
 use mathlib.Core.Bool.{Bool}
 use mathlib.Core.List.{List}

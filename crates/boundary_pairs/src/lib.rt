@@ -1,6 +1,8 @@
-// All pairs, exported to C for the package (./package) and the runs beside the Rust (oracle/beside): one thin function over each call, with no
-// `requires`. Slices pass as a pointer and a length, bounds by value. The answer and both lent buffers as the call returns equal the definitions of
-// minkowski/specs/Pairs.antt; bounds and answer are laid out for C (specs/Told.antt). Leans on minkowski_parts.
+// All pairs, exported to C for the package (./package) and the runs beside the Rust
+// (oracle/beside): one thin function over each call, with no `requires`. Slices pass as a pointer
+// and a length, bounds by value. The answer and both lent buffers as the call returns equal the
+// definitions of minkowski/specs/Pairs.antt; bounds and answer are laid out for C
+// (specs/Told.antt). Leans on minkowski_parts.
 ghost use mathlib.Core.Path.{_≡_};
 ghost use mathlib.Core.Bool.{false, true};
 ghost use Rattle.minkowski.specs.Pairs.{pairsCounts, pairsStarts, pairsCorners};

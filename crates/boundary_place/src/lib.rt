@@ -1,5 +1,6 @@
-// Where a place lies by the contours of a pair result, exported to C for the package (./package) and the runs beside the judge (oracle/beside): one thin function, with no
-// `requires`, whose answer is the call's, laid out for C (specs/Told.antt). Leans on placement.
+// Where a place lies by the contours of a pair result, exported to C for the package (./package)
+// and the runs beside the judge (oracle/beside): one thin function, with no `requires`, whose
+// answer is the call's, laid out for C (specs/Told.antt). Leans on placement.
 ghost use mathlib.Core.Path.{_≡_};
 ghost use Rattle.placement.specs.Placement.{contactNumber, placedOf};
 ghost use Rattle.boundary_place.specs.Told.{toldPlaced};

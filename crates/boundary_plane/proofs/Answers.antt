@@ -1,5 +1,6 @@
--- What the functions of this crate share. In order: the test of several points, from the tests of each, and what it tells; a point made
--- of two numbers; the two answers, a value or the refusal. Assumes nothing.
+-- What the functions of this crate share. In order: the test of several points, from the tests of
+-- each, and what it tells; a point made of two numbers; the two answers, a value or the refusal.
+-- Assumes nothing.
 use mathlib.Core.Path.{_≡_, refl, sym, _∙_}
 use mathlib.Core.Bool.{Bool, true, false, cond}
 use mathlib.Core.List.{List, [], _∷_}

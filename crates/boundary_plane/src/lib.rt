@@ -1,6 +1,7 @@
-// plane, exported to C for the package (./package) and the runs beside the Rust (oracle/beside): one thin function over each function
-// that is compared, on plain numbers, with no `requires`. A coordinate not strictly between -2^30 and 2^30 is refused with 2, as document 01
-// numbers it, and the value 0. Leans on plane.
+// plane, exported to C for the package (./package) and the runs beside the Rust (oracle/beside):
+// one thin function over each function that is compared, on plain numbers, with no `requires`. A
+// coordinate not strictly between -2^30 and 2^30 is refused with 2, as document 01 numbers it, and
+// the value 0. Leans on plane.
 ghost use mathlib.Core.Path.{_≡_};
 ghost use mathlib.Core.List.{[], _∷_};
 ghost use Rattle.plane.specs.Machine.{point};
@@ -131,7 +132,8 @@ pub extern "C" fn bezinkwolu_area_two(ax: i32, ay: i32, bx: i32, by: i32, cx: i3
     )
 }
 
-// plane::angle_cmp of b - a and d - c: -1 where the first comes before the second, 0 where they are level, 1 where it comes after.
+// plane::angle_cmp of b - a and d - c: -1 where the first comes before the second, 0 where they are
+// level, 1 where it comes after.
 #[no_mangle]
 pub extern "C" fn bezinkwolu_angle_cmp(
     ax: i32,

@@ -1,4 +1,5 @@
--- What splitting by a number answers: a refusal where there is no such split, and what splitting answers by the split of the number where there is. Assumes nothing.
+-- What splitting by a number answers: a refusal where there is no such split, and what splitting
+-- answers by the split of the number where there is. Assumes nothing.
 use mathlib.Core.Path.{_≡_, refl, sym, subst}
 use mathlib.Core.List.{List}
 use Prim.Native.Nat.{ℕ, _≤_, _<_}

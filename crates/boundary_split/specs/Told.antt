@@ -1,5 +1,6 @@
--- What splitting answers and leaves where the split is a number: "split: 0 ear, 1 fan, 2 centroid", and a wrong split gives 13, before the mesh's own
--- order (document 01, "The file and its listing"). Assumes nothing.
+-- What splitting answers and leaves where the split is a number: "split: 0 ear, 1 fan, 2 centroid",
+-- and a wrong split gives 13, before the mesh's own order (document 01, "The file and its
+-- listing"). Assumes nothing.
 use mathlib.Core.Bool.{cond}
 use mathlib.Core.List.{List}
 use Prim.Native.Nat.{ℕ}

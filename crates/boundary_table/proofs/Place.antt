@@ -1,6 +1,7 @@
 -- The part shown, by its place: laws of `shownOffset` and `toldShown` of `specs/Told.antt`.
--- In order: the numbers from that place on are part k's (`there`); what a refusal tells and shows; what is told of a part that is there, and that it
--- stands there, by the operand asked for (`right-told`, `left-told`). Assumes nothing.
+-- In order: the numbers from that place on are part k's (`there`); what a refusal tells and shows;
+-- what is told of a part that is there, and that it stands there, by the operand asked for
+-- (`right-told`, `left-told`). Assumes nothing.
 use mathlib.Core.Path.{_≡_, sym, _∙_, ap, subst}
 use mathlib.Core.Bool.{Bool, cond, true, false}
 use mathlib.Core.List.{List, []}

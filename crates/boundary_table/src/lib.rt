@@ -1,8 +1,10 @@
-// The part table's calls, exported to C: one thin function over each, with no `requires`. The package (./package) and the runs
-// beside the judge (oracle/beside) link them. Slices pass as a pointer and a length. The answer and each lent buffer as the call returns equal the definitions
-// of table_read, table_write and table/specs/Shown.antt. Reading returns the table's `Counts` as they are; what writing and showing
-// answer is laid out for C (specs/Told.antt), and as an exported function returns no slice, the part shown is told by its place in the lent
-// corners. Leans on table_read, table_write and table_shown.
+// The part table's calls, exported to C: one thin function over each, with no `requires`. The
+// package (./package) and the runs beside the judge (oracle/beside) link them. Slices pass as a
+// pointer and a length. The answer and each lent buffer as the call returns equal the definitions
+// of table_read, table_write and table/specs/Shown.antt. Reading returns the table's `Counts` as
+// they are; what writing and showing answer is laid out for C (specs/Told.antt), and as an exported
+// function returns no slice, the part shown is told by its place in the lent corners. Leans on
+// table_read, table_write and table_shown.
 ghost use mathlib.Core.Path.{_≡_};
 ghost use mathlib.Core.Bool.{false, cond};
 ghost use Prim.Native.Nat.{_+_, _*_, _<_};
@@ -22,7 +24,8 @@ pub struct ToldLength {
     pub length: usize,
 }
 
-// A fault number, 0 for none, and the part shown: where its numbers begin in the lent corners, and how many they are.
+// A fault number, 0 for none, and the part shown: where its numbers begin in the lent corners, and
+// how many they are.
 #[repr(C)]
 pub struct ToldPart {
     pub fault: u32,
@@ -69,7 +72,8 @@ fn first_number(starts: &[u32], corners: &[i32], k: usize) -> usize
     corners::WIDTH * (starts[k] as usize)
 }
 
-// table_shown::show_part: the part shown by where it lies in the lent corners of the operand asked for, never a copy.
+// table_shown::show_part: the part shown by where it lies in the lent corners of the operand asked
+// for, never a copy.
 #[no_mangle]
 pub extern "C" fn bezinkwolu_show_part<'a>(
     left_starts: &[u32],

@@ -1,5 +1,5 @@
--- What the calls on walks tell at the boundary: each answer laid out for C, with its fault number, 0 for none, and 0 for a value that it
--- does not have. Assumes nothing.
+-- What the calls on walks tell at the boundary: each answer laid out for C, with its fault number,
+-- 0 for none, and 0 for a value that it does not have. Assumes nothing.
 use mathlib.Core.Bool.{false}
 use lib.IntN.{pos}
 use Rattle.pair.specs.declared.Place.{Place}

@@ -1,6 +1,7 @@
-// The calls on walks, exported to C for the package (./package) and the runs beside the Rust (oracle/beside): one thin function over each, with
-// no `requires`. A contour passes as a pointer and a length, places by value; the answer is the call's, laid out for C (specs/Told.antt).
-// Leans on walk_begin, walk_step, walk_pair and walk_next.
+// The calls on walks, exported to C for the package (./package) and the runs beside the Rust
+// (oracle/beside): one thin function over each, with no `requires`. A contour passes as a pointer
+// and a length, places by value; the answer is the call's, laid out for C (specs/Told.antt). Leans
+// on walk_begin, walk_step, walk_pair and walk_next.
 ghost use mathlib.Core.Path.{_≡_};
 ghost use mathlib.Core.Bool.{true, false};
 ghost use Rattle.walk.specs.Calls.{begunOf, pointedOf, edgedOf, advancedOf, steppedOf, pairedOf, pairSteppedOf};

@@ -1,8 +1,11 @@
-// What the programs that write bytes share: an argument read as a number, and what is told on standard error in place of an answer. It has no contracts, as nothing can be said of
-// arguments or of what is written: proved is that it is safe and ends. What a number is, is field_numbers'; a refusal's text is text's. Leans on os, io, field_numbers and text.
+// What the programs that write bytes share: an argument read as a number, and what is told on
+// standard error in place of an answer. It has no contracts, as nothing can be said of arguments or
+// of what is written: proved is that it is safe and ends. What a number is, is field_numbers'; a
+// refusal's text is text's. Leans on os, io, field_numbers and text.
 use field_numbers::Reading;
 
-// The bytes of an argument that is read, and of a refusal: more than those of the greatest number of 32 bits.
+// The bytes of an argument that is read, and of a refusal: more than those of the greatest number
+// of 32 bits.
 const ARGUMENT: usize = 16;
 
 const REFUSAL: usize = 32;

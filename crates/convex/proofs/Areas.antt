@@ -1,6 +1,7 @@
--- Doubled areas of regions, on an accepted mesh: a region's contour has the sum of those of the triangles taken (`region-area`), and so have all
--- regions together the mesh's (`regions-area`). Not here: the parts, whose corners of turn 0 are dropped (`Parts`).
--- Assumes an accepted mesh where it says so.
+-- Doubled areas of regions, on an accepted mesh: a region's contour has the sum of those of the
+-- triangles taken (`region-area`), and so have all regions together the mesh's (`regions-area`).
+-- Not here: the parts, whose corners of turn 0 are dropped (`Parts`). Assumes an accepted mesh
+-- where it says so.
 use mathlib.Core.Path.{_≡_, sym, _∙_, ap, ap₂}
 use mathlib.Core.List.{List, [], _∷_, _++_, map, map-map, map-append}
 use Prim.Native.Nat.{ℕ, _<_}

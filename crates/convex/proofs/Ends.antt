@@ -1,6 +1,6 @@
--- Joining ends: twice the triangles not yet taken, and the edges on the stack, are fewer with each edge taken from the top (`step-less`), so
--- `enough` edges are taken at the most and the stack is empty then (`region-ends`), and more would change nothing (`grow-done`).
--- Assumes nothing.
+-- Joining ends: twice the triangles not yet taken, and the edges on the stack, are fewer with each
+-- edge taken from the top (`step-less`), so `enough` edges are taken at the most and the stack is
+-- empty then (`region-ends`), and more would change nothing (`grow-done`). Assumes nothing.
 use mathlib.Core.Path.{_≡_, refl, sym, _∙_, ap, subst}
 use mathlib.Core.Bool.{Bool, true, false, cond}
 use mathlib.Core.List.{List, [], _∷_, _++_, append-assoc}

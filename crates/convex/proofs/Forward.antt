@@ -1,7 +1,9 @@
--- A turn that goes forward: to the left, or straight on with the direction kept (`Forward`), and descents in the direction order.
--- In order: nonzero vectors; one edge put for another (`forward-first`, `forward-last`: a turn of 0 is never back); a descent is a change from the
--- lower half to the upper (`descent-halves`); descents add (`descent-add`), and round a triangle there is one (`descent-triangle`).
--- Assumes nothing.
+-- A turn that goes forward: to the left, or straight on with the direction kept (`Forward`), and
+-- descents in the direction order.
+-- In order: nonzero vectors; one edge put for another (`forward-first`, `forward-last`: a turn of 0
+-- is never back); a descent is a change from the lower half to the upper (`descent-halves`);
+-- descents add (`descent-add`), and round a triangle there is one (`descent-triangle`). Assumes
+-- nothing.
 use mathlib.Core.Path.{_≡_, refl, sym, _∙_, ap, ap₂, subst}
 use mathlib.Core.Bool.{Bool, true, false, not, cond}
 use mathlib.Core.List.{[], _∷_}

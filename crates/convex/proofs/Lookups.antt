@@ -1,7 +1,8 @@
--- Corners looked up by their numbers. In order: a list of numbered points (`look`), in which a number that stands once is found from
--- any start (`look-rotate`); the three lookups of a contour from any start (`point-rotate`, `after-rotate`, `before-rotate`); a corner and the
--- ring after it, where a is the corner, b the first of the ring, b0 the second, a0 the last (`ring-…`); a corner put after another
--- (`put-after`); the place of a corner (`place-of`). Assumes nothing.
+-- Corners looked up by their numbers. In order: a list of numbered points (`look`), in which a
+-- number that stands once is found from any start (`look-rotate`); the three lookups of a contour
+-- from any start (`point-rotate`, `after-rotate`, `before-rotate`); a corner and the ring after it,
+-- where a is the corner, b the first of the ring, b0 the second, a0 the last (`ring-…`); a corner
+-- put after another (`put-after`); the place of a corner (`place-of`). Assumes nothing.
 use mathlib.Core.Path.{_≡_, refl, sym, _∙_, ap}
 use mathlib.Core.Bool.{false, cond}
 use mathlib.Core.List.{List, [], _∷_, _++_, map, map-map, map-append, append-nil}

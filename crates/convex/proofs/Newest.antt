@@ -1,7 +1,8 @@
--- The first corner of a region's contour, read from the last corner added, is never in line (`region-sharp`): it was put before the triangle's
--- doubled area, above 0, as its turn, and no corner was added after it. "Corners whose turn is 0 are dropped, order kept; the first is never one."
--- In order: the list from the last corner added, at each step of the zipper (`NewestAt`); a step keeps it; a region.
--- Assumes an accepted mesh where it says so.
+-- The first corner of a region's contour, read from the last corner added, is never in line
+-- (`region-sharp`): it was put before the triangle's doubled area, above 0, as its turn, and no
+-- corner was added after it. "Corners whose turn is 0 are dropped, order kept; the first is never
+-- one." In order: the list from the last corner added, at each step of the zipper (`NewestAt`); a
+-- step keeps it; a region. Assumes an accepted mesh where it says so.
 use mathlib.Core.Path.{_≡_, refl, sym, _∙_, ap, ap₂, subst}
 use mathlib.Core.Bool.{Bool, true, false, cond}
 use mathlib.Core.List.{List, [], _∷_, _++_, append-nil, append-assoc}

@@ -1,7 +1,8 @@
--- The parts of an accepted mesh: each is strictly convex and counter-clockwise, so no corner has turn 0 (`parts-convex`) and each
--- has three corners or more (`convex-three`); each starts with the last
--- corner added, whose turn is above 0 (`part-first`); each has the doubled area of its region's contour, the sum over the triangles taken
--- (`part-area`, `part-taken`), and so all have together the mesh's (`parts-area`).
+-- The parts of an accepted mesh: each is strictly convex and counter-clockwise, so no corner has
+-- turn 0 (`parts-convex`) and each has three corners or more (`convex-three`); each starts with the
+-- last corner added, whose turn is above 0 (`part-first`); each has the doubled area of its
+-- region's contour, the sum over the triangles taken (`part-area`, `part-taken`), and so all have
+-- together the mesh's (`parts-area`).
 -- Assumes an accepted mesh where it says so.
 use mathlib.Core.Path.{_≡_, sym, _∙_, ap, subst}
 use mathlib.Core.Bool.{true, cond}
@@ -29,7 +30,8 @@ use Rattle.convex.proofs.Round.{Round, round-rotate, region-round}
 use Rattle.convex.proofs.Newest.{Sharp, region-sharp}
 use Rattle.convex.proofs.Straight.{Strict, straight-first, straight-area, straight-round}
 
--- "Strictly convex, counter-clockwise": of the corners as they stand every turn is above 0, and the edge out is the lesser one at exactly one
+-- "Strictly convex, counter-clockwise": of the corners as they stand every turn is above 0, and the
+-- edge out is the lesser one at exactly one
 pub record StrictlyConvex (l : List Pt) : Type 0 where
   pub left : All (λ t. ltZ (pos 0) (cross (t .0) (t .1)) ≡ true) (neighbours (edges l))
   pub once : sumℕ (map (λ t. cond (isLess (angleCmp (t .1) (t .0))) 1 0) (neighbours (edges l))) ≡ 1
@@ -37,7 +39,8 @@ pub record StrictlyConvex (l : List Pt) : Type 0 where
 flat : (z : ℤ) → z ≡ pos 0 → ltZ (pos 0) z ≡ true → ⊥
 flat z e h = omega (zneeds, e, h)
 
--- fewer than three corners turn nowhere: of one edge, and of an edge and its way back, the cross is 0
+-- fewer than three corners turn nowhere: of one edge, and of an edge and its way back, the cross is
+-- 0
 pub convex-three : (l : List Pt) → StrictlyConvex l → 3 ≤ length l
 unfolding edges neighbours links sumℕ
 convex-three [] s = absurd (omega (arith, s .once))

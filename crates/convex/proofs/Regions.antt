@@ -1,6 +1,7 @@
--- Each triangle of an accepted mesh is taken into exactly one region, once (`regions-once`): the lists of taken triangles, joined, are 0 to n − 1 in
--- some order. In order: the theorem's statement for one region (`Apart`), kept by each step of the zipper; all regions; what holds of every region
--- that starts at a triangle not yet taken holds of all (`all-regions`).
+-- Each triangle of an accepted mesh is taken into exactly one region, once (`regions-once`): the
+-- lists of taken triangles, joined, are 0 to n − 1 in some order. In order: the theorem's statement
+-- for one region (`Apart`), kept by each step of the zipper; all regions; what holds of every
+-- region that starts at a triangle not yet taken holds of all (`all-regions`).
 -- Assumes an accepted mesh where it says so.
 use mathlib.Core.Path.{_≡_, refl, sym, _∙_, ap, subst}
 use mathlib.Core.Bool.{false}

@@ -1,7 +1,8 @@
--- Each region's contour goes once round, on an accepted mesh (`region-round`): every turn is forward, and exactly one is a descent in the direction
--- order. In order: turns of a closed list, from any start (`turns-rotate`); one edge of a closed list of edges split into two (`round-split`);
--- a triangle (`round-triangle`), a join (`round-join`), a region. Not here: corners of turn 0 dropped (`Straight`, `Parts`).
--- Assumes an accepted mesh where it says so.
+-- Each region's contour goes once round, on an accepted mesh (`region-round`): every turn is
+-- forward, and exactly one is a descent in the direction order. In order: turns of a closed list,
+-- from any start (`turns-rotate`); one edge of a closed list of edges split into two
+-- (`round-split`); a triangle (`round-triangle`), a join (`round-join`), a region. Not here:
+-- corners of turn 0 dropped (`Straight`, `Parts`). Assumes an accepted mesh where it says so.
 use mathlib.Core.Path.{_≡_, refl, sym, _∙_, ap, subst}
 use mathlib.Core.Bool.{Bool, true, false, cond}
 use mathlib.Core.List.{List, [], _∷_, _++_, map, map-append, append-assoc, Permᴰ·symm, Permᴰ·map}

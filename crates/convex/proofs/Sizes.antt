@@ -1,7 +1,10 @@
--- How many corners: a region of t triangles has t + 2 corners, at each step of the zipper too (`sized-step`, for the room that the work needs), and
--- its part no more (`part-size`, `parts-within`, `parts-short`); the regions are no more than the triangles (`regions-few`), and all parts' corners no more than three
--- times as many (`parts-size`), or two for each part and one for each triangle (`parts-corners`). Within the part table's limits: 1,024 + 2 = 1,026 corners a contour, 3 · 1,024 ≤ 8,192 corners, 1,024 ≤ 2,048 parts.
--- Assumes an accepted mesh where it says so.
+-- How many corners: a region of t triangles has t + 2 corners, at each step of the zipper too
+-- (`sized-step`, for the room that the work needs), and its part no more (`part-size`,
+-- `parts-within`, `parts-short`); the regions are no more than the triangles (`regions-few`), and
+-- all parts' corners no more than three times as many (`parts-size`), or two for each part and one
+-- for each triangle (`parts-corners`). Within the part table's limits: 1,024 + 2 = 1,026 corners a
+-- contour, 3 · 1,024 ≤ 8,192 corners, 1,024 ≤ 2,048 parts. Assumes an accepted mesh where it says
+-- so.
 use mathlib.Core.Path.{_≡_, sym, _∙_, ap, subst}
 use mathlib.Core.Bool.{false}
 use mathlib.Core.List.{List, [], _∷_, _++_, map, flatten, append-assoc}

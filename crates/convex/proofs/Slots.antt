@@ -1,7 +1,9 @@
--- The zipper on an accepted mesh: each pending corner stands with a side of the triangle inside (`Fit`), so the neighbour across shares the edge
--- (`far-from`, `far-to`); each step keeps that (`fit-step`) and leaves less to do (`stepZ-less`), so nothing is pending at the end (`zipped-ends`).
--- In order: lists of corners round the zipper; a step by cases (`stepZ-by`); what every step keeps holds at the end (`growZ-keeps`); sides; the end.
--- Assumes an accepted mesh where it says so.
+-- The zipper on an accepted mesh: each pending corner stands with a side of the triangle inside
+-- (`Fit`), so the neighbour across shares the edge (`far-from`, `far-to`); each step keeps that
+-- (`fit-step`) and leaves less to do (`stepZ-less`), so nothing is pending at the end
+-- (`zipped-ends`).
+-- In order: lists of corners round the zipper; a step by cases (`stepZ-by`); what every step keeps
+-- holds at the end (`growZ-keeps`); sides; the end. Assumes an accepted mesh where it says so.
 use mathlib.Core.Path.{_≡_, refl, sym, _∙_, ap, subst}
 use mathlib.Core.Bool.{true, false}
 use mathlib.Core.List.{List, [], _∷_, _++_, map, reverse, reverse-cons, append-assoc}
@@ -64,7 +66,8 @@ abbrev pub joinedZ : Mesh → Slot → List Slot → Zipper → Zipper
 joinedZ m x rest z = pushed x rest (far m x) (farSide m x) z
 
 module _ (m : Mesh) (seen : List ℕ) where
-  -- the top corner is done, or the neighbour across joins: it is one, not yet taken, and the test allows it
+  -- the top corner is done, or the neighbour across joins: it is one, not yet taken, and the test
+  -- allows it
   pub stepZ-by : (P : Zipper → Type 0) (x : Slot) (rest : List Slot) (z : Zipper) → P (moved x rest z)
       → ((x .across ≡ none → ⊥) → isIn (x .across) (seen ++ z .taken) ≡ false → joinsZ x (ring rest (z .done)) (far m x) (farSide m x) ≡ true → P (joinedZ m x rest z))
       → P (stepZ m seen x rest z)
@@ -105,7 +108,8 @@ startZ-left m seen k = omega (arith, untaken-le (length m) (seen ++ (k ∷ [])))
 
 -- ---- sides
 
--- the edge from the slot's corner to b is a side of the triangle inside, and its neighbour is the one across
+-- the edge from the slot's corner to b is a side of the triangle inside, and its neighbour is the
+-- one across
 pub record Sided (m : Mesh) (s : Slot) (b : Pt) : Type 0 where
   pub in-mesh : s .inside < length m
   pub side : ℕ

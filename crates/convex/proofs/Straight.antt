@@ -1,7 +1,9 @@
--- Corners of turn 0 dropped from a closed list that goes once round and whose first corner turns: the doubled area stays (`straight-area`), every
--- turn is above 0 and one is a descent (`straight-round`, to `Strict`), and the first corner stays (`straight-first`).
--- In order: the corners that stay (`turning-cons`); the doubled area along a way; edges of one direction gathered (`first`, `rest`), whose turns are the
--- others'; the edges of the corners that stay are the edges gathered (`way-gathered`); the closed list. Assumes nothing.
+-- Corners of turn 0 dropped from a closed list that goes once round and whose first corner turns:
+-- the doubled area stays (`straight-area`), every turn is above 0 and one is a descent
+-- (`straight-round`, to `Strict`), and the first corner stays (`straight-first`).
+-- In order: the corners that stay (`turning-cons`); the doubled area along a way; edges of one
+-- direction gathered (`first`, `rest`), whose turns are the others'; the edges of the corners that
+-- stay are the edges gathered (`way-gathered`); the closed list. Assumes nothing.
 use mathlib.Core.Path.{_≡_, refl, sym, _∙_, ap, ap₂, subst}
 use mathlib.Core.Bool.{Bool, true, false, cond}
 use mathlib.Core.List.{List, [], _∷_, _++_, map}
@@ -207,7 +209,8 @@ first-along u e (g ∷ E) h a o = by-test (eqZ (cross e g) (pos 0))
 abbrev pub Left : Pt × Pt → Type 0
 Left t = pos 0 <ℤ cross (t .0) (t .1)
 
--- the turns of what is gathered are those that are not 0, with the same descents; h is after E, and k, of the same direction, after what is gathered
+-- the turns of what is gathered are those that are not 0, with the same descents; h is after E, and
+-- k, of the same direction, after what is gathered
 record Gathered (u e : Pt) (E : List Pt) (h k : Pt) : Type 0 where
   left : All Left (links (first u e E) (rest u e E ++ (k ∷ [])))
   descents : sumℕ (map descentAt (links (first u e E) (rest u e E ++ (k ∷ [])))) ≡ sumℕ (map descentAt (links e (E ++ (h ∷ []))))

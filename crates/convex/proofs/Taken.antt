@@ -1,4 +1,5 @@
--- Triangles taken and not yet taken: membership (`isIn`), as a count (`isIn-false`, `isIn-true`), and how many numbers below n a list lacks (`untaken`). Assumes nothing.
+-- Triangles taken and not yet taken: membership (`isIn`), as a count (`isIn-false`, `isIn-true`),
+-- and how many numbers below n a list lacks (`untaken`). Assumes nothing.
 use mathlib.Core.Path.{_≡_, refl, sym, _∙_, ap}
 use mathlib.Core.Bool.{Bool, true, false, cond}
 use mathlib.Core.List.{List, [], _∷_, _++_, append-assoc}

@@ -1,6 +1,7 @@
--- What joining promises, as specs/Joining.antt states it: demand 2's "before any split each triangle is taken into exactly one part" (`each-taken-once`),
--- with the mesh's area (`area-kept`); that a part starts with the last vertex added and has no corner of turn 0 (`each-straightened`); that the parts are
--- a table within the limits (`parts-table`). Assumes nothing.
+-- What joining promises, as specs/Joining.antt states it: demand 2's "before any split each
+-- triangle is taken into exactly one part" (`each-taken-once`), with the mesh's area (`area-kept`);
+-- that a part starts with the last vertex added and has no corner of turn 0 (`each-straightened`);
+-- that the parts are a table within the limits (`parts-table`). Assumes nothing.
 use mathlib.Core.Path.{_≡_}
 use mathlib.Core.Bool.{true, false}
 use mathlib.Core.List.{List, [], _∷_}

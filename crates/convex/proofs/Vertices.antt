@@ -1,5 +1,7 @@
--- Every corner of a part is a vertex of the mesh: what holds of each vertex holds of each corner of each part (`parts-vertices`).
--- In order: a step of the zipper; corners of turn 0 dropped; a region; all. Assumes an accepted mesh.
+-- Every corner of a part is a vertex of the mesh: what holds of each vertex holds of each corner of
+-- each part (`parts-vertices`).
+-- In order: a step of the zipper; corners of turn 0 dropped; a region; all. Assumes an accepted
+-- mesh.
 use mathlib.Core.Path.{_≡_, sym, subst}
 use mathlib.Core.List.{List, [], _∷_, Permᴰ·symm}
 use Prim.Native.Nat.{ℕ, _-_, _<_}

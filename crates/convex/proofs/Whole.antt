@@ -1,7 +1,9 @@
--- What holds of every region's contour: a property of closed lists, the same from any start, that a triangle has and that a join keeps, holds of
--- the contour with the triangles taken (`contour-keeps`), and so of all regions (`all-regions`).
--- In order: the whole contour of a zipper before and after a step; the far triangle, its doubled area and its corners from another vertex (`far-area`, `far-corners`); the principle.
--- Assumes an accepted mesh where it says so.
+-- What holds of every region's contour: a property of closed lists, the same from any start, that a
+-- triangle has and that a join keeps, holds of the contour with the triangles taken
+-- (`contour-keeps`), and so of all regions (`all-regions`).
+-- In order: the whole contour of a zipper before and after a step; the far triangle, its doubled
+-- area and its corners from another vertex (`far-area`, `far-corners`); the principle. Assumes an
+-- accepted mesh where it says so.
 use mathlib.Core.Path.{_≡_, refl, sym, _∙_, ap, ap₂, subst, subst₂}
 use mathlib.Core.Bool.{true}
 use mathlib.Core.List.{List, [], _∷_, _++_, map, append-assoc, append-nil}

@@ -1,9 +1,11 @@
--- The zipper is the paper's region: on an accepted mesh both have the same contour, the same triangles taken, and the same list from the last
--- corner added, and nothing is pending (`zipped-agrees`); so the parts of a mesh are the zippers' (`parts-zipped`).
--- In order: the statement (`Agree`); what holds between a region and a zipper (`Match`): numbers for the corners, each below their count once, such that the contour is pending
--- backwards and done, and the stack the edges out of pending corners that have a neighbour; a step of the zipper over an edge without neighbour
--- leaves the region as it is (`match-idle`), any other is a step of both (`match-step`); the end; all regions.
--- Assumes an accepted mesh where it says so.
+-- The zipper is the paper's region: on an accepted mesh both have the same contour, the same
+-- triangles taken, and the same list from the last corner added, and nothing is pending
+-- (`zipped-agrees`); so the parts of a mesh are the zippers' (`parts-zipped`).
+-- In order: the statement (`Agree`); what holds between a region and a zipper (`Match`): numbers
+-- for the corners, each below their count once, such that the contour is pending backwards and
+-- done, and the stack the edges out of pending corners that have a neighbour; a step of the zipper
+-- over an edge without neighbour leaves the region as it is (`match-idle`), any other is a step of
+-- both (`match-step`); the end; all regions. Assumes an accepted mesh where it says so.
 use mathlib.Core.Path.{_≡_, refl, sym, _∙_, ap, ap₂, subst}
 use mathlib.Core.Bool.{Bool, true, false, cond}
 use mathlib.Core.List.{List, [], _∷_, _++_, map, map-map, map-append, reverse, reverseAux, reverseAux-eq, reverse-cons, append-assoc}
@@ -25,7 +27,8 @@ use Rattle.convex.specs.Zipper.{Slot, Zipper, startZ, ring, moved, pushe
 use Rattle.convex.proofs.Lookups.{numbers, points, headNumber, point-rotate, after-rotate, before-rotate, ring-point, ring-before, ring-first, ring-second, put-after, place-of}
 use Rattle.convex.proofs.Slots.{length-ring, far, farSide, growZ-done, growZ-step, Fit, fit-step, fit-start, leftZ, stepZ-less, startZ-left, zipped-ends}
 
--- a region and a zipper with nothing left to do: the same contour, the same triangles, the same list from the last corner added
+-- a region and a zipper with nothing left to do: the same contour, the same triangles, the same
+-- list from the last corner added
 pub record Agree (r : Region) (z : Zipper) : Type 0 where
   pub contour : map (λ c. c .point) (r .contour) ≡ z .done
   pub taken : r .taken ≡ z .taken
@@ -48,12 +51,14 @@ corners l = map cornerOf l
 abbrev slotsOf : List Numbered → List Slot
 slotsOf l = map (λ s. s .slot) l
 
--- the edges out of pending corners that have a neighbour, the top first; b is the corner after the top one
+-- the edges out of pending corners that have a neighbour, the top first; b is the corner after the
+-- top one
 abbrev edgesFrom : ℕ → List Numbered → List Edge
 edgesFrom b [] = []
 edgesFrom b (s ∷ l) = stacked (s .slot .inside) (s .slot .across) (s .number) b (edgesFrom (s .number) l)
 
--- the last corner of n added is the top one while fresh; then it stands in done, `last` from the end
+-- the last corner of n added is the top one while fresh; then it stands in done, `last` from the
+-- end
 abbrev LastAt : Bool → ℕ → ℕ → List Numbered → List Corner → Type 0
 LastAt true n last [] done = ⊥
 LastAt true n last (x ∷ rest) done = suc (x .number) ≡ n

@@ -1,4 +1,5 @@
--- Joining (document 01, "Joining"): a stack of edges and a contour, as the paper has it. Assumes nothing.
+-- Joining (document 01, "Joining"): a stack of edges and a contour, as the paper has it. Assumes
+-- nothing.
 use mathlib.Core.Path.{_≡_}
 use mathlib.Core.Bool.{Bool, true, false, cond}
 use mathlib.Core.List.{List, [], _∷_, _++_, map, flatten}
@@ -23,7 +24,8 @@ pub record Corner : Type 0 where
   pub number : ℕ
   pub point : Pt
 
--- an edge of the contour: the triangle inside it, the neighbour across, and its two ends by their numbers
+-- an edge of the contour: the triangle inside it, the neighbour across, and its two ends by their
+-- numbers
 pub record Edge : Type 0 where
   pub inside : ℕ
   pub across : ℕ
@@ -39,7 +41,8 @@ pub record Region : Type 0 where
 unfoldable pub stacked : ℕ → ℕ → ℕ → ℕ → List Edge → List Edge
 stacked inside across a b s = cond (eqb across none) s (record { inside = inside; across = across; a = a; b = b } ∷ s)
 
--- "Edges are stacked ab, bc, ca, then taken from the top." Neighbour i lies across from vertex i, so ca is across from vertex 1.
+-- "Edges are stacked ab, bc, ca, then taken from the top." Neighbour i lies across from vertex i,
+-- so ca is across from vertex 1.
 unfoldable pub start : ℕ → Triangle → Region
 start k t = record {
   contour = record { number = 0; point = vertex t 0 } ∷ record { number = 1; point = vertex t 1 } ∷ record { number = 2; point = vertex t 2 } ∷ [];
@@ -81,7 +84,8 @@ putAfter n c (d ∷ l) = cond (eqb (d .number) n) (d ∷ c ∷ l) (d ∷ putAfte
 unfoldable pub joins : Pt → Pt → Pt → Pt → Pt → Bool
 joins a0 a p b b0 = cond (leZ (pos 0) (cross (a -ᵖ a0) (p -ᵖ a))) (leZ (pos 0) (cross (b -ᵖ p) (b0 -ᵖ b))) false
 
--- "Then edge a-p is stacked before p-b, where there is a neighbour": v is the far vertex of the neighbour u
+-- "Then edge a-p is stacked before p-b, where there is a neighbour": v is the far vertex of the
+-- neighbour u
 unfoldable pub joined : Edge → Triangle → ℕ → List Edge → List Corner → List ℕ → Region
 joined e u v s l taken = record {
   contour = putAfter (e .a) (record { number = length l; point = vertex u v }) l;
@@ -101,7 +105,8 @@ isIn n (k ∷ l) = cond (eqb k n) true (isIn n l)
 abbrev pub dropped : List Edge → Region → Region
 dropped s r = record { contour = r .contour; stack = s; taken = r .taken }
 
--- "A neighbour already taken is skipped": seen are those taken by earlier regions. u is the neighbour across the edge, v its far vertex
+-- "A neighbour already taken is skipped": seen are those taken by earlier regions. u is the
+-- neighbour across the edge, v its far vertex
 unfoldable pub step : Mesh → List ℕ → Edge → List Edge → Region → Region
 step m seen e s r =
     let u = triangleAt m (e .across) in
@@ -139,7 +144,8 @@ unfoldable pub placeOf : ℕ → List Corner → ℕ
 placeOf n [] = 0
 placeOf n (c ∷ l) = cond (eqb (c .number) n) 0 (suc (placeOf n l))
 
--- "The contour runs from the last vertex added, counter-clockwise (a lone triangle: vertex 2, 0, 1)."
+-- "The contour runs from the last vertex added, counter-clockwise (a lone triangle: vertex 2, 0,
+-- 1)."
 abbrev pub fromLast : List Corner → List Pt
 fromLast l = map (λ c. c .point) (rotate (placeOf (length l - 1) l) l)
 
@@ -183,7 +189,8 @@ partsStarts m s c = written (partsFault m (length s) (length c)) (startsOf (part
 abbrev pub partsCorners : Mesh → List ℕ → List ℤ → List ℤ
 partsCorners m s c = written (partsFault m (length s) (length c)) (cornersOf (parts m)) c
 
--- ---- "before any split each triangle is taken into exactly one part" (demand 2), and the contour is built of just those
+-- ---- "before any split each triangle is taken into exactly one part" (demand 2), and the contour
+-- is built of just those
 
 pub record TakenOnce (m : Mesh) : Type 0 where
   pub once : ExactlyOnce (length m) (flatten (map (λ r. r .taken) (regions m)))
@@ -204,7 +211,8 @@ firstTurn [] = pos 0
 firstTurn (p ∷ []) = pos 0
 firstTurn (p ∷ c ∷ l) = turn (lastOf c l) p c
 
--- the last vertex added has a turn above 0, so it is where the part starts; and no corner of a part has turn 0
+-- the last vertex added has a turn above 0, so it is where the part starts; and no corner of a part
+-- has turn 0
 pub record Straightened (m : Mesh) : Type 0 where
   pub first : All (λ r. ltZ (pos 0) (firstTurn (fromLast (r .contour))) ≡ true) (regions m)
   pub stays : All (λ r. getD (contourOf r) 0 O ≡ getD (fromLast (r .contour)) 0 O) (regions m)

@@ -1,7 +1,9 @@
--- Joining without numbers for corners: the contour is a zipper. The stacked edges lie in contour order with the top last, and what comes after the
--- edge taken is final; so the region is its pending corners, each with its outgoing edge, the top first, and its done corners, the first first.
--- The code works so, and its inner contracts say so; what a reader must believe is Joining alone, for proofs/Zipped shows that this is the paper's
--- region, and `partsZ` the paper's parts. Assumes nothing.
+-- Joining without numbers for corners: the contour is a zipper. The stacked edges lie in contour
+-- order with the top last, and what comes after the edge taken is final; so the region is its
+-- pending corners, each with its outgoing edge, the top first, and its done corners, the first
+-- first. The code works so, and its inner contracts say so; what a reader must believe is Joining
+-- alone, for proofs/Zipped shows that this is the paper's region, and `partsZ` the paper's parts.
+-- Assumes nothing.
 use mathlib.Core.Bool.{Bool, true, false, cond}
 use mathlib.Core.List.{List, [], _∷_, _++_, map, reverse}
 use Prim.Native.Nat.{ℕ, zero, suc, _-_}
@@ -18,7 +20,8 @@ pub record Slot : Type 0 where
   pub inside : ℕ
   pub across : ℕ
 
--- `last` is how many corners were done when the last corner added was put among them, itself counted; `fresh` while it is still pending
+-- `last` is how many corners were done when the last corner added was put among them, itself
+-- counted; `fresh` while it is still pending
 pub record Zipper : Type 0 where
   pub pending : List Slot
   pub done : List Pt

@@ -1,7 +1,9 @@
--- A whole region's contour in its buffer: it is the zipper's from the last corner added (`contour-zipper`). The corners at some places (`between-next`).
--- A point appended or not (`kept-yes`, `kept-no`). A run along the contour (`ran-one`, `ran-more`), place after place (`ran-start`,
--- `ran-next`, `ran-places`). Corners of turn 0 are those that a run round the contour drops (`straight-along`), and the two runs, to the buffer's end and
--- from the first corner done, are one round (`ran-whole`). Assumes nothing.
+-- A whole region's contour in its buffer: it is the zipper's from the last corner added
+-- (`contour-zipper`). The corners at some places (`between-next`). A point appended or not
+-- (`kept-yes`, `kept-no`). A run along the contour (`ran-one`, `ran-more`), place after place
+-- (`ran-start`, `ran-next`, `ran-places`). Corners of turn 0 are those that a run round the contour
+-- drops (`straight-along`), and the two runs, to the buffer's end and from the first corner done,
+-- are one round (`ran-whole`). Assumes nothing.
 use mathlib.Core.Path.{_≡_, refl, sym, _∙_, ap, ap₂, subst}
 use mathlib.Core.Bool.{Bool, true, false, not, cond}
 use mathlib.Core.List.{List, [], _∷_, _++_, map, map-append, append-assoc, append-nil}
@@ -178,7 +180,8 @@ straight-along : (b : Pt) (l : List Pt) → withoutStraight (b ∷ l) ≡ keptAl
 unfolding withoutStraight
 straight-along b l = turning-along (lastOf b l) b b l
 
--- ---- a whole contour: its first corner, those after it to the end of the buffer, and those done before the first one, without it and with it
+-- ---- a whole contour: its first corner, those after it to the end of the buffer, and those done
+-- before the first one, without it and with it
 
 abbrev first : List (List ℤ) → Progress → Pt
 first cs p = cornerIn cs (p .last - 1)

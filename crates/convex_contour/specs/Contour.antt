@@ -14,22 +14,26 @@ use Rattle.convex_ring.specs.declared.Progress.{Progress}
 use Rattle.points.specs.Points.{cornerOf, Grid, Appended}
 use Rattle.convex_contour.specs.declared.Run.{Run}
 
--- ---- a region's contour in its buffer: from the last corner added, which stands right before `last`, to the end, then from the first one done
+-- ---- a region's contour in its buffer: from the last corner added, which stands right before
+-- `last`, to the end, then from the first one done
 
 unfoldable pub contourAt : List (List ℤ) → Progress → List Pt
 contourAt cs p = map cornerOf (drop (p .last - 1) cs ++ take (p .last - 1 - p .done) (drop (p .done) cs))
 
--- what reading it asks: the done corners run to the end of the buffer, and the last one added stands among them
+-- what reading it asks: the done corners run to the end of the buffer, and the last one added
+-- stands among them
 pub record Whole (cs : List (List ℤ)) (p : Progress) : Type 0 where
   pub placed : p .done < p .last
   pub ended : p .last ≤ length cs
   pub grid : Grid cs
 
--- the place before place i of the contour, round its part of a buffer of n places, which begins at d
+-- the place before place i of the contour, round its part of a buffer of n places, which begins at
+-- d
 unfoldable pub placeBefore : ℕ → ℕ → ℕ → ℕ
 placeBefore n d i = cond (ltb d i) (i - 1) (n - 1)
 
--- ---- a run along the contour: one corner after the other is judged by the way to it and the way on
+-- ---- a run along the contour: one corner after the other is judged by the way to it and the way
+-- on
 
 -- p where it stays
 abbrev pub keptIf : Bool → Pt → List Pt
@@ -39,7 +43,8 @@ keptIf t p = cond t (p ∷ []) []
 abbrev pub bends : Pt → Pt → Bool
 bends d e = not (eqZ (cross d e) (pos 0))
 
--- b, which is reached by the way d, and the corners after it but the last: those whose turn is not 0
+-- b, which is reached by the way d, and the corners after it but the last: those whose turn is not
+-- 0
 unfoldable pub keptAlong : Pt → Pt → List Pt → List Pt
 keptAlong d b [] = []
 keptAlong d b (c ∷ l) = keptIf (bends d (c -ᵖ b)) b ++ keptAlong (c -ᵖ b) c l

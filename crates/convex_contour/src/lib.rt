@@ -1,6 +1,7 @@
-// A whole region's contour, from the last corner added and without corners of turn 0, appended to the points of the parts before it
-// (`append_contour`). It is run along once, in two stretches of the buffer, and each way from corner to corner is computed once. Leans on
-// convex_ring, points and plane.
+// A whole region's contour, from the last corner added and without corners of turn 0, appended to
+// the points of the parts before it (`append_contour`). It is run along once, in two stretches of
+// the buffer, and each way from corner to corner is computed once. Leans on convex_ring, points and
+// plane.
 ghost use mathlib.Core.Path.{_≡_};
 ghost use Prim.Native.Nat.{_+_, _<_, _≤_};
 ghost use lib.ListN.{length};
@@ -12,14 +13,16 @@ use convex_ring::Progress;
 use plane::IntPoint;
 use plane::IntVector;
 
-// What a run along the contour carries on: the corner that is judged next, the way to it from the one before, and how many points there are.
+// What a run along the contour carries on: the corner that is judged next, the way to it from the
+// one before, and how many points there are.
 pub struct Run {
     pub corner: IntPoint,
     pub way: IntVector,
     pub count: usize,
 }
 
-// The place before a place of a whole region's contour, which stands from `done` to the end of a buffer of `size` places; round it.
+// The place before a place of a whole region's contour, which stands from `done` to the end of a
+// buffer of `size` places; round it.
 fn place_before(size: usize, done: usize, place: usize) -> usize
     requires { ⌜ 0 < size ⌝ }
     ensures { λ r. ⌜ r ≡ placeBefore size done place ⌝ }
@@ -38,8 +41,8 @@ fn bends(d: IntVector, e: IntVector) -> bool
     plane::cross_product(d, e) != 0
 }
 
-// The corner b, which is reached by the way d and left by the way e, is put after the first count points, unless it is straight on; answers the
-// new count.
+// The corner b, which is reached by the way d and left by the way e, is put after the first count
+// points, unless it is straight on; answers the new count.
 fn append_corner(
     points: &mut [[i32; 2]],
     count: usize,
@@ -57,7 +60,8 @@ fn append_corner(
     count
 }
 
-// The corners at the places from `from` to before `to` come after the run's corner: each is judged where the next one is read.
+// The corners at the places from `from` to before `to` come after the run's corner: each is judged
+// where the next one is read.
 fn append_run(corners: &[[i32; 2]], from: usize, to: usize, points: &mut [[i32; 2]], r: Run) -> Run
     requires { ⌜ Runnable (now corners) from to (now points) r ⌝ }
     ensures { λ t. ⌜ Ran (between (now (corners .entry)) from to) (now (points .entry)) r (now (points .exit)) t ⌝ }
@@ -78,7 +82,8 @@ fn append_run(corners: &[[i32; 2]], from: usize, to: usize, points: &mut [[i32; 
     t
 }
 
-// A whole region's contour without corners of turn 0 is put after the first `from` points; answers the new count.
+// A whole region's contour without corners of turn 0 is put after the first `from` points; answers
+// the new count.
 pub fn append_contour(
     corners: &[[i32; 2]],
     p: Progress,

@@ -1,5 +1,7 @@
--- The answer: points copied to the lent corners, one a turn (`points-turn`; a start's turn is `copy-turn` of integers/proofs/Overlay.antt); parts handed out or refused for want of room
--- (`starts-refused`, `corners-refused`, `handed`); the same after a mesh's own faults (`mesh-refused`, `mesh-answered`). Assumes nothing.
+-- The answer: points copied to the lent corners, one a turn (`points-turn`; a start's turn is
+-- `copy-turn` of integers/proofs/Overlay.antt); parts handed out or refused for want of room
+-- (`starts-refused`, `corners-refused`, `handed`); the same after a mesh's own faults
+-- (`mesh-refused`, `mesh-answered`). Assumes nothing.
 use mathlib.Core.Path.{_≡_, refl, sym, _∙_, ap, subst}
 use mathlib.Core.List.{List, [], _∷_, _++_, map, map-append, flatten}
 use Prim.Native.Nat.{ℕ, _+_, _*_, _-_, _/_, _≤_, _<_}

@@ -1,5 +1,6 @@
-// Parts gathered in work buffers are handed out to the lent ones once there is room (`hand_out`, which tells 22 and 21 before its first store).
-// What is gathered is said in points' specs/. Leans on points, table and corners.
+// Parts gathered in work buffers are handed out to the lent ones once there is room (`hand_out`,
+// which tells 22 and 21 before its first store). What is gathered is said in points' specs/. Leans
+// on points, table and corners.
 ghost use mathlib.Core.Path.{_≡_};
 ghost use Prim.Native.Nat.{_+_, _<_, _≤_, _*_, _^_};
 ghost use lib.ListN.{length, getD, set, take};
@@ -57,7 +58,8 @@ pub fn refusal(fault: u32) -> Counts
     }
 }
 
-// The parts gathered, on the front of the lent starts and corners (x, y in turn). Refused with 22 or 21, and nothing changed, where there are too few places.
+// The parts gathered, on the front of the lent starts and corners (x, y in turn). Refused with 22
+// or 21, and nothing changed, where there are too few places.
 pub fn hand_out(
     begins: &[u32],
     points: &[[i32; 2]],

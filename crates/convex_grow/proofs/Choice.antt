@@ -1,5 +1,6 @@
--- What the step finds across the edge on top, by the tests of the code: nothing (`nothing`), a triangle taken (`skipped`), one that stays apart
--- (`apart`) or one that joins (`joined`). Assumes nothing.
+-- What the step finds across the edge on top, by the tests of the code: nothing (`nothing`), a
+-- triangle taken (`skipped`), one that stays apart (`apart`) or one that joins (`joined`). Assumes
+-- nothing.
 use mathlib.Core.Path.{_≡_, sym, _∙_, ap}
 use mathlib.Core.Bool.{Bool, true, false, cond}
 use mathlib.Core.List.{List, []}
@@ -22,7 +23,8 @@ use Rattle.convex_ring.specs.declared.Progress.{Progress}
 use Rattle.convex_ring.specs.Buffers.{slotAt, around, Sound}
 use Rattle.points.proofs.Points.{on-grid-of}
 
--- the neighbour to join over the edge of slot x, or none; r are the corners after x round the contour
+-- the neighbour to join over the edge of slot x, or none; r are the corners after x round the
+-- contour
 unfoldable pub chosen : Mesh → List Bool → Slot → List Pt → ℕ
 chosen m flags x r =
     cond (eqb (x .across) none) none

@@ -1,5 +1,5 @@
--- A region on the buffers: its first triangle (`started`), and steps until nothing is pending (`Going` is the loop's invariant: `going-start`,
--- `going-turn`, `going-end`). Assumes nothing.
+-- A region on the buffers: its first triangle (`started`), and steps until nothing is pending
+-- (`Going` is the loop's invariant: `going-start`, `going-turn`, `going-end`). Assumes nothing.
 use mathlib.Core.Path.{_≡_, refl, sym, _∙_, ap, ap₂, subst}
 use mathlib.Core.Bool.{Bool, true, false}
 use mathlib.Core.List.{List, [], _∷_, map}

@@ -1,6 +1,7 @@
--- One step on the buffers is `stepZ` of the zipper that they hold: flags (`free-set`, `marked-set`); what stays sound after a store (`grid-set`,
--- `across-set`); which case of `stepZ` applies (`step-stays`, `step-goes`); the top corner done (`moved-step`); a triangle joined (`push-step`), and
--- the same of the code's numbers (`pushed-step`). Assumes nothing.
+-- One step on the buffers is `stepZ` of the zipper that they hold: flags (`free-set`,
+-- `marked-set`); what stays sound after a store (`grid-set`, `across-set`); which case of `stepZ`
+-- applies (`step-stays`, `step-goes`); the top corner done (`moved-step`); a triangle joined
+-- (`push-step`), and the same of the code's numbers (`pushed-step`). Assumes nothing.
 use mathlib.Core.Path.{_≡_, refl, sym, _∙_, ap, ap₂, subst}
 use mathlib.Core.Bool.{Bool, true, false, cond}
 use mathlib.Core.List.{List, [], _∷_, _++_, append-assoc}
@@ -102,7 +103,8 @@ found false true t3 a h = absurd (h refl)
 found false false false a h = absurd (h refl)
 found false false true a h = (refl, (refl, refl))
 
--- the place of the last corner added, of n done from d on: right before l, whether it is done now or was before
+-- the place of the last corner added, of n done from d on: right before l, whether it is done now
+-- or was before
 last-moved : (t : Bool) (size n zl d l : ℕ) → n + d ≡ size → (t ≡ true → l ≡ d) → (t ≡ false → zl + l ≡ size + 1) → cond t (suc n) zl + l ≡ size + 1
 last-moved true size n zl d l h f g = omega (arith, f refl)
 last-moved false size n zl d l h f g = g refl
@@ -284,7 +286,8 @@ module _ (size : ℕ) (m : Mesh) (cs : List (List ℤ)) (es : List (List ℕ)) (
     pub push-room : p .pending < size
     push-room = omega (arith, s .room, s .whole, free-less)
 
-  -- ---- the same of the code's numbers: far is the far vertex, f and s the neighbours over the new edges, of the triangle t that stands across
+  -- ---- the same of the code's numbers: far is the far vertex, f and s the neighbours over the new
+  -- edges, of the triangle t that stands across
 
   pub pushed-step : x .across ≡ chosen m flags x r → (x .across ≡ none → ⊥) → {t : Triangle} {far : Pt} {f g : ℕ} {cs2 : List (List ℤ)} {es2 : List (List ℕ)} {p2 : Progress} → t ≡ u → far ≡ vertex u v → f ≡ neighbour t (after (opposite t (x .inside))) → g ≡ neighbour t (before (opposite t (x .inside))) → cs2 ≡ set cs (p .pending) (pairOf far) → es2 ≡ set (set es (p .pending - 1) (x .across ∷ f ∷ [])) (p .pending) (x .across ∷ g ∷ []) → p2 ≡ pushedBy p → Stepped size m cs es flags p cs2 es2 (set flags (x .across) true) p2
   pushed-step q n tu fe ff ge ce ee pe =

@@ -1,5 +1,6 @@
--- What growing a region leaves in its buffers: after one step (`Stepped`), and after all (`Grown`), the buffers hold the zipper of convex/specs/Zipper.antt; so after
--- the first triangle (`Started`) and after the loop (`Ran`). Assumes nothing.
+-- What growing a region leaves in its buffers: after one step (`Stepped`), and after all (`Grown`),
+-- the buffers hold the zipper of convex/specs/Zipper.antt; so after the first triangle (`Started`)
+-- and after the loop (`Ran`). Assumes nothing.
 use mathlib.Core.Path.{_≡_}
 use mathlib.Core.Bool.{Bool}
 use mathlib.Core.List.{List}
@@ -35,7 +36,8 @@ pub record Started (size : ℕ) (m : Mesh) (k : ℕ) (flags : List Bool) (cs′ 
   pub kept : p′ .pending + free flags′ + size ≡ 2 + free flags + p′ .done
   pub holds : (seen : List ℕ) → Marked flags seen → Holds size cs′ es′ flags′ p′ seen (startZ k (triangleAt m k))
 
--- nothing is pending any more; as many steps of the zipper as there are pending corners and twice the free triangles, or more, give the same
+-- nothing is pending any more; as many steps of the zipper as there are pending corners and twice
+-- the free triangles, or more, give the same
 pub record Ran (size : ℕ) (m : Mesh) (cs : List (List ℤ)) (es : List (List ℕ)) (flags : List Bool) (p : Progress) (cs′ : List (List ℤ)) (es′ : List (List ℕ)) (flags′ : List Bool) (p′ : Progress) : Type 0 where
   pub sound : Sound size m cs′ es′ flags′ p′
   pub empty : p′ .pending ≡ 0

@@ -1,5 +1,6 @@
-// A region grown from its first triangle until nothing is pending (`grow`, the Rust's inner loop in advanced/convex.rs): its buffers then hold the
-// whole contour, done (specs/Growing.antt). Leans on convex_ring and mesh.
+// A region grown from its first triangle until nothing is pending (`grow`, the Rust's inner loop in
+// advanced/convex.rs): its buffers then hold the whole contour, done (specs/Growing.antt). Leans on
+// convex_ring and mesh.
 ghost use mathlib.Core.Path.{_≡_};
 ghost use mathlib.Core.Bool.{false};
 ghost use mathlib.Core.List.{_∷_, []};
@@ -156,7 +157,8 @@ fn run(
     p
 }
 
-// The region that starts with triangle k, which is not taken: its corners are done, from `done` to the end of the buffer.
+// The region that starts with triangle k, which is not taken: its corners are done, from `done` to
+// the end of the buffer.
 pub fn grow(
     mesh: &[Row],
     corners: &mut [[i32; 2]],

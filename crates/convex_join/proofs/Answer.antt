@@ -1,4 +1,5 @@
--- The parts of an accepted mesh, once gathered, are answered as document 01 says (`answered`). Assumes nothing.
+-- The parts of an accepted mesh, once gathered, are answered as document 01 says (`answered`).
+-- Assumes nothing.
 use mathlib.Core.Path.{_≡_}
 use mathlib.Core.List.{List}
 use Prim.Native.Nat.{ℕ}

@@ -1,6 +1,8 @@
-// Joining triangles into convex parts (advanced/convex.rs, first half): `to_convex_polygons`, with no `requires`. Its answer and both lent buffers
-// are those of `PartsAnswered` of convex/specs/Joining.antt. The parts are gathered in local buffers, of one of four sizes by the
-// mesh's, and handed out once there is room. Leans on mesh_faults, convex_regions and convex_gather.
+// Joining triangles into convex parts (advanced/convex.rs, first half): `to_convex_polygons`, with
+// no `requires`. Its answer and both lent buffers are those of `PartsAnswered` of
+// convex/specs/Joining.antt. The parts are gathered in local buffers, of one of four sizes by the
+// mesh's, and handed out once there is room. Leans on mesh_faults, convex_regions and
+// convex_gather.
 ghost use mathlib.Core.Path.{_≡_};
 ghost use Prim.Native.Nat.{_*_, _^_, _<_, _≤_};
 ghost use lib.ListN.{length};
@@ -15,7 +17,8 @@ use convex_regions::TINY;
 use mesh::Row;
 use table::Counts;
 
-// The parts of an accepted mesh, by way of lent buffers that hold those of any mesh of so many triangles.
+// The parts of an accepted mesh, by way of lent buffers that hold those of any mesh of so many
+// triangles.
 fn join_within(
     mesh: &[Row],
     begins: &mut [u32],
@@ -74,8 +77,9 @@ fn join_large(mesh: &[Row], starts: &mut [u32], corners: &mut [i32]) -> Counts
     join_within(mesh, &mut begins, &mut points, starts, corners)
 }
 
-// The convex parts of a mesh, joined from its triangles: starts and corners (x, y in turn) on the front of the lent buffers. A refusal (1, 2, 3, 4, 5,
-// 6, 11, 22 or 21) gives zero counts and changes nothing.
+// The convex parts of a mesh, joined from its triangles: starts and corners (x, y in turn) on the
+// front of the lent buffers. A refusal (1, 2, 3, 4, 5, 6, 11, 22 or 21) gives zero counts and
+// changes nothing.
 pub fn to_convex_polygons(mesh: &[Row], starts: &mut [u32], corners: &mut [i32]) -> Counts
     ensures { λ r. ⌜ PartsAnswered (rowsMesh (now (mesh .entry))) (now (starts .entry)) (now (corners .entry)) r (now (starts .exit)) (now (corners .exit)) ⌝ }
 {

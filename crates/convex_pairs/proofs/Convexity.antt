@@ -1,7 +1,9 @@
--- Strictly convex contours are those with three corners or more, any three of which turn left (`Polygon`). In order: seen from a least corner the others
--- ascend (`least-triples`), so strictly convex contours have triples (`convex-triples`) and three corners (`convex-polygon`); a polygon's doubled area
--- is above 0 (`polygon-area`), and seen from a corner no edge of it runs clockwise (`triples-wedges`); built corner by corner from its first triangle
--- it goes once round with every turn to the left (`polygon-convex`). Assumes nothing.
+-- Strictly convex contours are those with three corners or more, any three of which turn left
+-- (`Polygon`). In order: seen from a least corner the others ascend (`least-triples`), so strictly
+-- convex contours have triples (`convex-triples`) and three corners (`convex-polygon`); a polygon's
+-- doubled area is above 0 (`polygon-area`), and seen from a corner no edge of it runs clockwise
+-- (`triples-wedges`); built corner by corner from its first triangle it goes once round with every
+-- turn to the left (`polygon-convex`). Assumes nothing.
 use mathlib.Core.Path.{_≡_, refl, sym, _∙_, ap, subst}
 use mathlib.Core.Bool.{true}
 use mathlib.Core.List.{List, [], _∷_, _++_}

@@ -1,4 +1,5 @@
--- Contours any three of whose corners turn left; that these are the strictly convex ones; the parts of an accepted mesh.
+-- Contours any three of whose corners turn left; that these are the strictly convex ones; the parts
+-- of an accepted mesh.
 pub mod Triples
 pub mod Convexity
 pub mod Meets

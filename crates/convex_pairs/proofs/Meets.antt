@@ -1,5 +1,5 @@
--- The parts of an accepted mesh meet demand 3's premise (`parts-meet-premise`), so any two have what it says (`parts-reach`); they are polygons
--- (`parts-polygons`). Assumes nothing.
+-- The parts of an accepted mesh meet demand 3's premise (`parts-meet-premise`), so any two have
+-- what it says (`parts-reach`); they are polygons (`parts-polygons`). Assumes nothing.
 use mathlib.Core.Path.{_≡_}
 use mathlib.Core.List.{List}
 use mathlib.Core.Logic.{inl}

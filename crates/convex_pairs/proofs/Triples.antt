@@ -1,7 +1,8 @@
--- Lists of corners any three of which, in their order, turn left (`Triples`). In order: the first and the other elements of a list (`all-take`,
--- `all-drop`); sorted lists; fewer corners (`triples-take`, `triples-drop`, `triples-after`); the corners from another start (`triples-cycle`,
--- `triples-rotate`); from neighbours to all (`triples-fan`): where the corners ascend about a point and each three neighbours turn left, any three do.
--- Assumes nothing.
+-- Lists of corners any three of which, in their order, turn left (`Triples`). In order: the first
+-- and the other elements of a list (`all-take`, `all-drop`); sorted lists; fewer corners
+-- (`triples-take`, `triples-drop`, `triples-after`); the corners from another start
+-- (`triples-cycle`, `triples-rotate`); from neighbours to all (`triples-fan`): where the corners
+-- ascend about a point and each three neighbours turn left, any three do. Assumes nothing.
 use mathlib.Core.Path.{_≡_, sym, subst}
 use mathlib.Core.List.{List, [], _∷_, _++_, append-nil, append-assoc}
 use Prim.Native.Nat.{ℕ, zero, suc}

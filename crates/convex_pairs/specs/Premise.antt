@@ -1,4 +1,5 @@
--- The parts of an accepted mesh meet the premise of demand 3, and so any two of them have all that it says. Assumes nothing.
+-- The parts of an accepted mesh meet the premise of demand 3, and so any two of them have all that
+-- it says. Assumes nothing.
 use mathlib.Core.Path.{_≡_}
 use mathlib.Core.Bool.{Bool, true, false}
 use mathlib.Core.List.{List}

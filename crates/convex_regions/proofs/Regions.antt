@@ -1,5 +1,6 @@
 -- All regions: a region gathered (`contour-whole`, `contour-room`, `joined`);
--- a triangle visited (`visited-skip`, `visited-join`); all of them (`Visiting`: `visiting-start`, `visiting-turn`, `visiting-end`). Assumes nothing.
+-- a triangle visited (`visited-skip`, `visited-join`); all of them (`Visiting`: `visiting-start`,
+-- `visiting-turn`, `visiting-end`). Assumes nothing.
 use mathlib.Core.Path.{_≡_, refl, sym, _∙_, ap, ap₂, subst}
 use mathlib.Core.Bool.{Bool, true, false, cond}
 use mathlib.Core.List.{List, [], _∷_, _++_, map, flatten, append-assoc, append-nil}
@@ -108,7 +109,8 @@ module _ (size : ℕ) (m : Mesh) (k : ℕ) (flags : List Bool) (starts : List �
 
 -- ---- all triangles
 
--- the parts of the triangles before k are gathered; the buffers have the sizes that they were lent with
+-- the parts of the triangles before k are gathered; the buffers have the sizes that they were lent
+-- with
 pub record Visiting (size starts-size points-size : ℕ) (m : Mesh) (cs : List (List ℤ)) (es : List (List ℕ)) (flags : List Bool) (starts : List ℕ) (points : List (List ℤ)) (t : Tally) (k : ℕ) : Type 0 where
   pub ready : RegionBuffers size m cs es flags
   pub starts-same : length starts ≡ starts-size

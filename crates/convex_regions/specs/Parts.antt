@@ -41,8 +41,8 @@ inEdge r = getD r 1 0
 abbrev pub inFlag : Bool → ℕ
 inFlag b = cond b 1 0
 
--- work arrays that serve any mesh of n triangles, with nothing put in yet: two places more than triangles for a region's corners and edges, and a flag for each
--- triangle
+-- work arrays that serve any mesh of n triangles, with nothing put in yet: two places more than
+-- triangles for a region's corners and edges, and a flag for each triangle
 pub record Fresh (n : ℕ) (cs : List (List ℤ)) (es : List (List ℕ)) (flags : List Bool) : Type 0 where
   pub for-corners : n + 2 ≤ length cs
   pub for-edges : length es ≡ length cs
@@ -51,7 +51,8 @@ pub record Fresh (n : ℕ) (cs : List (List ℤ)) (es : List (List ℕ)) (flags 
   pub no-edges : total inEdge es ≡ 0
   pub no-flags : total inFlag flags ≡ 0
 
--- there is a place for each triangle's start and one more, and three for its corners; each triangle not taken has its own
+-- there is a place for each triangle's start and one more, and three for its corners; each triangle
+-- not taken has its own
 pub record Room (m : Mesh) (flags : List Bool) (starts : List ℕ) (points : List (List ℤ)) (t : Tally) : Type 0 where
   pub for-starts : length m < length starts
   pub for-points : 3 * length m ≤ length points

@@ -1,6 +1,8 @@
-// The parts of an accepted mesh, gathered region after region (advanced/convex.rs, the outer loop): `gather`, into buffers that its caller lends. The work arrays
-// of a region are as large as the mesh asks for, in four sizes, so that a small mesh does not wait for the filling of large ones. What is gathered is said in
-// specs/Parts.antt. Leans on convex_grow, convex_contour and convex_gather.
+// The parts of an accepted mesh, gathered region after region (advanced/convex.rs, the outer loop):
+// `gather`, into buffers that its caller lends. The work arrays of a region are as large as the
+// mesh asks for, in four sizes, so that a small mesh does not wait for the filling of large ones.
+// What is gathered is said in specs/Parts.antt. Leans on convex_grow, convex_contour and
+// convex_gather.
 ghost use mathlib.Core.Path.{_≡_};
 ghost use mathlib.Core.Bool.{false};
 ghost use mathlib.Core.List.{[]};
@@ -104,7 +106,8 @@ fn visit_all(
     t
 }
 
-// The parts of an accepted mesh, by way of lent work arrays that serve any mesh of so many triangles.
+// The parts of an accepted mesh, by way of lent work arrays that serve any mesh of so many
+// triangles.
 fn gather_within(
     mesh: &[Row],
     corners: &mut [[i32; 2]],
@@ -190,7 +193,8 @@ fn gather_large(mesh: &[Row], starts: &mut [u32], points: &mut [[i32; 2]]) -> Ta
     gather_within(mesh, &mut corners, &mut edges, &mut taken, starts, points)
 }
 
-// The parts of an accepted mesh, in buffers with a place for a start more than it has triangles, and three times as many for corners.
+// The parts of an accepted mesh, in buffers with a place for a start more than it has triangles,
+// and three times as many for corners.
 pub fn gather(mesh: &[Row], starts: &mut [u32], points: &mut [[i32; 2]]) -> Tally
     requires { ⌜ (length (now mesh) ≤ maxTriangles)
         × (firstFault (meshKinds (rowsMesh (now mesh))) ≡ 0)

@@ -1,7 +1,8 @@
--- The buffers read as a zipper: the pending slots, top first (`pending-cons`, `pending-more`), and after a store (`pending-set-corner`,
--- `pending-set-edge`); the done corners after a move and after a store (`done-move`, `done-set`); the corners after the top one round the contour
--- (`around-ring`) and three of them by their places (`around-near`, `around-far`, `around-below`, `around-back`); what they ask, of sound buffers (`around-of`).
--- Assumes nothing.
+-- The buffers read as a zipper: the pending slots, top first (`pending-cons`, `pending-more`), and
+-- after a store (`pending-set-corner`, `pending-set-edge`); the done corners after a move and after
+-- a store (`done-move`, `done-set`); the corners after the top one round the contour
+-- (`around-ring`) and three of them by their places (`around-near`, `around-far`, `around-below`,
+-- `around-back`); what they ask, of sound buffers (`around-of`). Assumes nothing.
 use mathlib.Core.Path.{_≡_, refl, sym, _∙_, ap, ap₂}
 use mathlib.Core.Bool.{Bool, true}
 use mathlib.Core.List.{List, [], _∷_, _++_, map, map-append, reverse, reverse-cons}

@@ -1,4 +1,5 @@
--- The work buffers of a region read as a zipper (`Holds`), and what the code that works on them asks (`Sound`). Assumes nothing.
+-- The work buffers of a region read as a zipper (`Holds`), and what the code that works on them
+-- asks (`Sound`). Assumes nothing.
 use mathlib.Core.Path.{_≡_}
 use mathlib.Core.Bool.{Bool, true, false, cond}
 use mathlib.Core.List.{List, [], _∷_, _++_, map}
@@ -13,7 +14,8 @@ use Rattle.convex.specs.Zipper.{Slot, Zipper}
 use Rattle.points.specs.Points.{cornerOf, cornerIn, Grid}
 use Rattle.convex_ring.specs.declared.Progress.{Progress}
 
--- ---- corners of two numbers (points/specs/Points.antt), edges of a triangle inside and a neighbour across
+-- ---- corners of two numbers (points/specs/Points.antt), edges of a triangle inside and a
+-- neighbour across
 
 abbrev pub insideAt : List (List ℕ) → ℕ → ℕ
 insideAt es i = getD (getD es i []) 0 0
@@ -59,8 +61,9 @@ pub record Holds (size : ℕ) (cs : List (List ℤ)) (es : List (List ℕ)) (fla
   pub last : z .fresh ≡ false → z .last + p .last ≡ size + 1
   pub taken : Marked flags (seen ++ z .taken)
 
--- what a region's work asks of the buffers: an accepted mesh and two places more than it has triangles, for a region has at most two corners more than
--- triangles; and every entry on the grid and in the mesh, used or not
+-- what a region's work asks of the buffers: an accepted mesh and two places more than it has
+-- triangles, for a region has at most two corners more than triangles; and every entry on the grid
+-- and in the mesh, used or not
 pub record RegionBuffers (size : ℕ) (m : Mesh) (cs : List (List ℤ)) (es : List (List ℕ)) (flags : List Bool) : Type 0 where
   pub accepted : firstFault (meshKinds m) ≡ 0
   pub enough : length m + 2 ≤ size
@@ -70,7 +73,8 @@ pub record RegionBuffers (size : ℕ) (m : Mesh) (cs : List (List ℤ)) (es : Li
   pub grid : Grid cs
   pub across : (i : ℕ) → i < size → 0 < length m → (acrossAt es i ≡ none → ⊥) → acrossAt es i < length m
 
--- and of the counts: each triangle not taken has a place between those pending and those done; the last corner added is done, or will be, right before `last`, and is done where nothing is pending
+-- and of the counts: each triangle not taken has a place between those pending and those done; the
+-- last corner added is done, or will be, right before `last`, and is done where nothing is pending
 pub record Sound (size : ℕ) (m : Mesh) (cs : List (List ℤ)) (es : List (List ℕ)) (flags : List Bool) (p : Progress) : Type 0 where
   pub ready : RegionBuffers size m cs es flags
   pub meshed : 0 < length m

@@ -1,6 +1,8 @@
-// A region's contour while it grows, in one buffer: pending corners from the front, each with its outgoing edge, done corners from the back
-// (specs/Buffers.antt; convex/specs/Zipper.antt says why this is the paper's contour). Here it is read: the corners round the edge on top, and
-// whether a point joins there (`joins_over`). The buffer is as long as its lender made it. Leans on points, plane and convex's definitions.
+// A region's contour while it grows, in one buffer: pending corners from the front, each with its
+// outgoing edge, done corners from the back (specs/Buffers.antt; convex/specs/Zipper.antt says why
+// this is the paper's contour). Here it is read: the corners round the edge on top, and whether a
+// point joins there (`joins_over`). The buffer is as long as its lender made it. Leans on points,
+// plane and convex's definitions.
 ghost use mathlib.Core.Path.{_≡_};
 ghost use Prim.Native.Nat.{_-_, _<_};
 ghost use lib.ListN.{length, getD, set};
@@ -11,14 +13,16 @@ ghost use Rattle.points.specs.Points.{cornerIn, pairOf, Grid};
 ghost use Rattle.convex_ring.specs.Buffers.{Around, around};
 use plane::IntPoint;
 
-// Where a region stands: how many corners are pending, where the done ones begin, and where they began when the last corner was put: that corner is done right before that place.
+// Where a region stands: how many corners are pending, where the done ones begin, and where they
+// began when the last corner was put: that corner is done right before that place.
 pub struct Progress {
     pub pending: usize,
     pub done: usize,
     pub last: usize,
 }
 
-// Whether p, put between a and b, leaves no turn to the right at a and at b; a0 is before a, b0 after b.
+// Whether p, put between a and b, leaves no turn to the right at a and at b; a0 is before a, b0
+// after b.
 fn joins_at(a0: IntPoint, a: IntPoint, p: IntPoint, b: IntPoint, b0: IntPoint) -> bool
     requires { ⌜ OnGrid a0 × OnGrid a × OnGrid p × OnGrid b × OnGrid b0 ⌝ }
     ensures { λ r. ⌜ r ≡ joins (point a0) (point a) (point p) (point b) (point b0) ⌝ }

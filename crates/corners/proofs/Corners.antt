@@ -1,5 +1,7 @@
--- Corners as numbers, "x, y in turn", and as points: laws of `pointsOf` and `numbersOf` of `specs/Corners.antt`.
--- In order: lengths (`is-ragged`, `not-ragged`); round trips; parts (`points-drop`, `points-take`, `points-slice`, `take-drop`); point k (`points-at`, `numbers-at`) and put (`points-put`,
+-- Corners as numbers, "x, y in turn", and as points: laws of `pointsOf` and `numbersOf` of
+-- `specs/Corners.antt`.
+-- In order: lengths (`is-ragged`, `not-ragged`); round trips; parts (`points-drop`, `points-take`,
+-- `points-slice`, `take-drop`); point k (`points-at`, `numbers-at`) and put (`points-put`,
 -- `length-put`); numbers of parts (`numbers-slice`) and of joined lists.
 -- Assumes nothing.
 use mathlib.Core.Path.{_≡_, refl, _∙_, ap}

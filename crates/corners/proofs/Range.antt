@@ -1,5 +1,7 @@
--- Numbers in range: laws of `offRange` of `specs/Corners.antt`. In order: each number of a list in range (`in-range-all`, `fit-all`); some of them (`off-take`,
--- `off-drop`, `off-slice`); a corner of theirs is on the grid (`range-on-grid`), and corners on the grid have such numbers (`numbers-range`). Assumes nothing.
+-- Numbers in range: laws of `offRange` of `specs/Corners.antt`. In order: each number of a list in
+-- range (`in-range-all`, `fit-all`); some of them (`off-take`, `off-drop`, `off-slice`); a corner
+-- of theirs is on the grid (`range-on-grid`), and corners on the grid have such numbers
+-- (`numbers-range`). Assumes nothing.
 use mathlib.Core.Path.{_≡_, refl, sym}
 use mathlib.Core.Bool.{Bool, true, false, cond}
 use mathlib.Core.List.{List, [], _∷_, _++_}

@@ -1,5 +1,5 @@
--- A list of corners (document 01, "Tables the desks exchange": "x, y in turn") as numbers and as points; one put, a piece of it, where a corner
--- lies; a number out of range. Assumes nothing.
+-- A list of corners (document 01, "Tables the desks exchange": "x, y in turn") as numbers and as
+-- points; one put, a piece of it, where a corner lies; a number out of range. Assumes nothing.
 use mathlib.Core.Bool.{Bool, true, false, not, cond}
 use mathlib.Core.List.{List, [], _∷_}
 use Prim.Native.Nat.{ℕ, _+_, _*_, _%_}
@@ -31,7 +31,8 @@ withCorner l k p = set (set l (2 * k) (p .x)) (2 * k + 1) (p .y)
 abbrev pub cornersBetween : ℕ → ℕ → List ℤ → List ℤ
 cornersBetween a b l = slice (2 * a) (2 * b) l
 
--- where corner k lies, of corners that lie at a place: a block of memory and the bytes before it in that block; a corner is two numbers of four bytes
+-- where corner k lies, of corners that lie at a place: a block of memory and the bytes before it in
+-- that block; a corner is two numbers of four bytes
 abbrev pub cornerPlace : ℕ × ℕ → ℕ → ℕ × ℕ
 cornerPlace place k = (place .0, place .1 + 8 * k)
 

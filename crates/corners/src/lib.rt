@@ -1,6 +1,8 @@
-// A lent list of corners, x and y in turn: how many it has, one read, one put, a piece of it, and whether a number is out of range. No other
-// crate knows its form: all code reads and stores such a list through these functions, and a length or a place in it is a number of corners
-// times `WIDTH`. The definitions are in specs/Corners.antt, their laws in proofs/ (proofs/Lib.antt is the index). Leans on plane and integers.
+// A lent list of corners, x and y in turn: how many it has, one read, one put, a piece of it, and
+// whether a number is out of range. No other crate knows its form: all code reads and stores such a
+// list through these functions, and a length or a place in it is a number of corners times `WIDTH`.
+// The definitions are in specs/Corners.antt, their laws in proofs/ (proofs/Lib.antt is the index).
+// Leans on plane and integers.
 ghost use mathlib.Core.Path.{_≡_};
 ghost use mathlib.Core.Bool.{true, cond};
 ghost use Prim.Native.Nat.{_<_, _≤_};
@@ -71,7 +73,8 @@ fn or_off(before: bool, z: i32) -> bool
     true
 }
 
-// Whether some number is not strictly between -2^30 and 2^30 (fault 2). All are looked at, for a loop without a way out is done many numbers at a time.
+// Whether some number is not strictly between -2^30 and 2^30 (fault 2). All are looked at, for a
+// loop without a way out is done many numbers at a time.
 pub fn off_range(numbers: &[i32]) -> bool
     ensures { λ r. ⌜ r ≡ offRange (now (numbers .entry)) ⌝ }
 {

@@ -1,4 +1,5 @@
--- How far a point is left of an edge, as a linear form: terms for the solver, its coefficients (`side-form`, `area-form`), scaled and added (`side-scale`, `side-add`); the direction whose
+-- How far a point is left of an edge, as a linear form: terms for the solver, its coefficients
+-- (`side-form`, `area-form`), scaled and added (`side-scale`, `side-add`); the direction whose
 -- reach is an edge's (`normal`). Assumes nothing.
 use mathlib.Core.Path.{_≡_}
 use mathlib.Core.List.{[], _∷_}

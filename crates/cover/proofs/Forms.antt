@@ -1,5 +1,7 @@
--- Linear forms d × z + a q, for the sides of edges. Those above 0 at a point stay so near it: in one direction (`near-by`) and in a square about it (`steady`), which is itself the points where four
--- forms are above 0 (`box-own`, `box-near`); near it there is a point at which no form of a second list is 0 (`general`); forms seen from a moved piece (`moved-val`). Assumes nothing.
+-- Linear forms d × z + a q, for the sides of edges. Those above 0 at a point stay so near it: in
+-- one direction (`near-by`) and in a square about it (`steady`), which is itself the points where
+-- four forms are above 0 (`box-own`, `box-near`); near it there is a point at which no form of a
+-- second list is 0 (`general`); forms seen from a moved piece (`moved-val`). Assumes nothing.
 use mathlib.Core.Path.{_≡_, sym, _∙_, ap}
 use mathlib.Core.List.{List, [], _∷_}
 use mathlib.Core.Logic.{_⊎_, inl, inr, ⊎-elim}
@@ -177,7 +179,8 @@ pub record Steady (Fs : List Form) (q : ℤ) (z : Pt) : Type 0 where
   pub above : pos 0 <ℤ n
   pub all : (m : ℤ) → n ≤ℤ m → (p : ℤ) (w : Pt) → pos 0 <ℤ p → Near m q z p w → All (λ f. pos 0 <ℤ val f p w) Fs
 
--- m q val f p w = p + (i p q + d.x Y) + (j p q - d.y X) + m p (val f q z - 1) + (m - n) p, where X and Y are what `Near` bounds and n = (i + j) q + 1
+-- m q val f p w = p + (i p q + d.x Y) + (j p q - d.y X) + m p (val f q z - 1) + (m - n) p, where X
+-- and Y are what `Near` bounds and n = (i + j) q + 1
 module _ (f : Form) (q : ℤ) (z : Pt) (hq : pos 0 <ℤ q) (hf : pos 0 <ℤ val f q z) where
   abbrev bound-x : Bound (f .d .x)
   bound-x = bound (f .d .x)

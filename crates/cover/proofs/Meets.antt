@@ -1,5 +1,6 @@
--- Where pieces meet and overlap, of a pair (`pair-meets`), from what a pair covers: a place moved a little is still covered (`overlap-strict`), and strictly inside there is room to move back
--- from a common point (`strict-overlap`). Assumes nothing.
+-- Where pieces meet and overlap, of a pair (`pair-meets`), from what a pair covers: a place moved a
+-- little is still covered (`overlap-strict`), and strictly inside there is room to move back from a
+-- common point (`strict-overlap`). Assumes nothing.
 use mathlib.Core.Path.{_≡_, sym, _∙_, ap, subst, subst₂}
 use mathlib.Core.Bool.{true}
 use mathlib.Core.List.{List, [], _∷_}

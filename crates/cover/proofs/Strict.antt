@@ -1,5 +1,7 @@
--- Points strictly inside a contour. In order: edges of some length as forms (`strict-forms`, `forms-strict`); strictly inside, scaled and added; a point strictly inside each contour that goes
--- once round, repeated and straight corners allowed: all corners added (`mid`). Assumes nothing.
+-- Points strictly inside a contour. In order: edges of some length as forms (`strict-forms`,
+-- `forms-strict`); strictly inside, scaled and added; a point strictly inside each contour that
+-- goes once round, repeated and straight corners allowed: all corners added (`mid`). Assumes
+-- nothing.
 use mathlib.Core.Path.{_≡_, sym, _∙_, ap, subst}
 use mathlib.Core.Bool.{cond}
 use mathlib.Core.List.{List, [], _∷_}

@@ -1,5 +1,7 @@
--- Two pieces of many contours overlap as wholes exactly where two of their contours do (`wholes-overlap`). In order: a point strictly inside one contour is inner (`inner-of-some`); near an inner
--- point of both pieces there is one on no edge of either, so it is strictly inside a contour of each; pieces that cover the same overlap alike (`same-overlap`). Assumes nothing.
+-- Two pieces of many contours overlap as wholes exactly where two of their contours do
+-- (`wholes-overlap`). In order: a point strictly inside one contour is inner (`inner-of-some`);
+-- near an inner point of both pieces there is one on no edge of either, so it is strictly inside a
+-- contour of each; pieces that cover the same overlap alike (`same-overlap`). Assumes nothing.
 use mathlib.Core.Path.{_≡_, subst}
 use mathlib.Core.List.{List, [], _∷_, _++_, map, flatten}
 use mathlib.Core.Logic.{_⊎_}

@@ -1,4 +1,5 @@
--- Pieces of many contours: what a list covers, the inner points of that, and where two such pieces overlap as wholes (`WholesOverlap`). Assumes nothing.
+-- Pieces of many contours: what a list covers, the inner points of that, and where two such pieces
+-- overlap as wholes (`WholesOverlap`). Assumes nothing.
 use mathlib.Core.List.{List}
 use mathlib.Core.Logic.{_↔_}
 use lib.IntN.{ℤ, pos, negℤ, _-ℤ_, _*ℤ_}
@@ -31,7 +32,8 @@ pub record Near (n q : ℤ) (z : Pt) (p : ℤ) (w : Pt) : Type 0 where
   pub across : AtMost (p *ℤ q) (n *ℤ (q *ℤ w .x -ℤ p *ℤ z .x))
   pub upward : AtMost (p *ℤ q) (n *ℤ (q *ℤ w .y -ℤ p *ℤ z .y))
 
--- z/q is an inner point of what L covers: for some n every rational point within 1/n of it is covered, by whichever contours
+-- z/q is an inner point of what L covers: for some n every rational point within 1/n of it is
+-- covered, by whichever contours
 pub record Inner (L : List (List Pt)) (q : ℤ) (z : Pt) : Type 0 where
   pub n : ℤ
   pub above : pos 0 <ℤ n
@@ -47,6 +49,7 @@ pub record Overlapping (X Y : List (List Pt)) (q : ℤ) (z : Pt) : Type 0 where
   pub first : Inner X (k *ℤ q) u
   pub second : Inner Y (k *ℤ q) (u -ᵖ k ·ᵖ z)
 
--- two pieces overlap as wholes exactly where some contour of one overlaps some contour of the other, so how a piece is cut into contours does not matter
+-- two pieces overlap as wholes exactly where some contour of one overlaps some contour of the
+-- other, so how a piece is cut into contours does not matter
 abbrev pub WholesOverlap : Type 0
 WholesOverlap = (X Y : List (List Pt)) (q : ℤ) (z : Pt) → pos 0 <ℤ q → Overlapping X Y q z ↔ SomePair (λ A B. Overlap A B q z) X Y

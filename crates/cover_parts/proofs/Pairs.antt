@@ -1,5 +1,6 @@
--- What the contours of all pairs of two meshes' split parts cover: the sums of points of a triangle of one and a triangle of the other (`pairs-cover`). In order: sums of points that two lists cover;
--- polygons as a pair reads them; pairs of elements. Assumes nothing.
+-- What the contours of all pairs of two meshes' split parts cover: the sums of points of a triangle
+-- of one and a triangle of the other (`pairs-cover`). In order: sums of points that two lists
+-- cover; polygons as a pair reads them; pairs of elements. Assumes nothing.
 use mathlib.Core.Path.{_≡_, ap, subst₂}
 use mathlib.Core.Bool.{Bool, true, cond}
 use mathlib.Core.List.{List, map, reverse}

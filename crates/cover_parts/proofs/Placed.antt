@@ -1,4 +1,5 @@
--- Where meshes meet and overlap (`meshes-placed`): by pairs of polygons, and then whatever the polygons are that cover the meshes. Assumes nothing.
+-- Where meshes meet and overlap (`meshes-placed`): by pairs of polygons, and then whatever the
+-- polygons are that cover the meshes. Assumes nothing.
 use mathlib.Core.Path.{_≡_, subst₂}
 use mathlib.Core.Bool.{true}
 use mathlib.Core.List.{List, map}

@@ -1,4 +1,5 @@
--- A split keeps what a contour covers, whatever the limit and the strategy (`split-covers`), and so what a mesh does (`split-parts-cover`). Assumes nothing.
+-- A split keeps what a contour covers, whatever the limit and the strategy (`split-covers`), and so
+-- what a mesh does (`split-parts-cover`). Assumes nothing.
 use mathlib.Core.List.{List, [], _∷_, map}
 use mathlib.Core.Logic.{_↔_, Iff·symm, Iff·trans}
 use Prim.Native.Nat.{ℕ, _≤_}

@@ -1,4 +1,5 @@
--- Each triangle is taken into exactly one part of the table that an accepted call leaves, which covers what it took (`each-taken-whole`). Assumes nothing.
+-- Each triangle is taken into exactly one part of the table that an accepted call leaves, which
+-- covers what it took (`each-taken-whole`). Assumes nothing.
 use mathlib.Core.Path.{_≡_, sym, _∙_, ap, subst}
 use mathlib.Core.List.{List, [], _∷_}
 use Prim.Native.Nat.{ℕ, _<_}

@@ -1,4 +1,5 @@
--- Where a mesh, moved by z/q, meets or overlaps another, read off the contours of all pairs of their parts (`Placed`). Assumes nothing.
+-- Where a mesh, moved by z/q, meets or overlaps another, read off the contours of all pairs of
+-- their parts (`Placed`). Assumes nothing.
 use mathlib.Core.Path.{_≡_}
 use mathlib.Core.Bool.{true}
 use mathlib.Core.List.{List, map}
@@ -26,7 +27,8 @@ pub record Placed (L : List (List Pt)) (mesh mesh′ : Mesh) (q : ℤ) (z : Pt) 
   pub meets : Covered L q z ↔ SomePair (λ s t. Meet (triangleContour s) (triangleContour t) q z) mesh mesh′
   -- strictly inside one exactly where some triangles share a point strictly inside both
   pub overlaps : Any (λ l. StrictlyInside l q z) L ↔ SomePair (λ s t. Overlap (triangleContour s) (triangleContour t) q z) mesh mesh′
-  -- and that is exactly where the meshes as wholes do: they have an inner point in common, be it on edges of their triangles
+  -- and that is exactly where the meshes as wholes do: they have an inner point in common, be it on
+  -- edges of their triangles
   pub wholes : Any (λ l. StrictlyInside l q z) L ↔ Overlapping (map triangleContour mesh) (map triangleContour mesh′) q z
 
 -- the differences of two accepted meshes, for any limits and strategies

@@ -1,4 +1,5 @@
--- "before any split each triangle is taken into exactly one part" (demand 2), said of points and of the part table that an accepted call leaves (`TakenWhole`). Assumes nothing.
+-- "before any split each triangle is taken into exactly one part" (demand 2), said of points and of
+-- the part table that an accepted call leaves (`TakenWhole`). Assumes nothing.
 use mathlib.Core.Path.{_≡_}
 use mathlib.Core.List.{List, [], _∷_, map, flatten}
 use Prim.Native.Nat.{ℕ, _<_}
@@ -16,7 +17,8 @@ use Rattle.cover_parts.specs.Parts.{takenContours}
 abbrev pub regionAt : Mesh → ℕ → Region
 regionAt m k = getD (regions m) k (record { contour = []; stack = []; taken = [] })
 
--- the part from start k to start k + 1 of lent starts and corners that held s and c, as the call leaves them
+-- the part from start k to start k + 1 of lent starts and corners that held s and c, as the call
+-- leaves them
 abbrev pub partLeft : Mesh → List ℕ → List ℤ → ℕ → List Pt
 partLeft m s c k = getD (firstContours (length (regions m)) (partsStarts m s c) (partsCorners m s c)) k []
 

@@ -1,5 +1,6 @@
--- A key without a branch: the sign of both extents in one number (`sign-lower`), a key by the lesser extent and the greater (`key-picked`), and the quarter of a vector by
--- two tests (`turned-by`). Assumes nothing.
+-- A key without a branch: the sign of both extents in one number (`sign-lower`), a key by the
+-- lesser extent and the greater (`key-picked`), and the quarter of a vector by two tests
+-- (`turned-by`). Assumes nothing.
 use mathlib.Core.Path.{_≡_, refl, sym, _∙_, ap}
 use mathlib.Core.Bool.{Bool, true, false, cond}
 use Prim.Native.Nat.{ℕ, _+_, _*_, _-_, _≤_, _<_}
@@ -77,7 +78,8 @@ module _ (q c d : ℕ) where
       by true m n = (omega (arith, m refl), omega (arith, m refl), l)
       by false m n = (h, n refl, k)
 
--- ---- the quarter of a vector by two tests: whether it lies in the lower half, and whether it points to the side that comes first there
+-- ---- the quarter of a vector by two tests: whether it lies in the lower half, and whether it
+-- points to the side that comes first there
 
 pub turned-by :
     (v : Pt) {w h : ℕ} (low first : Bool) → w ≡ natAbs (v .x) → h ≡ natAbs (v .y) → low ≡ lower v → first ≡ cond low (ltZ (v .x) (pos 0)) (ltZ (pos 0) (v .x)) →

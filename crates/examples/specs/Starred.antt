@@ -1,4 +1,5 @@
--- Document 01's examples marked *, each with the definition applied, its input and its answer as the paper has them. Assumes nothing.
+-- Document 01's examples marked *, each with the definition applied, its input and its answer as
+-- the paper has them. Assumes nothing.
 use mathlib.Core.Path.{_≡_}
 use mathlib.Core.Bool.{true, false}
 use mathlib.Core.List.{List, [], _∷_}
@@ -38,7 +39,8 @@ p x y = record { x = pos x; y = pos y }
 abbrev pub triangle : Pt → Pt → Pt → ℕ → ℕ → ℕ → Triangle
 triangle a b c i j k = record { v0 = a; v1 = b; v2 = c; n0 = i; n1 = j; n2 = k }
 
--- "Dart: (0,0) (4,0) (0,4) with (4,0) (10,−2) (0,4): neighbours [1, none, none] and [none, 0, none]"
+-- "Dart: (0,0) (4,0) (0,4) with (4,0) (10,−2) (0,4): neighbours [1, none, none] and [none, 0,
+-- none]"
 abbrev pub dart : Mesh
 dart = triangle (p 0 0) (p 4 0) (p 0 4) 1 none none ∷ triangle (p 4 0) (record { x = pos 10; y = negsuc 1 }) (p 0 4) none 0 none ∷ []
 

@@ -1,5 +1,5 @@
--- What a field is read as (`told`, `numberRead` and `coordinateRead` of `specs/Numbers.antt`), by the tests that the code makes. In order: a reading;
--- numbers; coordinates. Assumes nothing.
+-- What a field is read as (`told`, `numberRead` and `coordinateRead` of `specs/Numbers.antt`), by
+-- the tests that the code makes. In order: a reading; numbers; coordinates. Assumes nothing.
 use mathlib.Core.Path.{_≡_, refl, sym, _∙_, ap}
 use mathlib.Core.Bool.{Bool, true, false, cond}
 use mathlib.Core.List.{List, [], _∷_}

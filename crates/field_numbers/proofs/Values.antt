@@ -1,4 +1,5 @@
--- The value of digits (`valueFrom` of `specs/Numbers.antt`): a digit more, and how large it is. Assumes nothing.
+-- The value of digits (`valueFrom` of `specs/Numbers.antt`): a digit more, and how large it is.
+-- Assumes nothing.
 use mathlib.Core.Path.{_≡_, refl, sym, _∙_, ap}
 use mathlib.Core.Bool.{Bool, true, false, cond}
 use mathlib.Core.List.{List, [], _∷_}

@@ -1,5 +1,6 @@
-// A field read as a number in decimal, or as a coordinate: whether it is one, and its 32 bits. Each equals its definition in specs/Numbers.antt, of any
-// bytes; what is none has `right` false and `bits` 0. An inner layer of mesh_lines. Leans on fields and integers.
+// A field read as a number in decimal, or as a coordinate: whether it is one, and its 32 bits. Each
+// equals its definition in specs/Numbers.antt, of any bytes; what is none has `right` false and
+// `bits` 0. An inner layer of mesh_lines. Leans on fields and integers.
 ghost use mathlib.Core.Path.{_≡_};
 ghost use mathlib.Core.Bool.{true, false};
 ghost use Prim.Native.Nat.{_-_, _<_, _≤_};

@@ -1,4 +1,5 @@
--- Where fields stand on a line: place i is field j's where the line from i on is `fieldsFrom j` (`specs/Fields.antt`). Assumes nothing.
+-- Where fields stand on a line: place i is field j's where the line from i on is `fieldsFrom j`
+-- (`specs/Fields.antt`). Assumes nothing.
 use mathlib.Core.Path.{_≡_, refl, sym, _∙_, ap}
 use mathlib.Core.List.{List}
 use Prim.Native.Nat.{ℕ, _+_, _-_, _≤_}

@@ -1,4 +1,5 @@
--- Runs of bytes (`runLength` of `specs/Fields.antt`): how long they are, and a byte more. Assumes nothing.
+-- Runs of bytes (`runLength` of `specs/Fields.antt`): how long they are, and a byte more. Assumes
+-- nothing.
 use mathlib.Core.Path.{_≡_, refl, sym, _∙_, ap}
 use mathlib.Core.Bool.{Bool, true, false, cond}
 use mathlib.Core.List.{List, [], _∷_}

@@ -1,5 +1,5 @@
--- Lines and fields of a text, which is a list of bytes ("one line a triangle (three points, three neighbours or `none`)").
--- Assumes nothing.
+-- Lines and fields of a text, which is a list of bytes ("one line a triangle (three points, three
+-- neighbours or `none`)"). Assumes nothing.
 use mathlib.Core.Bool.{Bool, true, false, not, cond}
 use mathlib.Core.List.{List, [], _∷_}
 use Prim.Native.Nat.{ℕ, zero, suc}
@@ -17,7 +17,8 @@ isBlank b = cond (eqb b 32) true (cond (eqb b 9) true (eqb b 13))
 abbrev pub isDigit : ℕ → Bool
 isDigit b = cond (ltb b 48) false (ltb b 58)
 
--- the bytes that belong to a run: blanks; a field, up to a blank; digits; a line, up to its end; what stands before a comma
+-- the bytes that belong to a run: blanks; a field, up to a blank; digits; a line, up to its end;
+-- what stands before a comma
 abbrev pub inRun : Run → ℕ → Bool
 inRun run.Blanks b = isBlank b
 inRun run.Field b = not (isBlank b)

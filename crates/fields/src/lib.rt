@@ -1,12 +1,14 @@
-// Lines and fields of a text: where a run of bytes of one kind ends, and field k of a line. Each equals its definition in specs/Fields.antt, of any
-// bytes. An inner layer of field_numbers, mesh_lines and mesh_text. Leans on nothing but the kit.
+// Lines and fields of a text: where a run of bytes of one kind ends, and field k of a line. Each
+// equals its definition in specs/Fields.antt, of any bytes. An inner layer of field_numbers,
+// mesh_lines and mesh_text. Leans on nothing but the kit.
 ghost use mathlib.Core.Path.{_≡_};
 ghost use mathlib.Core.Bool.{not};
 ghost use Prim.Native.Nat.{_+_, _≤_};
 ghost use lib.ListN.{length, drop};
 ghost use Rattle.fields.specs.Fields.{isBlank, isDigit, inRun, runLength, fieldsFrom, fieldOf};
 
-// What a run is of: blanks, the bytes of a field, digits, the bytes of a line, the bytes before a comma.
+// What a run is of: blanks, the bytes of a field, digits, the bytes of a line, the bytes before a
+// comma.
 pub enum Run {
     Blanks,
     Field,

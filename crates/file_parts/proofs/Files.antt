@@ -1,5 +1,7 @@
--- A file's split parts, as the code goes about them. In order: the fault of splitting into room for any parts is the mesh's own; the rows read are the file's mesh; what a call leaves
--- for a sound header, and for a refused one; what stands on the front of the arrays after success. Assumes nothing.
+-- A file's split parts, as the code goes about them. In order: the fault of splitting into room for
+-- any parts is the mesh's own; the rows read are the file's mesh; what a call leaves for a sound
+-- header, and for a refused one; what stands on the front of the arrays after success. Assumes
+-- nothing.
 use mathlib.Core.Path.{_≡_, refl, sym, _∙_, ap}
 use mathlib.Core.List.{List, _++_, flatten}
 use Prim.Native.Nat.{ℕ, zero, suc, _+_, _*_, _-_, _<_, _≤_}

@@ -1,4 +1,5 @@
--- The fault of a file that is longer than the longest good one: it is told by its count alone, so that more bytes change nothing (`more-fault`). Assumes nothing.
+-- The fault of a file that is longer than the longest good one: it is told by its count alone, so
+-- that more bytes change nothing (`more-fault`). Assumes nothing.
 use mathlib.Core.Path.{_≡_, refl, sym, _∙_, ap}
 use mathlib.Core.Bool.{Bool, true, false, cond}
 use mathlib.Core.List.{List, _++_}

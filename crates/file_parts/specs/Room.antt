@@ -10,7 +10,8 @@ use Rattle.table.specs.Table.{maxParts}
 use Rattle.table.specs.declared.Counts.{Counts}
 use Rattle.listing.specs.File.{triangleCount, headerKinds}
 
--- a sound header, as many rows as it tells, and room for the starts and corners of any split parts (at most six corners of two numbers for each triangle), so that 22 and 21 cannot be
+-- a sound header, as many rows as it tells, and room for the starts and corners of any split parts
+-- (at most six corners of two numbers for each triangle), so that 22 and 21 cannot be
 pub record FileRoom (bytes : List ℕ) (rows : List (List ℤ)) (starts : List ℕ) (corners : List ℤ) : Type 0 where
   pub header : firstFault (headerKinds bytes) ≡ 0
   pub for-rows : length rows ≡ triangleCount bytes

@@ -1,13 +1,16 @@
-// The split parts of a mesh file (document 01, "The file and its listing"): `split_file` takes the bytes of a file, any bytes, reads its mesh and leaves the table of its
-// split parts on the front of lent starts and corners, or tells the file's fault and changes nothing. The lent arrays hold the parts of any mesh, so that 22 and 21 cannot be.
-// Its answer and both arrays are equations with `fileFault` and `fileParts` of listing/specs/File.antt. Leans on mesh_file and split_parts.
+// The split parts of a mesh file (document 01, "The file and its listing"): `split_file` takes the
+// bytes of a file, any bytes, reads its mesh and leaves the table of its split parts on the front
+// of lent starts and corners, or tells the file's fault and changes nothing. The lent arrays hold
+// the parts of any mesh, so that 22 and 21 cannot be. Its answer and both arrays are equations with
+// `fileFault` and `fileParts` of listing/specs/File.antt. Leans on mesh_file and split_parts.
 ghost use mathlib.Core.Path.{_≡_};
 ghost use Rattle.table.specs.Table.{startsOf, cornersOf, countsOf, written};
 ghost use Rattle.listing.specs.File.{fileFault, fileParts};
 ghost use Rattle.file_parts.specs.Room.{FileRoom, Within};
 use table::Counts;
 
-// As many starts and corners' numbers as the split parts of any mesh have: at most six corners of two numbers for each triangle.
+// As many starts and corners' numbers as the split parts of any mesh have: at most six corners of
+// two numbers for each triangle.
 pub const STARTS: usize = table::MAX_PARTS + 1;
 
 pub const NUMBERS: usize = corners::WIDTH * (6 * mesh::MAX_TRIANGLES);
@@ -33,8 +36,9 @@ fn split_sound(
     split_parts::to_convex_polygons_with_max_vertices(rows, limit, strategy, starts, corners)
 }
 
-// The split parts of a mesh file, on the front of the lent starts and corners. A refusal (13, 1, 2, 3, 4, 5, 6 or 11) gives zero counts and changes nothing. The last
-// clause says that what the counts tell of is there, for a caller that takes it from the arrays.
+// The split parts of a mesh file, on the front of the lent starts and corners. A refusal (13, 1, 2,
+// 3, 4, 5, 6 or 11) gives zero counts and changes nothing. The last clause says that what the
+// counts tell of is there, for a caller that takes it from the arrays.
 pub fn split_file(bytes: &[u8], starts: &mut [u32; STARTS], corners: &mut [i32; NUMBERS]) -> Counts
     ensures counts { λ r. ⌜ r ≡ countsOf (fileFault (now (bytes .entry))) (fileParts (now (bytes .entry))) ⌝ }
     ensures starts { λ _. ⌜ now (starts .exit) ≡ written (fileFault (now (bytes .entry))) (startsOf (fileParts (now (bytes .entry)))) (now (starts .entry)) ⌝ }

@@ -1,20 +1,25 @@
-// Standard input read whole and standard output written whole, as the programs do: over short reads and writes, and again after one that a signal
-// cut off or that had nothing to move yet. What a read or a write fails by is told on standard error. What the bytes are is the input's: the contract
-// says how many there are. Leans on libc (`read`, `write`), os (`errno`, `fail`) and io (`count`).
+// Standard input read whole and standard output written whole, as the programs do: over short reads
+// and writes, and again after one that a signal cut off or that had nothing to move yet. What a
+// read or a write fails by is told on standard error. What the bytes are is the input's: the
+// contract says how many there are. Leans on libc (`read`, `write`), os (`errno`, `fail`) and io
+// (`count`).
 ghost use Rattle.io.specs.Counts.{Counts};
 use libc::STDIN_FILENO;
 use libc::STDOUT_FILENO;
 
-// A proved loop has to end, and nothing says that an input does: so many turns, of a read or a write each, that no run uses them up.
+// A proved loop has to end, and nothing says that an input does: so many turns, of a read or a
+// write each, that no run uses them up.
 const TURNS: u64 = 1099511627776;
 
-// Whether the call that has just failed is made again: a signal came first, or a descriptor that does not wait has nothing yet.
+// Whether the call that has just failed is made again: a signal came first, or a descriptor that
+// does not wait has nothing yet.
 fn is_passing() -> bool {
     let error = os::errno();
     error == libc::EINTR || error == libc::EAGAIN
 }
 
-// Whether a read or a write that answered so is the last: it moved nothing, or it failed for good, which is then told.
+// Whether a read or a write that answered so is the last: it moved nothing, or it failed for good,
+// which is then told.
 fn is_last(got: isize, what: &[u8]) -> bool {
     if got > 0 {
         return false;
@@ -29,7 +34,8 @@ fn is_last(got: isize, what: &[u8]) -> bool {
     true
 }
 
-// Reads standard input onto the front of buf until buf is full, the input ends or a read fails for good, and answers how many bytes there are.
+// Reads standard input onto the front of buf until buf is full, the input ends or a read fails for
+// good, and answers how many bytes there are.
 pub fn read_input(buf: &mut [u8]) -> usize
     ensures { λ r. ⌜ Counts r (now (buf .exit)) ⌝ }
 {

@@ -1,5 +1,5 @@
-// Document 01's fault numbers ("Faults that come from the input", "Faults that come from the state"), named once for all code. Definitions cite the
-// same names, of specs/Faults.antt.
+// Document 01's fault numbers ("Faults that come from the input", "Faults that come from the
+// state"), named once for all code. Definitions cite the same names, of specs/Faults.antt.
 
 // More than 1,024 triangles.
 pub const TRIANGLES: u32 = 1;

@@ -1,5 +1,7 @@
-// The example of joining in docs/USE.md: the parts of document 01's dart, two triangles that do not join, then the same mesh refused, once for want of
-// a place for the last start and once for a neighbour that is not there; and a square, whose two triangles do join. What it prints is its file `stdout`. Leans on convex_join, part_lines and lines.
+// The example of joining in docs/USE.md: the parts of document 01's dart, two triangles that do not
+// join, then the same mesh refused, once for want of a place for the last start and once for a
+// neighbour that is not there; and a square, whose two triangles do join. What it prints is its
+// file `stdout`. Leans on convex_join, part_lines and lines.
 use mesh::Row;
 
 // Joins the mesh into the lent places and writes what the call told and what it left there.

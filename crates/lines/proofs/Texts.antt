@@ -1,4 +1,5 @@
--- What `put_text` answers of a number with k digits: nothing where there is no room (`refused`), else the text (`answered`). Assumes nothing.
+-- What `put_text` answers of a number with k digits: nothing where there is no room (`refused`),
+-- else the text (`answered`). Assumes nothing.
 use mathlib.Core.Path.{_≡_, refl, sym, _∙_, ap}
 use mathlib.Core.List.{List, _++_}
 use Prim.Native.Nat.{ℕ, _+_, _≤_, _<_}

@@ -12,8 +12,8 @@ use Rattle.text.specs.Text.{decimal}
 abbrev pub textOf : List ℕ → ℕ → List ℕ → List ℕ
 textOf name n end = name ++ decimal n ++ end
 
--- where the text does not fit, 0 is told and nothing changed. The last line follows from those before it, and says that as many bytes as were told
--- can be lent on
+-- where the text does not fit, 0 is told and nothing changed. The last line follows from those
+-- before it, and says that as many bytes as were told can be lent on
 pub record Text (name : List ℕ) (n : ℕ) (end out : List ℕ) (r : ℕ) (out′ : List ℕ) : Type 0 where
   pub told : r ≡ cond (ltb (length out) (length (textOf name n end))) 0 (length (textOf name n end))
   pub text : out′ ≡ cond (ltb (length out) (length (textOf name n end))) out (overlay (textOf name n end) out)

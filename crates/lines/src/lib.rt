@@ -1,10 +1,12 @@
-// A name, a number in decimal and an end, as the programs here print them. `put_text` puts the text on the front of lent bytes and takes any
-// input: what it answers and the bytes as it returns are equations with specs/Text.antt, and where there is no room it answers 0 and changes
-// nothing. `print` writes that text, the other functions numbers and lists of them; what is written is in io's hands, and each program's is held to
-// its file `stdout`. Leans on text, io and integers.
+// A name, a number in decimal and an end, as the programs here print them. `put_text` puts the text
+// on the front of lent bytes and takes any input: what it answers and the bytes as it returns are
+// equations with specs/Text.antt, and where there is no room it answers 0 and changes nothing.
+// `print` writes that text, the other functions numbers and lists of them; what is written is in
+// io's hands, and each program's is held to its file `stdout`. Leans on text, io and integers.
 ghost use Rattle.lines.specs.Text.{Text};
 
-// Puts the name, the number and the end on the front of the lent bytes and answers how many there are, or 0 where they do not fit.
+// Puts the name, the number and the end on the front of the lent bytes and answers how many there
+// are, or 0 where they do not fit.
 pub fn put_text(name: &[u8], n: u64, end: &[u8], out: &mut [u8]) -> usize
     ensures { λ r. ⌜ Text (now (name .entry)) n (now (end .entry)) (now (out .entry)) r (now (out .exit)) ⌝ }
 {

@@ -1,5 +1,6 @@
--- The fault of a mesh file: its header's where there is one (`header-told`), else its mesh's (`mesh-told`); an accepted file's mesh is accepted (`accepted-mesh`). What a sound header tells of
--- the bytes' length (`sound`). Assumes nothing.
+-- The fault of a mesh file: its header's where there is one (`header-told`), else its mesh's
+-- (`mesh-told`); an accepted file's mesh is accepted (`accepted-mesh`). What a sound header tells
+-- of the bytes' length (`sound`). Assumes nothing.
 use mathlib.Core.Path.{_≡_, sym, _∙_}
 use mathlib.Core.Bool.{false}
 use mathlib.Core.List.{List}

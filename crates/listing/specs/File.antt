@@ -1,5 +1,6 @@
--- The mesh file (document 01, "The file and its listing"): "a header of five little-endian u32 (total bytes, triangle count, offset of records,
--- corner limit, split: 0 ear, 1 fan, 2 centroid), then records of six i32 (x, y of the three points) and three u32". Assumes nothing.
+-- The mesh file (document 01, "The file and its listing"): "a header of five little-endian u32
+-- (total bytes, triangle count, offset of records, corner limit, split: 0 ear, 1 fan, 2 centroid),
+-- then records of six i32 (x, y of the three points) and three u32". Assumes nothing.
 use mathlib.Core.Bool.{Bool, true, not, cond}
 use mathlib.Core.List.{List, [], _∷_, _++_}
 use Prim.Native.Nat.{ℕ, zero, suc, _+_, _*_}
@@ -59,7 +60,8 @@ fileParts bytes = splitParts (strategyOf (splitNumber bytes)) (cornerLimit bytes
 
 -- ---- its faults
 
--- "a wrong offset, split or total, or a total unlike the bytes read, gives 13": "The offset is 20, the total 20 + 36 times the count."
+-- "a wrong offset, split or total, or a total unlike the bytes read, gives 13": "The offset is 20,
+-- the total 20 + 36 times the count."
 unfoldable pub headerBroken : List ℕ → Bool
 headerBroken bytes =
     cond (eqb (recordOffset bytes) 20)

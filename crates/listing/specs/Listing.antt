@@ -1,4 +1,5 @@
--- The listing (document 01, "The file and its listing"): the bytes that the area program prints. Assumes nothing.
+-- The listing (document 01, "The file and its listing"): the bytes that the area program prints.
+-- Assumes nothing.
 use mathlib.Core.Bool.{cond}
 use mathlib.Core.List.{List, [], _∷_, _++_, flatten}
 use Prim.Native.Nat.{ℕ, suc, _+_, _*_, _/_}

@@ -1,5 +1,6 @@
--- The parts of a table that can be listed: the areas added part by part (`totals-turn`), a part's area is above 0 and at most the total (`area-most`,
--- `area-some`), part k can be measured (`part-measurable`); a share is the quotient (`share-is`). Assumes nothing.
+-- The parts of a table that can be listed: the areas added part by part (`totals-turn`), a part's
+-- area is above 0 and at most the total (`area-most`, `area-some`), part k can be measured
+-- (`part-measurable`); a share is the quotient (`share-is`). Assumes nothing.
 use mathlib.Core.Path.{_≡_, sym, subst}
 use mathlib.Core.Bool.{true}
 use mathlib.Core.List.{List, [], _∷_}

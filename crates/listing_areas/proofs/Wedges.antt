@@ -1,5 +1,6 @@
--- The wedges of a contour at its first corner, added so that they wrap: one term (`wraps-up`, `wraps-down`), the sum so far (`Fanning`) at the start, after
--- a turn and at the end, where it is the doubled area (`fanning-end`). Assumes nothing.
+-- The wedges of a contour at its first corner, added so that they wrap: one term (`wraps-up`,
+-- `wraps-down`), the sum so far (`Fanning`) at the start, after a turn and at the end, where it is
+-- the doubled area (`fanning-end`). Assumes nothing.
 use mathlib.Core.Path.{_≡_, refl, sym, _∙_, ap}
 use mathlib.Core.Bool.{true, false}
 use mathlib.Core.List.{List, [], _∷_}

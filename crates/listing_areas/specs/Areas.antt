@@ -1,4 +1,5 @@
--- Which part tables can be listed (document 01, "The file and its listing"), and sums that wrap. Assumes nothing.
+-- Which part tables can be listed (document 01, "The file and its listing"), and sums that wrap.
+-- Assumes nothing.
 use mathlib.Core.Path.{_≡_}
 use mathlib.Core.Bool.{true, false}
 use mathlib.Core.List.{List}
@@ -22,7 +23,8 @@ pub record Measurable (corners : List ℤ) : Type 0 where
   pub above : leZ (pos 0) (contourArea (pointsOf corners)) ≡ true
   pub below : natAbs (contourArea (pointsOf corners)) < 2 ^ 63
 
--- A part table by its rules, with corners in range, each part counter-clockwise, and a total doubled area of 63 bits.
+-- A part table by its rules, with corners in range, each part counter-clockwise, and a total
+-- doubled area of 63 bits.
 pub record Listable (starts : List ℕ) (corners : List ℤ) : Type 0 where
   pub whole : tableBroken starts corners ≡ false
   pub ranged : offRange corners ≡ false

@@ -1,6 +1,7 @@
-// The numbers of an area listing: a part's doubled area (`part_area`), the total of all parts (`total_area`) and a part's share of it (`share`), each equal to
-// listing's definition, of a part table that can be listed (`Listable`, specs/Areas.antt). Linear in the corners. Leans on wide_divide, wide, walk_read and
-// table_shown (a corner and a part of lent numbers) and plane.
+// The numbers of an area listing: a part's doubled area (`part_area`), the total of all parts
+// (`total_area`) and a part's share of it (`share`), each equal to listing's definition, of a part
+// table that can be listed (`Listable`, specs/Areas.antt). Linear in the corners. Leans on
+// wide_divide, wide, walk_read and table_shown (a corner and a part of lent numbers) and plane.
 ghost use mathlib.Core.Path.{_≡_};
 ghost use mathlib.Core.Bool.{false};
 ghost use mathlib.Core.List.{[]};
@@ -43,8 +44,8 @@ fn wedge(corners: &[i32], i: usize) -> i64
     plane::area_two(first, a, b)
 }
 
-// The doubled area of a contour that runs counter-clockwise: its wedges at the first corner, added so that they wrap. A sum on the way may leave 64 bits, but the
-// last does not, so it is exact.
+// The doubled area of a contour that runs counter-clockwise: its wedges at the first corner, added
+// so that they wrap. A sum on the way may leave 64 bits, but the last does not, so it is exact.
 pub fn part_area(corners: &[i32]) -> u64
     requires { ⌜ Measurable (now corners) ⌝ }
     ensures { λ r. ⌜ r ≡ areaOf (pointsOf (now (corners .entry))) ⌝ }

@@ -1,5 +1,5 @@
--- Any file: an accepted one's parts can be listed (`file-listable`), and what is printed fits (`listing-fits`).
--- Assumes nothing.
+-- Any file: an accepted one's parts can be listed (`file-listable`), and what is printed fits
+-- (`listing-fits`). Assumes nothing.
 use mathlib.Core.Path.{_≡_, refl, sym, _∙_, ap, subst}
 use mathlib.Core.Bool.{true, false}
 use mathlib.Core.List.{List, [], append-nil, flatten}

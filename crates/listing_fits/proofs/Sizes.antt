@@ -1,4 +1,5 @@
--- How long the lines of a listing are: the first (`head-size`), a part's (`part-size`), all parts' (`lines-size`), the whole (`listing-size`). Assumes nothing.
+-- How long the lines of a listing are: the first (`head-size`), a part's (`part-size`), all parts'
+-- (`lines-size`), the whole (`listing-size`). Assumes nothing.
 use mathlib.Core.List.{List, [], _∷_, flatten}
 use Prim.Native.Nat.{ℕ, suc, _+_, _*_, _^_, _≤_, _<_}
 use native.Mathlib.Nat.{div-lt-iff-lt-mul}

@@ -1,4 +1,5 @@
--- The listing of any file: how long it is at the most, and that its parts can be listed (document 01, "The file and its listing"). Assumes nothing.
+-- The listing of any file: how long it is at the most, and that its parts can be listed (document
+-- 01, "The file and its listing"). Assumes nothing.
 use mathlib.Core.Path.{_≡_}
 use mathlib.Core.List.{List}
 use Prim.Native.Nat.{ℕ, _+_, _*_, _≤_}
@@ -9,7 +10,8 @@ use Rattle.listing.specs.File.{fileFault, fileParts}
 use Rattle.listing.specs.Listing.{listingOf, areasOf}
 use Rattle.listing_areas.specs.Areas.{Listable}
 
--- the bytes of the longest listing: 50 of the first line, 36 of each part's line beside its corners, 26 of each corner; there are at most six corners to a triangle of the mesh
+-- the bytes of the longest listing: 50 of the first line, 36 of each part's line beside its
+-- corners, 26 of each corner; there are at most six corners to a triangle of the mesh
 abbrev pub listingRoom : ℕ
 listingRoom = 50 + 36 * maxParts + 26 * (6 * maxTriangles)
 

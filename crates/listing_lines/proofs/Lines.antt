@@ -1,5 +1,7 @@
--- The pieces of a listing's lines: of the first (`headPieces`), of a part's (`partPieces`), and the part lines from part k on (`linesFrom`), with what each makes.
--- In order: the first line; a part's; the room for part k's; all part lines; they come after the first (`listing-put`). Assumes nothing.
+-- The pieces of a listing's lines: of the first (`headPieces`), of a part's (`partPieces`), and the
+-- part lines from part k on (`linesFrom`), with what each makes.
+-- In order: the first line; a part's; the room for part k's; all part lines; they come after the
+-- first (`listing-put`). Assumes nothing.
 use mathlib.Core.Path.{_≡_, refl, sym, _∙_, ap, subst}
 use mathlib.Core.Bool.{false}
 use mathlib.Core.List.{List, [], _∷_, _++_, flatten}

@@ -1,5 +1,6 @@
--- A text put piece by piece: `Putting` says that what was put and the pieces left make the whole. In order: pieces joined (`joined`); at the start
--- (`putting-start`), room for the next piece (`putting-room`), that piece put (`putting-step`), at the end (`putting-end`); the length is kept
+-- A text put piece by piece: `Putting` says that what was put and the pieces left make the whole.
+-- In order: pieces joined (`joined`); at the start (`putting-start`), room for the next piece
+-- (`putting-room`), that piece put (`putting-step`), at the end (`putting-end`); the length is kept
 -- (`putting-length`). Assumes nothing.
 use mathlib.Core.Path.{_≡_, sym, _∙_, ap}
 use mathlib.Core.List.{List, [], _∷_, _++_, append-assoc, append-nil, flatten}

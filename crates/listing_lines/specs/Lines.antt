@@ -1,4 +1,5 @@
--- What putting a line of the listing asks: its numbers are those of the table, and there is room for it. Assumes nothing.
+-- What putting a line of the listing asks: its numbers are those of the table, and there is room
+-- for it. Assumes nothing.
 use mathlib.Core.Path.{_≡_}
 use mathlib.Core.Bool.{false}
 use mathlib.Core.List.{List, []}

@@ -1,6 +1,7 @@
-// The text of an area listing (document 01, "The file and its listing"), put into lent bytes: `put_listing` leaves exactly listing's `listingOf` of a part table
-// that can be listed, and every byte past it as it was; the caller has shown that there is room. The total is added up once, and each part's area once for
-// its line. Leans on listing_areas, text, table_shown and corners.
+// The text of an area listing (document 01, "The file and its listing"), put into lent bytes:
+// `put_listing` leaves exactly listing's `listingOf` of a part table that can be listed, and every
+// byte past it as it was; the caller has shown that there is room. The total is added up once, and
+// each part's area once for its line. Leans on listing_areas, text, table_shown and corners.
 ghost use mathlib.Core.List.{[]};
 ghost use Prim.Native.Nat.{_≤_};
 ghost use lib.ListN.{length, getD};

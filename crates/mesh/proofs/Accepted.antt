@@ -1,5 +1,5 @@
--- What an accepted mesh has, side by side: where no fault is found, each test's rule holds of every triangle and side (`accepted`).
--- Assumes nothing.
+-- What an accepted mesh has, side by side: where no fault is found, each test's rule holds of every
+-- triangle and side (`accepted`). Assumes nothing.
 use mathlib.Core.Path.{_≡_}
 use mathlib.Core.Bool.{true, false, not, cond}
 use Prim.Native.Nat.{ℕ, zero, suc, _≤_, _<_}

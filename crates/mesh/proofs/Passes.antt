@@ -1,5 +1,6 @@
--- One pass over the rows of a mesh: what is known before row k (`Pass`), at the start, where a row passes the test, at the next row, at the end; and what
--- a pass over the coordinates leaves known of each row (`row-on-grid`). Assumes nothing.
+-- One pass over the rows of a mesh: what is known before row k (`Pass`), at the start, where a row
+-- passes the test, at the next row, at the end; and what a pass over the coordinates leaves known
+-- of each row (`row-on-grid`). Assumes nothing.
 use mathlib.Core.Path.{_≡_, refl, sym, _∙_, ap}
 use mathlib.Core.Bool.{Bool, true, false, cond}
 use mathlib.Core.List.{List, []}

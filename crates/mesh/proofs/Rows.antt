@@ -1,5 +1,5 @@
--- A row's vertices and neighbours by their places (`vertex-row`, `neighbour-row`), a mesh's triangles by their rows (`triangle-row`).
--- Assumes nothing.
+-- A row's vertices and neighbours by their places (`vertex-row`, `neighbour-row`), a mesh's
+-- triangles by their rows (`triangle-row`). Assumes nothing.
 use mathlib.Core.Path.{_≡_, refl}
 use mathlib.Core.List.{List, [], _∷_}
 use Prim.Native.Nat.{ℕ, zero, suc, _+_, _*_, _<_}

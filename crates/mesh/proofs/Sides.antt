@@ -1,6 +1,7 @@
--- Tests over triangles and sides, and the side that names a neighbour. In order: a test that no triangle passes (`some-false`), and no side of
--- those that have a neighbour (`mesh-side-false`); how often a neighbour is named (`named-sides`); the side that names it (`opposite-names`, `opposite-only`).
--- Assumes nothing.
+-- Tests over triangles and sides, and the side that names a neighbour. In order: a test that no
+-- triangle passes (`some-false`), and no side of those that have a neighbour (`mesh-side-false`);
+-- how often a neighbour is named (`named-sides`); the side that names it (`opposite-names`,
+-- `opposite-only`). Assumes nothing.
 use mathlib.Core.Path.{_≡_, refl, sym, _∙_, ap}
 use mathlib.Core.Bool.{Bool, true, false, cond}
 use mathlib.Core.List.{[], _∷_}

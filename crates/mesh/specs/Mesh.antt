@@ -1,5 +1,5 @@
--- The mesh and its faults (document 01, "Tables the desks exchange", "Faults that come from the input"). Each fault is a test over the whole
--- mesh. Assumes nothing.
+-- The mesh and its faults (document 01, "Tables the desks exchange", "Faults that come from the
+-- input"). Each fault is a test over the whole mesh. Assumes nothing.
 use mathlib.Core.Bool.{Bool, true, false, not, cond}
 use mathlib.Core.List.{List, [], _∷_, map}
 use Prim.Native.Nat.{ℕ, zero, suc, _+_}
@@ -93,7 +93,8 @@ triangleOff t = not (cond (onGrid (t .v0)) (cond (onGrid (t .v1)) (onGrid (t .v2
 unfoldable pub offGrid : Mesh → Bool
 offGrid m = some (λ k t. triangleOff t) m
 
--- 3: "a neighbour neither none nor in the mesh, or the triangle itself": neighbour n of triangle k, of count triangles
+-- 3: "a neighbour neither none nor in the mesh, or the triangle itself": neighbour n of triangle k,
+-- of count triangles
 abbrev pub strays : ℕ → ℕ → ℕ → Bool
 strays count k n = cond (eqb n k) true (leb count n)
 
@@ -119,7 +120,8 @@ opposite t n = cond (eqb (t .n0) n) 0 (cond (eqb (t .n1) n) 1 2)
 unfoldable pub runsOppositely : Triangle → ℕ → Triangle → ℕ → Bool
 runsOppositely t i u j = cond (eqPt (vertex t (after i)) (vertex u (before j))) (eqPt (vertex t (before i)) (vertex u (after j))) false
 
--- 5: "a shared edge whose ends differ or don't run oppositely": side i of triangle k, t, shared with n
+-- 5: "a shared edge whose ends differ or don't run oppositely": side i of triangle k, t, shared
+-- with n
 abbrev pub mismatches : Mesh → ℕ → Triangle → ℕ → ℕ → Bool
 mismatches m k t i n = not (runsOppositely t i (triangleAt m n) (opposite (triangleAt m n) k))
 

@@ -1,5 +1,6 @@
--- A mesh as it is lent: a row of nine numbers a triangle, six coordinates (x, y of the three points) and three neighbours, whose 32 bits are read
--- unsigned, so that none, 4,294,967,295, is -1. Assumes nothing.
+-- A mesh as it is lent: a row of nine numbers a triangle, six coordinates (x, y of the three
+-- points) and three neighbours, whose 32 bits are read unsigned, so that none, 4,294,967,295, is
+-- -1. Assumes nothing.
 use mathlib.Core.Path.{_≡_}
 use mathlib.Core.Bool.{true}
 use mathlib.Core.List.{List, map}

@@ -1,5 +1,6 @@
-// The triangle mesh: how a row of nine numbers is read, and how it is seen over the side that names a neighbour (geom/triangle.rs, index.rs). The definitions of the
-// mesh and its faults are in specs/Mesh.antt, those of rows in specs/Rows.antt. Leans on plane.
+// The triangle mesh: how a row of nine numbers is read, and how it is seen over the side that names
+// a neighbour (geom/triangle.rs, index.rs). The definitions of the mesh and its faults are in
+// specs/Mesh.antt, those of rows in specs/Rows.antt. Leans on plane.
 ghost use mathlib.Core.Path.{_≡_};
 ghost use Prim.Native.Nat.{_<_};
 ghost use Rattle.plane.specs.Machine.{point, CrossSize};
@@ -41,15 +42,16 @@ pub fn neighbor_of(row: Row, i: usize) -> usize
     integers::unsigned(row[6 + i]) as usize
 }
 
-// A triangle as it is seen over one of its sides: the far vertex, and the neighbours over the two edges there, first the one that ends in it.
+// A triangle as it is seen over one of its sides: the far vertex, and the neighbours over the two
+// edges there, first the one that ends in it.
 pub struct Far {
     pub vertex: IntPoint,
     pub first: usize,
     pub second: usize,
 }
 
-// A row as it is seen over the side that names n, or over side 2 (the Rust's `opposite`). Each place is named, since a place known only at run time costs
-// more than these tests.
+// A row as it is seen over the side that names n, or over side 2 (the Rust's `opposite`). Each
+// place is named, since a place known only at run time costs more than these tests.
 pub fn far_of(row: Row, n: usize) -> Far
     ensures { λ r. ⌜ (point (r .vertex) ≡ vertex (rowTriangle row) (opposite (rowTriangle row) n))
         × (r .first ≡ neighbour (rowTriangle row) (after (opposite (rowTriangle row) n)))

@@ -1,4 +1,5 @@
--- The bounds of points are the least and greatest of each coordinate (`mesh-bounded`). In order: the least of a coordinate and the greatest; both coordinates; a mesh. Assumes nothing.
+-- The bounds of points are the least and greatest of each coordinate (`mesh-bounded`). In order:
+-- the least of a coordinate and the greatest; both coordinates; a mesh. Assumes nothing.
 use mathlib.Core.Path.{_≡_, refl, sym, _∙_, ap, subst}
 use mathlib.Core.Bool.{true}
 use mathlib.Core.List.{List, [], _∷_}

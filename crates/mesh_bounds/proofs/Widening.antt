@@ -1,4 +1,5 @@
--- Bounds that points are brought into. In order: the lesser and the greater as the code takes them; a row's vertices; row after row. Assumes nothing.
+-- Bounds that points are brought into. In order: the lesser and the greater as the code takes them;
+-- a row's vertices; row after row. Assumes nothing.
 use mathlib.Core.Path.{_≡_, refl, sym, _∙_, ap}
 use mathlib.Core.Bool.{true, false}
 use mathlib.Core.List.{List, [], _∷_, _++_}

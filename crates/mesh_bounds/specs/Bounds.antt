@@ -1,4 +1,5 @@
--- The bounds of a mesh: "least and greatest x and y of the original source", here of all vertices of all triangles. Assumes nothing.
+-- The bounds of a mesh: "least and greatest x and y of the original source", here of all vertices
+-- of all triangles. Assumes nothing.
 use mathlib.Core.Path.{_≡_}
 use mathlib.Core.Bool.{true, cond}
 use mathlib.Core.List.{List, [], _∷_, _++_}

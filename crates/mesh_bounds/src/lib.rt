@@ -1,5 +1,7 @@
-// The bounds of a mesh (document 01: "least and greatest x and y of the original source"): `mesh_bounds`, of any rows; those of an empty mesh are 0. Its answer is `meshBounds` of
-// specs/Bounds.antt; that each bound is a vertex's and no vertex is past one is `MeshBounded` there. Leans on mesh and table.
+// The bounds of a mesh (document 01: "least and greatest x and y of the original source"):
+// `mesh_bounds`, of any rows; those of an empty mesh are 0. Its answer is `meshBounds` of
+// specs/Bounds.antt; that each bound is a vertex's and no vertex is past one is `MeshBounded`
+// there. Leans on mesh and table.
 ghost use mathlib.Core.Path.{_≡_};
 ghost use Rattle.plane.specs.Machine.{point};
 ghost use Rattle.mesh.specs.Rows.{rowTriangle, rowsMesh};

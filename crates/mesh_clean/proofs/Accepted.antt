@@ -1,5 +1,7 @@
--- A clean mesh of at most 1,024 triangles has no fault (`clean-accepted`): its triangles are sound and its areas fit (mesh_sound's `sound-rows`), each edge is
--- shared that is asked for (`linked-rows`), so every edge is (Pairing), and each fault's test follows from Sides. Assumes nothing.
+-- A clean mesh of at most 1,024 triangles has no fault (`clean-accepted`): its triangles are sound
+-- and its areas fit (mesh_sound's `sound-rows`), each edge is shared that is asked for
+-- (`linked-rows`), so every edge is (Pairing), and each fault's test follows from Sides. Assumes
+-- nothing.
 use mathlib.Core.Path.{_≡_, refl, sym, _∙_, subst}
 use mathlib.Core.Bool.{Bool, true, false}
 use mathlib.Core.List.{List, [], _∷_, map}

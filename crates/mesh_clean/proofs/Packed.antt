@@ -1,5 +1,6 @@
--- Points as numbers: a number from its halves (`packs`); two numbers are one where their points are (`packs-eq`); where a side that is none begins is not
--- where it should (`none-apart`). Assumes nothing.
+-- Points as numbers: a number from its halves (`packs`); two numbers are one where their points are
+-- (`packs-eq`); where a side that is none begins is not where it should (`none-apart`). Assumes
+-- nothing.
 use mathlib.Core.Path.{_≡_, sym, _∙_, ap, subst}
 use Prim.Native.Nat.{ℕ, _+_, _*_, _-_, _<_}
 use native.Mathlib.Omega.{arith}

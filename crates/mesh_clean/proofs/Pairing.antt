@@ -1,6 +1,7 @@
--- Sides that pair up (`paired`): where each side that names a triangle before its own meets the side of that one that names it first, no two meet one
--- (`same-side`), so where no more sides name a triangle after their own, each of these is met, and meets back (`met-back`). A side is counted by one number, three to
--- a triangle (`sides-counted`). Assumes nothing.
+-- Sides that pair up (`paired`): where each side that names a triangle before its own meets the
+-- side of that one that names it first, no two meet one (`same-side`), so where no more sides name
+-- a triangle after their own, each of these is met, and meets back (`met-back`). A side is counted
+-- by one number, three to a triangle (`sides-counted`). Assumes nothing.
 use mathlib.Core.Path.{_≡_, refl, sym, _∙_, ap, subst}
 use mathlib.Core.Bool.{Bool, true, false, cond}
 use mathlib.Core.List.{List, [], _∷_}

@@ -1,4 +1,5 @@
--- The second pass over the rows: what is known before row k (`Linking`), at the start, where a row ends the pass, at the next row, at the end. Assumes nothing.
+-- The second pass over the rows: what is known before row k (`Linking`), at the start, where a row
+-- ends the pass, at the next row, at the end. Assumes nothing.
 use mathlib.Core.Path.{_≡_, refl, sym, _∙_, ap}
 use mathlib.Core.Bool.{Bool, true, false, cond}
 use mathlib.Core.List.{List}

@@ -1,5 +1,6 @@
--- The sides of a mesh in which every doubled area is above 0 and every edge is shared (`Shared`): a triangle's vertices are three points (`vertices`),
--- so no side names its own triangle (`not-self`), and each names and is named once (`names-once`, `named-back`). Assumes nothing.
+-- The sides of a mesh in which every doubled area is above 0 and every edge is shared (`Shared`): a
+-- triangle's vertices are three points (`vertices`), so no side names its own triangle
+-- (`not-self`), and each names and is named once (`names-once`, `named-back`). Assumes nothing.
 use mathlib.Core.Path.{_≡_, refl, sym, _∙_, ap}
 use mathlib.Core.List.{[], _∷_}
 use Prim.Native.Nat.{ℕ, zero, suc, _<_, _≤_}

@@ -1,5 +1,6 @@
--- The code's tests: the side that names back, as it is chosen (`chosen`), a side and what it adds to the counts (`side-before` and those after it: each law is one
--- way through `count_side`), and the three sides of a row (`row-first` and those after it, through `count_row`). Assumes nothing.
+-- The code's tests: the side that names back, as it is chosen (`chosen`), a side and what it adds
+-- to the counts (`side-before` and those after it: each law is one way through `count_side`), and
+-- the three sides of a row (`row-first` and those after it, through `count_row`). Assumes nothing.
 use mathlib.Core.Path.{_≡_, sym, _∙_, ap, subst}
 use mathlib.Core.Bool.{Bool, true, false, not, cond}
 use mathlib.Core.List.{List, []}

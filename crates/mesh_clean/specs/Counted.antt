@@ -1,4 +1,5 @@
--- What the second pass has seen after a side (`Counted`) and after a row (`RowCounted`). Assumes nothing.
+-- What the second pass has seen after a side (`Counted`) and after a row (`RowCounted`). Assumes
+-- nothing.
 use mathlib.Core.Path.{_≡_}
 use mathlib.Core.Bool.{true, cond}
 use Prim.Native.Nat.{ℕ, _+_}

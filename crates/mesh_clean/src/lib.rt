@@ -1,7 +1,9 @@
-// Whether a mesh is clean (`is_clean`): one that is has no fault (`clean-accepted`); of one that is not, mesh_faults tells the number. Two passes: the first (mesh_sound)
-// reads the rows in order, which brings a mesh that is not yet in the cache into it, so that the second's jumps from neighbour to neighbour cost little. The second
-// compares each shared edge once, from its later triangle, and counts: where no more sides name a later triangle than were compared, each of those was met
-// (proofs/Pairing.antt). Leans on mesh_sound and mesh.
+// Whether a mesh is clean (`is_clean`): one that is has no fault (`clean-accepted`); of one that is
+// not, mesh_faults tells the number. Two passes: the first (mesh_sound) reads the rows in order,
+// which brings a mesh that is not yet in the cache into it, so that the second's jumps from
+// neighbour to neighbour cost little. The second compares each shared edge once, from its later
+// triangle, and counts: where no more sides name a later triangle than were compared, each of those
+// was met (proofs/Pairing.antt). Leans on mesh_sound and mesh.
 ghost use mathlib.Core.Path.{_≡_};
 ghost use mathlib.Core.Bool.{cond};
 ghost use Prim.Native.Nat.{_+_, _<_, _≤_, _^_};
@@ -15,7 +17,8 @@ ghost use Rattle.mesh_clean.specs.Counted.{Counted, RowCounted};
 use mesh::NIL_INDEX;
 use mesh::Row;
 
-// Vertex i of a row as one number, its coordinates' 32 bits side by side, so that two points are compared at once.
+// Vertex i of a row as one number, its coordinates' 32 bits side by side, so that two points are
+// compared at once.
 fn packed_of(row: Row, i: usize) -> u64
     requires { ⌜ i < 3 ⌝ }
     ensures { λ r. ⌜ Packs (vertex (rowTriangle row) i) r ⌝ }
@@ -34,9 +37,11 @@ fn choose(test: bool, yes: u64, no: u64) -> u64
     no
 }
 
-// Of a row that triangle k names over the edge from a to b, points as numbers: whether its first side that names k runs from b to a. That side is chosen
-// (conditional moves) and not branched on: which it is cannot be foretold, and a branch that is foretold wrong costs more than all the rest. Where no side
-// names k, what is chosen begins at 2^64 - 1 - b, which is not b, since the two add up to an odd number.
+// Of a row that triangle k names over the edge from a to b, points as numbers: whether its first
+// side that names k runs from b to a. That side is chosen (conditional moves) and not branched on:
+// which it is cannot be foretold, and a branch that is foretold wrong costs more than all the rest.
+// Where no side names k, what is chosen begins at 2^64 - 1 - b, which is not b, since the two add
+// up to an odd number.
 fn names_back(far: Row, k: usize, a: u64, b: u64) -> bool
     ensures { λ r. ⌜ ((p q : Pt) → Packs p a → Packs q b → r ≡ sharesBack (rowTriangle far) k p q) ⌝ }
 {
@@ -55,7 +60,8 @@ fn names_back(far: Row, k: usize, a: u64, b: u64) -> bool
     to == a
 }
 
-// What the second pass has seen so far: whether every edge that it asked for is shared, and how many sides name a triangle before their own, and after it.
+// What the second pass has seen so far: whether every edge that it asked for is shared, and how
+// many sides name a triangle before their own, and after it.
 pub struct Seen {
     pub shared: bool,
     pub before: usize,
@@ -72,8 +78,10 @@ fn one_if(test: bool) -> usize
     0
 }
 
-// The side of triangle k across whose edge, from a to b, it names n: counted, and where n is before k, whether n's first side that names k runs from b to a.
-// A side that names a triangle after its own is only counted, and one that names none passed over: one branch, n < k, tells both from the rest.
+// The side of triangle k across whose edge, from a to b, it names n: counted, and where n is before
+// k, whether n's first side that names k runs from b to a. A side that names a triangle after its
+// own is only counted, and one that names none passed over: one branch, n < k, tells both from the
+// rest.
 fn count_side(mesh: &[Row], k: usize, n: usize, a: u64, b: u64, s: Seen) -> Seen
     requires { ⌜ (k < length (now mesh)) × (s .before < 2 ^ 32) × (s .after < 2 ^ 32) ⌝ }
     ensures { λ r. ⌜ Counted (rowsMesh (now (mesh .entry))) k n a b s r ⌝ }
@@ -114,7 +122,8 @@ fn count_row(mesh: &[Row], k: usize, s: Seen) -> Seen
     count_side(mesh, k, mesh::neighbor_of(row, 2), v0, v1, s1)
 }
 
-// The second pass: whether the edge of every side that names a triangle before its own is shared, and there are as many sides that name one after it.
+// The second pass: whether the edge of every side that names a triangle before its own is shared,
+// and there are as many sides that name one after it.
 fn all_linked(mesh: &[Row]) -> bool
     requires { ⌜ length (now mesh) ≤ maxTriangles ⌝ }
     ensures { λ r. ⌜ r ≡ linked (rowsMesh (now (mesh .entry))) ⌝ }
@@ -135,7 +144,8 @@ fn all_linked(mesh: &[Row]) -> bool
     s.before == s.after
 }
 
-// Whether every triangle is sound, their doubled areas add up to at most 2^63 - 1, and every edge that has a neighbour is shared. Then the mesh has no fault.
+// Whether every triangle is sound, their doubled areas add up to at most 2^63 - 1, and every edge
+// that has a neighbour is shared. Then the mesh has no fault.
 pub fn is_clean(mesh: &[Row]) -> bool
     requires { ⌜ length (now mesh) ≤ maxTriangles ⌝ }
     ensures { λ r. ⌜ r ≡ clean (rowsMesh (now (mesh .entry))) ⌝ }

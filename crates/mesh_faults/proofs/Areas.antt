@@ -1,5 +1,5 @@
--- The areas of a mesh added up row by row: z of those before row k (`Sum`), at the start, one more, past 2^63 - 1, at the end.
--- Assumes nothing.
+-- The areas of a mesh added up row by row: z of those before row k (`Sum`), at the start, one more,
+-- past 2^63 - 1, at the end. Assumes nothing.
 use mathlib.Core.Path.{_≡_, refl, sym, _∙_, ap}
 use mathlib.Core.Bool.{Bool, true, false}
 use mathlib.Core.List.{List, [], _∷_, map}

@@ -1,6 +1,8 @@
-// The faults of a mesh: `mesh_fault` gives the first of 1, 2, 3, 4, 5, 6 and 11 that holds, as document 01 orders them, for any rows. 1 is a count;
-// a clean mesh (mesh_clean) is then accepted, and only where it is not clean are the passes made that tell the number: 3, 4 and 5 are one
-// (mesh_neighbors), 2, 6 and 11 one each, which may ask what those before it have shown. Leans on mesh_clean, mesh_sound, mesh_neighbors and mesh.
+// The faults of a mesh: `mesh_fault` gives the first of 1, 2, 3, 4, 5, 6 and 11 that holds, as
+// document 01 orders them, for any rows. 1 is a count; a clean mesh (mesh_clean) is then accepted,
+// and only where it is not clean are the passes made that tell the number: 3, 4 and 5 are one
+// (mesh_neighbors), 2, 6 and 11 one each, which may ask what those before it have shown. Leans on
+// mesh_clean, mesh_sound, mesh_neighbors and mesh.
 ghost use mathlib.Core.Path.{_≡_};
 ghost use mathlib.Core.Bool.{false};
 ghost use Rattle.integers.specs.Faults.{firstFault};

@@ -1,4 +1,5 @@
--- The header's tests as the code takes them, one after another. In order: `headerBroken`; the first fault. Assumes nothing.
+-- The header's tests as the code takes them, one after another. In order: `headerBroken`; the first
+-- fault. Assumes nothing.
 use mathlib.Core.Path.{_≡_, refl, sym, _∙_, ap}
 use mathlib.Core.Bool.{Bool, true, false, not}
 use mathlib.Core.List.{List, [], _∷_}

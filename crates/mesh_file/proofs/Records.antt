@@ -1,4 +1,5 @@
--- A file's records as rows. In order: a word's bits; a row by its nine numbers; a record more; the rows read, one more and all; the file's mesh. Assumes nothing.
+-- A file's records as rows. In order: a word's bits; a row by its nine numbers; a record more; the
+-- rows read, one more and all; the file's mesh. Assumes nothing.
 use mathlib.Core.Path.{_≡_, refl, sym, _∙_, ap}
 use mathlib.Core.List.{List, [], _∷_, _++_, map, map-append}
 use Prim.Native.Nat.{ℕ, zero, suc, _+_, _*_, _^_, _<_}

@@ -1,6 +1,8 @@
-// The mesh file read (document 01, "The file and its listing"): whether its header is sound, and its records as rows of nine numbers, the form in which
-// a mesh is lent. Each function equals its definition in listing's specs/File.antt. `header_fault` takes any bytes; the others read a header that is there,
-// and records that are. Leans on table_words (words of bytes), mesh (rows) and listing (the file).
+// The mesh file read (document 01, "The file and its listing"): whether its header is sound, and
+// its records as rows of nine numbers, the form in which a mesh is lent. Each function equals its
+// definition in listing's specs/File.antt. `header_fault` takes any bytes; the others read a header
+// that is there, and records that are. Leans on table_words (words of bytes), mesh (rows) and
+// listing (the file).
 ghost use mathlib.Core.Path.{_≡_};
 ghost use Prim.Native.Nat.{_+_, _*_, _≤_};
 ghost use lib.ListN.{length, drop};
@@ -44,7 +46,8 @@ pub fn strategy(bytes: &[u8]) -> ConvexSplitStrategy
     listing::strategy(word_at(bytes, 4))
 }
 
-// Whether the offset, the split or the total is wrong, or the total unlike the bytes there are. A count below 2^32 is below 2^38 in bytes.
+// Whether the offset, the split or the total is wrong, or the total unlike the bytes there are. A
+// count below 2^32 is below 2^38 in bytes.
 fn header_broken(bytes: &[u8]) -> bool
     requires { ⌜ 20 ≤ length (now bytes) ⌝ }
     ensures { λ r. ⌜ r ≡ headerBroken (now (bytes .entry)) ⌝ }

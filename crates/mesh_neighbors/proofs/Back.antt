@@ -1,4 +1,5 @@
--- What the triangle across names back, by the tests of the code on its row: each law is one way through `back_fault`. Assumes nothing.
+-- What the triangle across names back, by the tests of the code on its row: each law is one way
+-- through `back_fault`. Assumes nothing.
 use mathlib.Core.Path.{_≡_, sym, _∙_, ap}
 use mathlib.Core.Bool.{true, false, cond}
 use mathlib.Core.List.{List, []}

@@ -1,5 +1,6 @@
--- The earliest of two sides' or two triangles' faults (`both-told`), of three sides (`three-told`), and one pass over the triangles (`Judged`:
--- `judged-start`, `judged-turn`, `judged-end`). Assumes nothing.
+-- The earliest of two sides' or two triangles' faults (`both-told`), of three sides (`three-told`),
+-- and one pass over the triangles (`Judged`: `judged-start`, `judged-turn`, `judged-end`). Assumes
+-- nothing.
 use mathlib.Core.Path.{_≡_, refl, sym, _∙_, ap}
 use mathlib.Core.Bool.{Bool, true, false, cond}
 use Prim.Native.Nat.{ℕ, suc, _+_, _≤_, _<_}

@@ -1,5 +1,5 @@
--- The fault of a side: by the tests of the code (`side-none` and those after it), and as the mesh's kinds tell it (`side-kinds`,
--- `side-read`). Assumes nothing.
+-- The fault of a side: by the tests of the code (`side-none` and those after it), and as the mesh's
+-- kinds tell it (`side-kinds`, `side-read`). Assumes nothing.
 use mathlib.Core.Path.{_≡_, refl, sym, _∙_, ap}
 use mathlib.Core.Bool.{Bool, true, false, not, cond}
 use mathlib.Core.List.{List, []}

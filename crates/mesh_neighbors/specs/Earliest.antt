@@ -1,5 +1,6 @@
--- The first of faults 3, 4 and 5 that holds: of a mesh, of a triangle, of a side. They are numbered in the order in which document 01 tries them, so
--- the mesh's is the least that a side tells. Assumes nothing.
+-- The first of faults 3, 4 and 5 that holds: of a mesh, of a triangle, of a side. They are numbered
+-- in the order in which document 01 tries them, so the mesh's is the least that a side tells.
+-- Assumes nothing.
 use mathlib.Core.Bool.{Bool, true, false, cond}
 use mathlib.Core.List.{List, [], _∷_}
 use Prim.Native.Nat.{ℕ}
@@ -28,8 +29,8 @@ rowFault m k =
 unfoldable pub edgeFault : Pt → Pt → Pt → Pt → ℕ
 edgeFault a b p q = cond (cond (eqPt a p) (eqPt b q) false) 0 faultEdge
 
--- of triangle u, which triangle k names over the edge from a to b: 4 where u does not name k back exactly once, 5 where their edge does not run from
--- b to a
+-- of triangle u, which triangle k names over the edge from a to b: 4 where u does not name k back
+-- exactly once, 5 where their edge does not run from b to a
 unfoldable pub backFault : Triangle → ℕ → Pt → Pt → ℕ
 backFault u k a b =
     cond (eqb (u .n0) k)

@@ -1,5 +1,5 @@
-// The faults of a mesh's neighbours, 3, 4 and 5, in one pass: each side tells the first that holds of it, and the earliest that any side tells is
-// the mesh's (`neighbor_fault`). Leans on mesh.
+// The faults of a mesh's neighbours, 3, 4 and 5, in one pass: each side tells the first that holds
+// of it, and the earliest that any side tells is the mesh's (`neighbor_fault`). Leans on mesh.
 ghost use mathlib.Core.Path.{_≡_};
 ghost use Prim.Native.Nat.{_<_};
 ghost use lib.ListN.{length};
@@ -39,8 +39,9 @@ fn edge_fault(a: IntPoint, b: IntPoint, p: IntPoint, q: IntPoint) -> u32
     integers::fault::EDGE
 }
 
-// 4 where triangle n does not name k back exactly once, 5 where the edge that it shares so does not run from b to a; else 0. Each place of its row
-// is named, since a place known only at run time costs more than these tests.
+// 4 where triangle n does not name k back exactly once, 5 where the edge that it shares so does not
+// run from b to a; else 0. Each place of its row is named, since a place known only at run time
+// costs more than these tests.
 fn back_fault(mesh: &[Row], n: usize, k: usize, a: IntPoint, b: IntPoint) -> u32
     requires { ⌜ n < length (now mesh) ⌝ }
     ensures { λ r. ⌜ r ≡ backFault (triangleAt (rowsMesh (now (mesh .entry))) n) k (point a) (point b) ⌝ }
@@ -70,7 +71,8 @@ fn back_fault(mesh: &[Row], n: usize, k: usize, a: IntPoint, b: IntPoint) -> u32
     integers::fault::NAMING
 }
 
-// The first of 3, 4 and 5 that holds of n, the neighbour of triangle k across the edge from a to b; o and p are its other two. 0 for none.
+// The first of 3, 4 and 5 that holds of n, the neighbour of triangle k across the edge from a to b;
+// o and p are its other two. 0 for none.
 fn side_fault(mesh: &[Row], k: usize, n: usize, o: usize, p: usize, a: IntPoint, b: IntPoint) -> u32
     ensures { λ r. ⌜ r ≡ sideFault (rowsMesh (now (mesh .entry))) k n o p (point a) (point b) ⌝ }
 {

@@ -1,4 +1,5 @@
--- An accepted file's bounds hold its split parts' corners and are in range, so it is an operand without faults of its own (`file-is-operand`). Assumes nothing.
+-- An accepted file's bounds hold its split parts' corners and are in range, so it is an operand
+-- without faults of its own (`file-is-operand`). Assumes nothing.
 use mathlib.Core.Path.{_≡_, refl, sym, _∙_, ap, subst}
 use mathlib.Core.Bool.{true, false}
 use mathlib.Core.List.{List, [], _∷_, flatten}

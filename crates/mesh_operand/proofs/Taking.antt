@@ -1,4 +1,5 @@
--- What is told of a file as an operand: its refusal, or what stands on the front of the arrays. Assumes nothing.
+-- What is told of a file as an operand: its refusal, or what stands on the front of the arrays.
+-- Assumes nothing.
 use mathlib.Core.Path.{_≡_, sym, _∙_}
 use mathlib.Core.List.{List}
 use Prim.Native.Nat.{ℕ}

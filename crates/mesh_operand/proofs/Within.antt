@@ -1,4 +1,5 @@
--- Every corner of a split part, a centre too, is within any bounds of the mesh's vertices (`split-within`). Assumes nothing.
+-- Every corner of a split part, a centre too, is within any bounds of the mesh's vertices
+-- (`split-within`). Assumes nothing.
 use mathlib.Core.Path.{_≡_}
 use mathlib.Core.List.{List, [], _∷_}
 use Prim.Native.Nat.{ℕ, zero, suc, _<_}

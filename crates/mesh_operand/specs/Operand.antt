@@ -1,4 +1,5 @@
--- A mesh file as an operand of pairs: "An operand is a part table with bounds: least and greatest x and y of the original source". Assumes nothing.
+-- A mesh file as an operand of pairs: "An operand is a part table with bounds: least and greatest x
+-- and y of the original source". Assumes nothing.
 use mathlib.Core.Path.{_≡_}
 use mathlib.Core.List.{List}
 use Prim.Native.Nat.{ℕ, _+_, _*_, _≤_}
@@ -14,7 +15,8 @@ use Rattle.mesh_operand.specs.declared.Taken.{Taken}
 abbrev pub meshOperand : List ℕ → Operand
 meshOperand file = splitOperand (strategyOf (splitNumber file)) (cornerLimit file) (meshOf file) (meshBounds (meshOf file))
 
--- of an accepted file it is refused neither for its table (7), nor for a number (2), its bounds (9) or a winding (8), on either side, in a sum or a difference
+-- of an accepted file it is refused neither for its table (7), nor for a number (2), its bounds (9)
+-- or a winding (8), on either side, in a sum or a difference
 abbrev pub FileIsOperand : Type 0
 FileIsOperand = (file : List ℕ) → fileFault file ≡ 0 → Unfaulted (meshOperand file)
 

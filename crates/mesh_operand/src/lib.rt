@@ -1,5 +1,7 @@
-// A mesh file as an operand of pairs: its split parts with its mesh's own bounds (specs/Operand.antt). `take_operand` takes any bytes; `file_bounds` reads the bounds of an accepted file. That
-// pairs do not refuse such an operand for itself is `FileIsOperand` there. Leans on file_parts, mesh_bounds and split_operand.
+// A mesh file as an operand of pairs: its split parts with its mesh's own bounds
+// (specs/Operand.antt). `take_operand` takes any bytes; `file_bounds` reads the bounds of an
+// accepted file. That pairs do not refuse such an operand for itself is `FileIsOperand` there.
+// Leans on file_parts, mesh_bounds and split_operand.
 ghost use mathlib.Core.Path.{_≡_};
 ghost use Rattle.listing.specs.File.{meshOf, fileFault};
 ghost use Rattle.mesh_bounds.specs.Bounds.{meshBounds};
@@ -8,7 +10,8 @@ use file_parts::NUMBERS;
 use file_parts::STARTS;
 use table::IntRect;
 
-// What `take_operand` answers: the fault number, 0 for none, how many parts and corners were written, and the bounds; 0 where it refused.
+// What `take_operand` answers: the fault number, 0 for none, how many parts and corners were
+// written, and the bounds; 0 where it refused.
 pub struct Taken {
     pub fault: u32,
     pub parts: usize,
@@ -35,7 +38,8 @@ pub fn file_bounds(bytes: &[u8]) -> IntRect
     bounds_within(bytes, &mut rows[..n])
 }
 
-// A mesh file as an operand: its split parts on the front of the lent starts and corners, and its bounds, or its fault (13, 1, 2, 3, 4, 5, 6 or 11).
+// A mesh file as an operand: its split parts on the front of the lent starts and corners, and its
+// bounds, or its fault (13, 1, 2, 3, 4, 5, 6 or 11).
 pub fn take_operand(bytes: &[u8], starts: &mut [u32; STARTS], corners: &mut [i32; NUMBERS]) -> Taken
     ensures { λ r. ⌜ TakenFrom (now (bytes .entry)) r (now (starts .exit)) (now (corners .exit)) ⌝ }
 {

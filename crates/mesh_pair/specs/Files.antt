@@ -1,4 +1,5 @@
--- Two mesh files one after the other: the left one is the first bytes, as many as its header's total says, and the right one all the rest. Assumes nothing.
+-- Two mesh files one after the other: the left one is the first bytes, as many as its header's
+-- total says, and the right one all the rest. Assumes nothing.
 use mathlib.Core.Path.{_≡_}
 use mathlib.Core.Bool.{cond}
 use mathlib.Core.List.{List}
@@ -11,7 +12,8 @@ use Rattle.listing.specs.File.{totalBytes, fileFault}
 use Rattle.mesh_operand.specs.Operand.{meshOperand, Held}
 use Rattle.mesh_pair.specs.declared.Two.{Two}
 
--- a total past the bytes leaves no right file, and a left one that is shorter than its total, whose fault is 13; so is that of a total that ends too early
+-- a total past the bytes leaves no right file, and a left one that is shorter than its total, whose
+-- fault is 13; so is that of a total that ends too early
 unfoldable pub leftFile : List ℕ → List ℕ
 leftFile bytes = take (totalBytes bytes) bytes
 

@@ -1,5 +1,7 @@
-// Two mesh files one after the other, as two operands of pairs: the left file is as long as its header's total says, and the right one is all the rest (specs/Files.antt). `take_two` takes
-// any bytes; what it answers and leaves in the lent arrays is either file's operand, or the fault of the left file or, where that has none, of the right. Leans on mesh_operand.
+// Two mesh files one after the other, as two operands of pairs: the left file is as long as its
+// header's total says, and the right one is all the rest (specs/Files.antt). `take_two` takes any
+// bytes; what it answers and leaves in the lent arrays is either file's operand, or the fault of
+// the left file or, where that has none, of the right. Leans on mesh_operand.
 ghost use Rattle.mesh_pair.specs.Files.{Cut, TwoTaken};
 use file_parts::NUMBERS;
 use file_parts::STARTS;
@@ -14,7 +16,8 @@ pub struct Two {
     pub right: Taken,
 }
 
-// Where the right file begins: after as many bytes as the left one's header says, or at the end where there are fewer, or no such word.
+// Where the right file begins: after as many bytes as the left one's header says, or at the end
+// where there are fewer, or no such word.
 fn left_end(bytes: &[u8]) -> usize
     ensures { λ r. ⌜ Cut (now (bytes .entry)) r ⌝ }
 {
@@ -28,7 +31,8 @@ fn left_end(bytes: &[u8]) -> usize
     total
 }
 
-// Both files' operands, each on the front of its lent starts and corners, or the fault of the first file that has one.
+// Both files' operands, each on the front of its lent starts and corners, or the fault of the first
+// file that has one.
 pub fn take_two(
     bytes: &[u8],
     left_starts: &mut [u32; STARTS],

@@ -1,4 +1,5 @@
--- What a line that is right says fits 32 bits. In order: coordinates; points, neighbours and splits; triangles and the first line. Assumes nothing.
+-- What a line that is right says fits 32 bits. In order: coordinates; points, neighbours and
+-- splits; triangles and the first line. Assumes nothing.
 use mathlib.Core.Path.{_≡_}
 use mathlib.Core.Bool.{true}
 use mathlib.Core.List.{List, [], _∷_}

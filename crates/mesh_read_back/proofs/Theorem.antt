@@ -1,5 +1,5 @@
--- The file that a text is turned into reads back as the text says (`ReadBack` of `specs/ReadBack.antt`). In order: records; words; the header; the theorem.
--- Assumes nothing.
+-- The file that a text is turned into reads back as the text says (`ReadBack` of
+-- `specs/ReadBack.antt`). In order: records; words; the header; the theorem. Assumes nothing.
 use mathlib.Core.Path.{_≡_, refl, sym, _∙_, ap}
 use mathlib.Core.Bool.{Bool, true, false, not, cond}
 use mathlib.Core.List.{List, [], _∷_, _++_, map, flatten}

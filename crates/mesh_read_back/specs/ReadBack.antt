@@ -1,4 +1,5 @@
--- What the definitions of the mesh file (listing's `specs/File.antt`) read in the file that a text is turned into. Assumes nothing.
+-- What the definitions of the mesh file (listing's `specs/File.antt`) read in the file that a text
+-- is turned into. Assumes nothing.
 use mathlib.Core.Path.{_≡_}
 use mathlib.Core.Bool.{false}
 use mathlib.Core.List.{List}

@@ -1,5 +1,7 @@
--- The pass over the rows: what is known before row k (`Going`, where z is the areas before it), at the start, where a row or the total ends the pass, at the
--- next row, at the end; the rows from k on (`next-row`, `past-rows`); and what a mesh has that passes (`sound-parts`, `sound-rows`). Assumes nothing.
+-- The pass over the rows: what is known before row k (`Going`, where z is the areas before it), at
+-- the start, where a row or the total ends the pass, at the next row, at the end; the rows from k
+-- on (`next-row`, `past-rows`); and what a mesh has that passes (`sound-parts`, `sound-rows`).
+-- Assumes nothing.
 use mathlib.Core.Path.{_≡_, refl, sym, _∙_, ap}
 use mathlib.Core.Bool.{true, false, cond}
 use mathlib.Core.List.{List, [], _∷_, map}

@@ -1,4 +1,5 @@
--- A sound mesh: what one pass over the rows asks of each triangle by itself and of the total. Assumes nothing.
+-- A sound mesh: what one pass over the rows asks of each triangle by itself and of the total.
+-- Assumes nothing.
 use mathlib.Core.Bool.{Bool, true, false, not, cond}
 use mathlib.Core.List.{List, [], _∷_}
 use lib.IntN.{ℤ, pos, _+ℤ_}

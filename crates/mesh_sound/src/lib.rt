@@ -1,5 +1,6 @@
-// What a mesh is asked of each row by itself: on the grid, a doubled area above 0, and what the areas add up to. `all_sound` asks it of all rows in one pass, in
-// order; the tests of one row and the sum are those by which mesh_faults tells 2, 6 and 11. Leans on mesh.
+// What a mesh is asked of each row by itself: on the grid, a doubled area above 0, and what the
+// areas add up to. `all_sound` asks it of all rows in one pass, in order; the tests of one row and
+// the sum are those by which mesh_faults tells 2, 6 and 11. Leans on mesh.
 ghost use mathlib.Core.Path.{_≡_};
 ghost use lib.IntN.{pos, _+ℤ_};
 ghost use lib.Signed.{leZ, _≤ℤ_};

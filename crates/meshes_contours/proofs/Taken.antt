@@ -1,4 +1,5 @@
--- Each triangle of either mesh is taken into exactly one part (`either-taken-whole`): there is room for the parts of any accepted mesh. Assumes nothing.
+-- Each triangle of either mesh is taken into exactly one part (`either-taken-whole`): there is room
+-- for the parts of any accepted mesh. Assumes nothing.
 use mathlib.Core.Path.{_≡_, refl, _∙_}
 use mathlib.Core.List.{List, [], _∷_, flatten}
 use Prim.Native.Nat.{ℕ, _/_, _≤_}

@@ -1,4 +1,5 @@
--- The chain from two accepted mesh files to the contours that are printed of them; proved in proofs/. Assumes nothing.
+-- The chain from two accepted mesh files to the contours that are printed of them; proved in
+-- proofs/. Assumes nothing.
 use mathlib.Core.Path.{_≡_}
 use mathlib.Core.List.{List, [], _++_, map, flatten}
 use Prim.Native.Nat.{ℕ, _<_, _≤_}
@@ -31,7 +32,8 @@ headOf bytes =
     let K = pairContours (reflectedOf bytes) l r in
     pairsHead (length K) (length (flatten K)) (resultBounds (reflectedOf bytes) (l .bounds) (r .bounds))
 
--- after the head line, one line a pair of parts, left part 0 with each right part, then left part 1 ..: K i j is the contour on the line of left part i and right part j
+-- after the head line, one line a pair of parts, left part 0 with each right part, then left part 1
+-- ..: K i j is the contour on the line of left part i and right part j
 abbrev pub linesWith : (ℕ → ℕ → List Pt) → ℕ → ℕ → List ℕ
 linesWith K m n = flatten (map (λ i. flatten (map (λ j. pairLine i j (K i j)) (upTo n))) (upTo m))
 
@@ -40,11 +42,13 @@ pub record PrintedExact (bytes : List ℕ) : Type 0 where
   pub text : contoursText bytes ≡ headOf bytes ++ linesWith contour (length (leftParts bytes)) (length (rightParts bytes))
   pub exact : (i j : ℕ) → i < length (leftParts bytes) → j < length (rightParts bytes) → Exact (reflectedOf bytes) (getD (leftParts bytes) i []) (getD (rightParts bytes) j []) (contour i j)
 
--- every contour that is printed of two files that are not refused is the exact sum or difference of its two parts
+-- every contour that is printed of two files that are not refused is the exact sum or difference of
+-- its two parts
 abbrev pub EveryPrintedExact : Type 0
 EveryPrintedExact = (bytes : List ℕ) → contoursFault bytes ≡ 0 → PrintedExact bytes
 
--- "before any split each triangle is taken into exactly one part": of either mesh, in any lent starts and corners with room for the parts of a mesh of 1,024 triangles
+-- "before any split each triangle is taken into exactly one part": of either mesh, in any lent
+-- starts and corners with room for the parts of a mesh of 1,024 triangles
 pub record BothTaken (bytes : List ℕ) (s : List ℕ) (c : List ℤ) : Type 0 where
   pub left : TakenWhole (meshOf (leftFile (drop 4 bytes))) s c
   pub right : TakenWhole (meshOf (rightFile (drop 4 bytes))) s c

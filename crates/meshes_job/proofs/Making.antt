@@ -1,4 +1,5 @@
--- The job of two files, as the code puts it: room for both operands; the words of both; a refusal; what is answered and left. Assumes nothing.
+-- The job of two files, as the code puts it: room for both operands; the words of both; a refusal;
+-- what is answered and left. Assumes nothing.
 use mathlib.Core.Path.{_≡_, refl, sym, _∙_, ap, subst}
 use mathlib.Core.List.{List, [], _∷_, _++_, flatten}
 use Prim.Native.Nat.{ℕ, _+_, _*_, _-_, _<_, _≤_}

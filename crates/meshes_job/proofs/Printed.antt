@@ -1,4 +1,5 @@
--- What is printed of two mesh files (`contours-printed`), and by which numbers they are refused (`refused-by-number`). Assumes nothing.
+-- What is printed of two mesh files (`contours-printed`), and by which numbers they are refused
+-- (`refused-by-number`). Assumes nothing.
 use mathlib.Core.Path.{_≡_, refl, sym, _∙_, ap}
 use mathlib.Core.Bool.{Bool, true, false, cond}
 use mathlib.Core.List.{List, [], _∷_, _++_, map}

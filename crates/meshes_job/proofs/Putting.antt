@@ -1,4 +1,5 @@
--- Words put one after another: bounds, an operand; and whether there is an operation. Assumes nothing.
+-- Words put one after another: bounds, an operand; and whether there is an operation. Assumes
+-- nothing.
 use mathlib.Core.Path.{_≡_, refl, sym, _∙_, ap}
 use mathlib.Core.List.{List, [], _∷_, _++_, map}
 use Prim.Native.Nat.{ℕ, _+_, _*_, _-_, _/_, _<_, _≤_}

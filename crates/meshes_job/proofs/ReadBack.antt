@@ -1,5 +1,6 @@
--- A job's bytes read back. In order: one operand, where its words stand (`operand-read`); the job of two operands without faults of their own (`job-read`); that of two files
--- (`job-read-back`). Assumes nothing.
+-- A job's bytes read back. In order: one operand, where its words stand (`operand-read`); the job
+-- of two operands without faults of their own (`job-read`); that of two files (`job-read-back`).
+-- Assumes nothing.
 use mathlib.Core.Path.{_≡_, refl, sym, _∙_, ap, ap₂}
 use mathlib.Core.Bool.{Bool, false}
 use mathlib.Core.List.{List, [], _∷_, _++_, map, append-assoc, append-nil}

@@ -1,4 +1,5 @@
--- Two accepted files are both operands without faults of their own, so that only the pair's are left (`meshes-paired`). Assumes nothing.
+-- Two accepted files are both operands without faults of their own, so that only the pair's are
+-- left (`meshes-paired`). Assumes nothing.
 use mathlib.Core.Path.{_≡_, refl, sym, _∙_, ap}
 use mathlib.Core.Bool.{false, cond}
 use mathlib.Core.List.{List}

@@ -1,4 +1,5 @@
--- The pair job of two mesh files. The input: "one u32 (0 sum, 1 difference), then a left mesh file, then a right mesh file, each as long as its own header's total says". Assumes nothing.
+-- The pair job of two mesh files. The input: "one u32 (0 sum, 1 difference), then a left mesh file,
+-- then a right mesh file, each as long as its own header's total says". Assumes nothing.
 use mathlib.Core.Path.{_≡_}
 use mathlib.Core.Bool.{cond}
 use mathlib.Core.List.{List, [], _∷_, _++_, map}
@@ -17,7 +18,8 @@ use Rattle.mesh_pair.specs.Files.{filesFault, leftOperand, rightOperand}
 
 -- ---- a pair job
 
--- "four i32 (least x, greatest x, least y, greatest y) and a stored table": "part count, corner count, starts, corners, each 32 bits"
+-- "four i32 (least x, greatest x, least y, greatest y) and a stored table": "part count, corner
+-- count, starts, corners, each 32 bits"
 unfoldable pub operandWords : Operand → List ℕ
 operandWords o = map unsigned (boundsList (o .bounds)) ++ (partCount (o .starts) ∷ length (o .corners) / 2 ∷ (o .starts ++ map unsigned (o .corners)))
 
@@ -42,6 +44,7 @@ jobOf bytes = jobBytes (wordAt bytes 0) (leftOperand (drop 4 bytes)) (rightOpera
 abbrev pub jobAnswer : List ℕ → Stored
 jobAnswer bytes = cond (eqb (meshesFault bytes) 0) (record { fault = 0; length = length (jobOf bytes) }) (record { fault = meshesFault bytes; length = 0 })
 
--- ---- what is printed: the files' refusal, or what the pairs program prints of the job, which refuses with 10 and 20
+-- ---- what is printed: the files' refusal, or what the pairs program prints of the job, which
+-- refuses with 10 and 20
 unfoldable pub contoursText : List ℕ → List ℕ
 contoursText bytes = cond (eqb (meshesFault bytes) 0) (pairsText (jobOf bytes)) (refusal (meshesFault bytes))

@@ -1,5 +1,7 @@
--- What the contours program prints, of the two files themselves: their job, read as the pairs program reads it, is the operation and the two files' operands (`JobReadBack`), so it prints
--- the pairs of those, or one of ten refusals (`ContoursPrinted`, `RefusedByNumber`). Proved in proofs/. Assumes nothing.
+-- What the contours program prints, of the two files themselves: their job, read as the pairs
+-- program reads it, is the operation and the two files' operands (`JobReadBack`), so it prints the
+-- pairs of those, or one of ten refusals (`ContoursPrinted`, `RefusedByNumber`). Proved in proofs/.
+-- Assumes nothing.
 use mathlib.Core.Path.{_≡_}
 use mathlib.Core.Bool.{Bool, cond}
 use mathlib.Core.Logic.{_⊎_}

@@ -1,4 +1,5 @@
--- What two accepted files' operands can be refused for: the result's bounds (10) and an empty mesh (20), and nothing else. Proved in proofs/. Assumes nothing.
+-- What two accepted files' operands can be refused for: the result's bounds (10) and an empty mesh
+-- (20), and nothing else. Proved in proofs/. Assumes nothing.
 use mathlib.Core.Path.{_≡_}
 use mathlib.Core.Bool.{Bool}
 use mathlib.Core.List.{List, [], _∷_}

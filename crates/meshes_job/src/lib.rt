@@ -1,5 +1,7 @@
-// The pair job of two mesh files: an operation (0 sum, 1 difference), a left mesh file, a right mesh file. `make_job` takes any bytes and lent bytes that hold the longest job, and leaves on
-// their front the job (pairs_job/specs/Job.antt) of the two files' split parts with their meshes' own bounds, or tells a fault and writes nothing. What is printed of it is `contoursText` of
+// The pair job of two mesh files: an operation (0 sum, 1 difference), a left mesh file, a right
+// mesh file. `make_job` takes any bytes and lent bytes that hold the longest job, and leaves on
+// their front the job (pairs_job/specs/Job.antt) of the two files' split parts with their meshes'
+// own bounds, or tells a fault and writes nothing. What is printed of it is `contoursText` of
 // specs/Job.antt. Leans on mesh_pair, pairs_job and table_write.
 ghost use mathlib.Core.Path.{_≡_};
 ghost use mathlib.Core.List.{map};
@@ -19,7 +21,8 @@ use table_words::put_word;
 use table_words::word_at;
 use table_write::Stored;
 
-// As many bytes as the longest job has: an operation, and of either operand four bounds, two counts, the starts and the corners' numbers.
+// As many bytes as the longest job has: an operation, and of either operand four bounds, two
+// counts, the starts and the corners' numbers.
 pub const JOB: usize = WORD * (1 + 2 * (4 + 2 + STARTS + NUMBERS));
 
 // Puts four bounds as words from word k on.
@@ -48,7 +51,8 @@ fn put_operand(b: IntRect, starts: &[u32], corners: &[i32], k: usize, out: &mut 
     k + 6 + parts + numbers
 }
 
-// Puts the job of an operation and two operands, each bounds, starts and corners' numbers, on the front of the lent bytes; answers how many bytes it has.
+// Puts the job of an operation and two operands, each bounds, starts and corners' numbers, on the
+// front of the lent bytes; answers how many bytes it has.
 fn put_job(
     op: u32,
     left: IntRect,
@@ -84,8 +88,9 @@ fn operation_fault(bytes: &[u8]) -> u32
     0
 }
 
-// The pair job of two mesh files on the front of the lent bytes, with how many there are; or a fault: 13 for fewer than four bytes or another operation, then the left file's, then the
-// right's (13, 1, 2, 3, 4, 5, 6 or 11).
+// The pair job of two mesh files on the front of the lent bytes, with how many there are; or a
+// fault: 13 for fewer than four bytes or another operation, then the left file's, then the right's
+// (13, 1, 2, 3, 4, 5, 6 or 11).
 pub fn make_job(bytes: &[u8], out: &mut [u8; JOB]) -> Stored
     ensures told { λ r. ⌜ r ≡ jobAnswer (now (bytes .entry)) ⌝ }
     ensures bytes { λ r. ⌜ now (out .exit) ≡ written (meshesFault (now (bytes .entry))) (jobOf (now (bytes .entry))) (now (out .entry)) ⌝ }

@@ -1,4 +1,5 @@
--- The answer for the pairs of both files' operands is that for the files (`answered`), and its text is short (`answer-size`). Assumes nothing.
+-- The answer for the pairs of both files' operands is that for the files (`answered`), and its text
+-- is short (`answer-size`). Assumes nothing.
 use mathlib.Core.Path.{_≡_, refl, sym, _∙_, ap, subst}
 use mathlib.Core.Bool.{true, cond}
 use mathlib.Core.List.{List, []}

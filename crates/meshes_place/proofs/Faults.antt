@@ -1,5 +1,6 @@
--- The fault of a place, by the tests that code makes (`too-short`, `off-grid`, `on-grid`), and what none tells (`point-good`); a refusal of the place or of a file (`point-refused`, `files-refused`).
--- Assumes nothing.
+-- The fault of a place, by the tests that code makes (`too-short`, `off-grid`, `on-grid`), and what
+-- none tells (`point-good`); a refusal of the place or of a file (`point-refused`,
+-- `files-refused`). Assumes nothing.
 use mathlib.Core.Path.{_≡_, sym, _∙_, ap}
 use mathlib.Core.Bool.{true, false, not}
 use mathlib.Core.List.{List, [], _∷_}

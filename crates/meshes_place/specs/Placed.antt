@@ -1,4 +1,5 @@
--- A place and two mesh files: "two i32, then a left mesh file, then a right mesh file, each as long as its own header's total says". Where the right mesh, moved by the place, lies by the left one,
+-- A place and two mesh files: "two i32, then a left mesh file, then a right mesh file, each as long
+-- as its own header's total says". Where the right mesh, moved by the place, lies by the left one,
 -- and what is printed of it. Assumes nothing.
 use mathlib.Core.Path.{_≡_}
 use mathlib.Core.Bool.{true, not, cond}
@@ -42,7 +43,8 @@ placedFault bytes =
 
 -- ---- what is told and printed
 
--- where the place lies by the contours of all pairs of the difference of the two meshes' split parts
+-- where the place lies by the contours of all pairs of the difference of the two meshes' split
+-- parts
 unfoldable pub contactOf : List ℕ → Contact
 contactOf bytes = contactBy (placeOf bytes) (pairContours true (leftOperand (filesOf bytes)) (rightOperand (filesOf bytes)))
 

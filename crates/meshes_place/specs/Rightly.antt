@@ -1,4 +1,5 @@
--- What is printed of a place and two mesh files is so (`PlacedRightly`); proved in proofs/. Assumes nothing.
+-- What is printed of a place and two mesh files is so (`PlacedRightly`); proved in proofs/. Assumes
+-- nothing.
 use mathlib.Core.Path.{_≡_}
 use mathlib.Core.List.{List}
 use Prim.Native.Nat.{ℕ}
@@ -7,7 +8,8 @@ use Rattle.mesh_pair.specs.Files.{leftFile, rightFile}
 use Rattle.placement_meshes.specs.Rightly.{Rightly}
 use Rattle.meshes_place.specs.Placed.{placeOf, filesOf, placedFault, contactOf, contactText, placedText}
 
--- overlapping exactly where the right mesh, moved by the place, overlaps the left one, touching exactly where they meet and do not overlap, apart else
+-- overlapping exactly where the right mesh, moved by the place, overlaps the left one, touching
+-- exactly where they meet and do not overlap, apart else
 pub record PlacedRight (bytes : List ℕ) : Type 0 where
   pub text : placedText bytes ≡ contactText (contactOf bytes)
   pub rightly : Rightly (contactOf bytes) (meshOf (leftFile (filesOf bytes))) (meshOf (rightFile (filesOf bytes))) (placeOf bytes)

@@ -1,5 +1,8 @@
-// Where the right of two meshes, moved by a place, lies by the left one: `placed` takes any bytes, a place and two mesh files, and tells apart, touching or overlapping, or the first fault;
-// `put_placed` puts that as a line of text. What they answer are equations with specs/Placed.antt; that it is so of the meshes is specs/Rightly.antt. Leans on mesh_pair, pairs_place, placement and text.
+// Where the right of two meshes, moved by a place, lies by the left one: `placed` takes any bytes,
+// a place and two mesh files, and tells apart, touching or overlapping, or the first fault;
+// `put_placed` puts that as a line of text. What they answer are equations with specs/Placed.antt;
+// that it is so of the meshes is specs/Rightly.antt. Leans on mesh_pair, pairs_place, placement and
+// text.
 ghost use mathlib.Core.Path.{_≡_};
 ghost use lib.ListN.{length};
 ghost use Prim.Native.Nat.{_≤_};
@@ -45,7 +48,8 @@ fn point_fault(bytes: &[u8]) -> u32
     integers::fault::RANGE
 }
 
-// Where the right mesh, moved by the place, lies by the left one; or the fault: 13 or 2 of the place, then the left file's, then the right's (13, 1, 2, 3, 4, 5, 6 or 11), then 10 and 20.
+// Where the right mesh, moved by the place, lies by the left one; or the fault: 13 or 2 of the
+// place, then the left file's, then the right's (13, 1, 2, 3, 4, 5, 6 or 11), then 10 and 20.
 pub fn placed(bytes: &[u8]) -> Placed
     ensures { λ r. ⌜ r ≡ placedOf (now (bytes .entry)) ⌝ }
 {
@@ -102,7 +106,8 @@ fn put_answer(answer: Placed, out: &mut [u8; LINE]) -> usize
     }
 }
 
-// The same of a place and two mesh files. The last clause says again, in io's words, that the line stands within the lent bytes, for a caller that lends them on.
+// The same of a place and two mesh files. The last clause says again, in io's words, that the line
+// stands within the lent bytes, for a caller that lends them on.
 pub fn put_placed(bytes: &[u8], out: &mut [u8; LINE]) -> usize
     ensures size { λ r. ⌜ r ≡ length (placedText (now (bytes .entry))) ⌝ }
     ensures text { λ r. ⌜ now (out .exit) ≡ overlay (placedText (now (bytes .entry))) (now (out .entry)) ⌝ }

@@ -1,4 +1,5 @@
--- Contour i · R + j of the result is that of left part i and right part j (`each-pair`), and how many there are (`length-pairs`). Assumes nothing.
+-- Contour i · R + j of the result is that of left part i and right part j (`each-pair`), and how
+-- many there are (`length-pairs`). Assumes nothing.
 use mathlib.Core.Path.{_≡_, refl, sym, _∙_, ap}
 use mathlib.Core.Bool.{Bool}
 use mathlib.Core.List.{List, [], _∷_, _++_, map, flatten}

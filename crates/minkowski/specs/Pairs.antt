@@ -1,4 +1,5 @@
--- All pairs of two operands (document 01): the result table, its bounds, and its refusals. Assumes nothing.
+-- All pairs of two operands (document 01): the result table, its bounds, and its refusals. Assumes
+-- nothing.
 use mathlib.Core.Path.{_≡_}
 use mathlib.Core.Bool.{Bool, true, false, cond}
 use mathlib.Core.List.{List, [], _∷_, _++_, map, flatten}
@@ -26,7 +27,8 @@ operandParts o = tableParts (o .starts) (o .corners)
 
 -- ---- the result
 
--- "one contour for each left part and, within it, each right part in order; a pair that emits nothing has an empty contour"
+-- "one contour for each left part and, within it, each right part in order; a pair that emits
+-- nothing has an empty contour"
 unfoldable pub pairsOf : Bool → List (List Pt) → List (List Pt) → List (List Pt)
 pairsOf reflected ls rs = flatten (map (λ a. map (pairContour reflected a) rs) ls)
 
@@ -65,7 +67,8 @@ unfoldable pub someWindingLeaves : Bool → List (List Pt) → Bool
 someWindingLeaves reflected [] = false
 someWindingLeaves reflected (p ∷ ps) = cond (windingLeaves reflected p) true (someWindingLeaves reflected ps)
 
--- "Pairs: 7, 2, 9, 8, 10, 20, 22, 21", "left before right"; 10: "a result bound ≤ −2^30 or ≥ 2^30", 20: "an operand without parts"
+-- "Pairs: 7, 2, 9, 8, 10, 20, 22, 21", "left before right"; 10: "a result bound ≤ −2^30 or ≥ 2^30",
+-- 20: "an operand without parts"
 abbrev pub pairKinds : Bool → Operand → Operand → List Kind
 pairKinds reflected l r =
     (faultRules, tableBroken (l .starts) (l .corners)) ∷ (faultRules, tableBroken (r .starts) (r .corners))
@@ -101,7 +104,8 @@ pairsStarts reflected l r s c = written (pairsFault reflected l r (length s) (le
 abbrev pub pairsCorners : Bool → Operand → Operand → List ℕ → List ℤ → List ℤ
 pairsCorners reflected l r s c = written (pairsFault reflected l r (length s) (length c)) (cornersOf (pairContours reflected l r)) c
 
--- ---- demand 3 of the table: "Take any left and any right contour of an accepted pair .. Whatever the other parts are, the whole contour emitted"
+-- ---- demand 3 of the table: "Take any left and any right contour of an accepted pair .. Whatever
+-- the other parts are, the whole contour emitted"
 
 -- contour i · R + j of the result is that of left part i and right part j
 abbrev pub EachPair : Type 0

@@ -1,5 +1,5 @@
--- What a call on two operands answers and leaves: a refusal (`refused`), for want of room (`starts-refused`, `corners-refused`), and the contours written
--- (`handed`). Assumes nothing.
+-- What a call on two operands answers and leaves: a refusal (`refused`), for want of room
+-- (`starts-refused`, `corners-refused`), and the contours written (`handed`). Assumes nothing.
 use mathlib.Core.Path.{_≡_, refl, sym, _∙_, ap}
 use mathlib.Core.List.{List, [], _∷_, flatten}
 use Prim.Native.Nat.{ℕ, suc, _/_, _≤_, _<_}

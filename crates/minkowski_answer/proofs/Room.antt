@@ -1,5 +1,5 @@
--- The room for all pairs of two operands' walks: what a test of it tells (`more-corners`, `no-more`, `most-fit`), and that there is room for them (`room-for`). Assumes
--- nothing.
+-- The room for all pairs of two operands' walks: what a test of it tells (`more-corners`,
+-- `no-more`, `most-fit`), and that there is room for them (`room-for`). Assumes nothing.
 use mathlib.Core.Path.{_≡_, sym, _∙_}
 use mathlib.Core.Bool.{Bool, true, false}
 use mathlib.Core.List.{List, flatten}

@@ -1,5 +1,7 @@
-// The answer of a call on two operands whose parts are unrolled to walks: refused for want of room (22, then 21), or all pairs written into the lent starts
-// and corners (`hand_out`). Corners are counted only where the most that there can be have no room. Leans on minkowski_rows and minkowski_count.
+// The answer of a call on two operands whose parts are unrolled to walks: refused for want of room
+// (22, then 21), or all pairs written into the lent starts and corners (`hand_out`). Corners are
+// counted only where the most that there can be have no room. Leans on minkowski_rows and
+// minkowski_count.
 ghost use mathlib.Core.Path.{_≡_};
 ghost use mathlib.Core.List.{flatten};
 ghost use lib.Dec.{ltb};
@@ -26,7 +28,8 @@ pub fn refusal(fault: u32) -> PairCounts
     }
 }
 
-// Whether the pairs have more corners than `room`: no where the most that there can be have room, and else as counting tells.
+// Whether the pairs have more corners than `room`: no where the most that there can be have room,
+// and else as counting tells.
 fn no_room(
     firsts: &[u32],
     points: &[[i32; 2]],
@@ -44,8 +47,8 @@ fn no_room(
     minkowski_count::count_all(firsts, points, left, right) > room
 }
 
-// All pairs of two operands' walks, within `bounds`, on the front of the lent starts and corners. Refused with 22 or 21, and nothing changed, where there are
-// too few places.
+// All pairs of two operands' walks, within `bounds`, on the front of the lent starts and corners.
+// Refused with 22 or 21, and nothing changed, where there are too few places.
 pub fn hand_out(
     firsts: &[u32],
     points: &[[i32; 2]],

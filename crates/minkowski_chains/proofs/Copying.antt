@@ -1,5 +1,6 @@
--- Numbers copied from a work buffer into the lent ones after the first `at` corners, one a turn (`Copied`): from the start (`copied-start`) by turns (`copied-next`) to
--- corners put (`copied-end`). Assumes nothing.
+-- Numbers copied from a work buffer into the lent ones after the first `at` corners, one a turn
+-- (`Copied`): from the start (`copied-start`) by turns (`copied-next`) to corners put
+-- (`copied-end`). Assumes nothing.
 use mathlib.Core.Path.{_≡_, refl, sym, _∙_, ap}
 use mathlib.Core.List.{List, _++_, append-nil}
 use Prim.Native.Nat.{ℕ, _+_, _*_, _<_, _-_, _≤_}

@@ -13,7 +13,8 @@ ghost use Rattle.minkowski_order.specs.Order.{pairContourAt, Used, More};
 ghost use Rattle.minkowski_chains.specs.Contours.{fourFrom, workCorners, PairRooms, PutOn, PutTo};
 use minkowski_order::Place;
 
-// The most points of two operands whose pairs have short work buffers, and the numbers of a buffer that holds the corners of any pair.
+// The most points of two operands whose pairs have short work buffers, and the numbers of a buffer
+// that holds the corners of any pair.
 const SMALL: usize = 512;
 
 const WORK: usize = corners::WIDTH * (2 * table::MAX_CONTOUR);
@@ -78,7 +79,8 @@ fn append_next(
     minkowski_order::after(s, left, right, k)
 }
 
-// The contours of the four pairs from a place on are put: merged side by side, the first in its place and the others by way of work buffers.
+// The contours of the four pairs from a place on are put: merged side by side, the first in its
+// place and the others by way of work buffers.
 fn append_four(
     firsts: &[u32],
     points: &[[i32; 2]],
@@ -271,8 +273,9 @@ fn append_large(
     )
 }
 
-// The contours of all pairs, each left walk with each right one in order, on the front of the lent starts and corners; answers how many corners they have. Few points
-// have short work buffers, which are faster to set up.
+// The contours of all pairs, each left walk with each right one in order, on the front of the lent
+// starts and corners; answers how many corners they have. Few points have short work buffers, which
+// are faster to set up.
 pub fn append_keyed(
     firsts: &[u32],
     points: &[[i32; 2]],

@@ -1,5 +1,6 @@
--- Counting corners a pair and a row at a time: a merge fits the work buffer (`fits-work`); one more pair of a row, one more row (`row-turn`, `row-fits`, `all-turn`,
--- `all-fits`), and their ends (`row-end`, `all-end`). Assumes nothing.
+-- Counting corners a pair and a row at a time: a merge fits the work buffer (`fits-work`); one more
+-- pair of a row, one more row (`row-turn`, `row-fits`, `all-turn`, `all-fits`), and their ends
+-- (`row-end`, `all-end`). Assumes nothing.
 use mathlib.Core.Path.{_≡_, sym, _∙_, ap}
 use mathlib.Core.List.{List, [], _∷_, _++_, flatten, append-nil}
 use Prim.Native.Nat.{ℕ, suc, _+_, _≤_, _<_}
@@ -16,7 +17,8 @@ use Rattle.pair_merge.specs.Putting.{RoomAfter}
 use Rattle.pair_walks.specs.Walks.{mergedRow, mergedAll}
 use Rattle.pair_walks.proofs.Operands.{row-suc, row-whole, all-suc, all-whole}
 
--- how many corners the merges of one walk with each of some have, and those of each of some with each of others
+-- how many corners the merges of one walk with each of some have, and those of each of some with
+-- each of others
 abbrev pub rowCount : List Pt → List (List Pt) → ℕ
 rowCount a rs = length (flatten (mergedRow a rs))
 

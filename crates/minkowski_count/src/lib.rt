@@ -1,5 +1,6 @@
-// How many corners all pairs of two operands' walks have (`count_all`), for fault 21 where the bound on corners does not tell: each pair is merged into one work
-// buffer (`count_pair`), by the same code that puts them into the lent one. Leans on minkowski_rows and pair_walks' definitions.
+// How many corners all pairs of two operands' walks have (`count_all`), for fault 21 where the
+// bound on corners does not tell: each pair is merged into one work buffer (`count_pair`), by the
+// same code that puts them into the lent one. Leans on minkowski_rows and pair_walks' definitions.
 ghost use mathlib.Core.Path.{_≡_};
 ghost use mathlib.Core.List.{flatten};
 ghost use Prim.Native.Nat.{_+_, _*_, _<_, _≤_, _^_};
@@ -9,7 +10,8 @@ ghost use Rattle.pair_merge.specs.Putting.{CornersPut};
 ghost use Rattle.pair_walks.specs.Walks.{Walks, contoursIn, pairIn};
 ghost use Rattle.minkowski_rows.specs.Rows.{mergedRowIn};
 
-// How many corners the contour of left walk p and right walk q has, which is put on the front of the work buffer.
+// How many corners the contour of left walk p and right walk q has, which is put on the front of
+// the work buffer.
 fn count_pair(
     firsts: &[u32],
     points: &[[i32; 2]],

@@ -1,5 +1,7 @@
--- The bound on all corners as pairs are counted: any pair has no more corners than edges (`any-few`), so the bound is one at each place (`bounds-most`) and exact at the last
--- (`bounds-end`); from the edges of all pairs (`bounds-start`) a pair or four at a time (`bounds-next`, `bounds-four`). Assumes nothing.
+-- The bound on all corners as pairs are counted: any pair has no more corners than edges
+-- (`any-few`), so the bound is one at each place (`bounds-most`) and exact at the last
+-- (`bounds-end`); from the edges of all pairs (`bounds-start`) a pair or four at a time
+-- (`bounds-next`, `bounds-four`). Assumes nothing.
 use mathlib.Core.Path.{_≡_, refl, sym, _∙_, ap, subst}
 use mathlib.Core.List.{List, [], _∷_, flatten}
 use Prim.Native.Nat.{ℕ, zero, suc, _+_, _*_, _<_, _-_, _≤_, _/_, _%_}

@@ -1,5 +1,6 @@
--- Corners counted: how many all contours have (`allCorners`), a bound on them at a place (`Bounds`),
--- lowered as pairs are counted (`Lowered`), and what it tells in the end (`Above`). Assumes nothing.
+-- Corners counted: how many all contours have (`allCorners`), a bound on them at a place
+-- (`Bounds`), lowered as pairs are counted (`Lowered`), and what it tells in the end (`Above`).
+-- Assumes nothing.
 use mathlib.Core.Path.{_≡_}
 use mathlib.Core.List.{List, [], flatten}
 use Prim.Native.Nat.{ℕ, _+_, _*_, _-_, _≤_, _<_}

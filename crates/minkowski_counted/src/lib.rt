@@ -1,6 +1,6 @@
 // How many corners all pairs of two operands' walks have, by numbers alone (pair_chains):
-// `no_room_keyed` and `count_keyed`. A bound on them is lowered pair by pair, four side by side, and
-// no further than the question asks. Leans on minkowski_order and pair_chains.
+// `no_room_keyed` and `count_keyed`. A bound on them is lowered pair by pair, four side by side,
+// and no further than the question asks. Leans on minkowski_order and pair_chains.
 ghost use mathlib.Core.Path.{_≡_};
 ghost use Prim.Native.Nat.{_+_, _*_, _-_, _<_, _≤_, _^_};
 ghost use lib.Dec.{ltb};
@@ -108,7 +108,8 @@ fn lower_four(
     }
 }
 
-// The bound once pairs are counted, four at a time, but the last few; no more are counted once it is within `room`.
+// The bound once pairs are counted, four at a time, but the last few; no more are counted once it
+// is within `room`.
 fn lower_fours(
     firsts: &[u32],
     points: &[[i32; 2]],
@@ -136,7 +137,8 @@ fn lower_fours(
     s
 }
 
-// A number at least that of all corners, and that number where it is above `room`; of buffers cut to the points in use.
+// A number at least that of all corners, and that number where it is above `room`; of buffers cut
+// to the points in use.
 fn bound_used(
     firsts: &[u32],
     points: &[[i32; 2]],
@@ -175,7 +177,8 @@ fn bound_all(
     bound_used(firsts, &points[..n], &numbers[..n], left, right, room)
 }
 
-// Whether all contours have more corners than `room`; `most` is at least their number, and where that is within `room` nothing is counted.
+// Whether all contours have more corners than `room`; `most` is at least their number, and where
+// that is within `room` nothing is counted.
 pub fn no_room_keyed(
     firsts: &[u32],
     points: &[[i32; 2]],

@@ -1,6 +1,7 @@
--- Numbers past the range: one number, by its test (`off-in`, `off-out`, `off-last`), lists in a row (`off-append-out`, `off-append-in`), bounds that are
--- not (`bounds-small`); sums and differences of coordinates as the machine holds them (`coordinate-add-fits`, `held-sum`, `held-difference`); an operand
--- with no parts, and with some (`no-parts`, `some-parts`). Assumes nothing.
+-- Numbers past the range: one number, by its test (`off-in`, `off-out`, `off-last`), lists in a row
+-- (`off-append-out`, `off-append-in`), bounds that are not (`bounds-small`); sums and differences
+-- of coordinates as the machine holds them (`coordinate-add-fits`, `held-sum`, `held-difference`);
+-- an operand with no parts, and with some (`no-parts`, `some-parts`). Assumes nothing.
 use mathlib.Core.Path.{_≡_, refl, sym, _∙_, ap}
 use mathlib.Core.Bool.{Bool, true, false, not, cond}
 use mathlib.Core.List.{List, [], _∷_, _++_}

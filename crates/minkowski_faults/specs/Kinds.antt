@@ -1,5 +1,5 @@
--- The faults of two operands as code tells them (document 01: "Pairs: 7, 2, 9, 8, 10, 20, 22, 21"): those before 8 need no walk, those after it only
--- bounds and counts. Assumes nothing.
+-- The faults of two operands as code tells them (document 01: "Pairs: 7, 2, 9, 8, 10, 20, 22, 21"):
+-- those before 8 need no walk, those after it only bounds and counts. Assumes nothing.
 use mathlib.Core.Bool.{Bool}
 use mathlib.Core.List.{List, [], _∷_}
 use lib.Dec.{eqb}

@@ -1,5 +1,7 @@
-// The faults of two operands that need no walk: 7, 2 and 9 (`operands_fault`), and 10 and 20 (`result_fault`) with the result's bounds (`result_bounds`), as
-// int/minkowski.rs has them in `validate_bounds`. Each equals its list of kinds in specs/Kinds.antt. Leans on table and minkowski's definitions.
+// The faults of two operands that need no walk: 7, 2 and 9 (`operands_fault`), and 10 and 20
+// (`result_fault`) with the result's bounds (`result_bounds`), as int/minkowski.rs has them in
+// `validate_bounds`. Each equals its list of kinds in specs/Kinds.antt. Leans on table and
+// minkowski's definitions.
 ghost use mathlib.Core.Path.{_≡_};
 ghost use mathlib.Core.Bool.{false};
 ghost use mathlib.Core.List.{_++_, _∷_, []};
@@ -90,7 +92,8 @@ fn subtract(a: i32, b: i32) -> i32
     a - b
 }
 
-// The bounds of a sum: least with least, greatest with greatest; of a difference: left least less right greatest, left greatest less right least.
+// The bounds of a sum: least with least, greatest with greatest; of a difference: left least less
+// right greatest, left greatest less right least.
 pub fn result_bounds(left: IntRect, right: IntRect, reflected: bool) -> IntRect
     requires { ⌜ (offRange (boundsList left) ≡ false) × (offRange (boundsList right) ≡ false) ⌝ }
     ensures { λ r. ⌜ r ≡ resultBounds reflected left right ⌝ }
@@ -111,7 +114,8 @@ pub fn result_bounds(left: IntRect, right: IntRect, reflected: bool) -> IntRect
     }
 }
 
-// The first of 10 and 20 that holds: `bounds` are the result's, and each operand has one part fewer than starts.
+// The first of 10 and 20 that holds: `bounds` are the result's, and each operand has one part fewer
+// than starts.
 pub fn result_fault(bounds: IntRect, left_starts: &[u32], right_starts: &[u32]) -> u32
     ensures { λ r. ⌜ r ≡ firstFault (
         (faultResult, offRange (boundsList bounds))

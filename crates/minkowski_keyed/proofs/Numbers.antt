@@ -1,5 +1,5 @@
--- Operands that none of 7, 2, 9, 8 and 10 is told of (`unrefused-call`): a number a point of their walks can be made (`numberable`), and then they can be merged by them
--- (`keyed`). Assumes nothing.
+-- Operands that none of 7, 2, 9, 8 and 10 is told of (`unrefused-call`): a number a point of their
+-- walks can be made (`numberable`), and then they can be merged by them (`keyed`). Assumes nothing.
 use mathlib.Core.Path.{_≡_}
 use mathlib.Core.List.{List}
 use Prim.Native.Nat.{ℕ, _+_, _≤_, _<_, _^_}

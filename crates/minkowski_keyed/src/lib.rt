@@ -1,6 +1,7 @@
-// All pairs of two operands that 7, 2 and 9 are not told of, merged by numbers: as minkowski_work's `pairs_over`, with a number a point made once (pair_numbers) and four
-// pairs merged side by side (minkowski_chains). `pairs_keyed` has the answer of `pairs_over`, word for word. Leans on minkowski_work, pair_numbers,
-// minkowski_chains and minkowski_counted.
+// All pairs of two operands that 7, 2 and 9 are not told of, merged by numbers: as minkowski_work's
+// `pairs_over`, with a number a point made once (pair_numbers) and four pairs merged side by side
+// (minkowski_chains). `pairs_keyed` has the answer of `pairs_over`, word for word. Leans on
+// minkowski_work, pair_numbers, minkowski_chains and minkowski_counted.
 ghost use Prim.Native.Nat.{_≤_};
 ghost use lib.ListN.{length};
 ghost use Rattle.pair_numbers.specs.Numbers.{Keyed};
@@ -10,8 +11,8 @@ use minkowski::Operation;
 use minkowski::PairCounts;
 use table::IntRect;
 
-// All pairs of two operands' walks with their numbers, within `bounds`, on the front of the lent starts and corners. Refused with 22 or 21, and nothing changed, where
-// there are too few places.
+// All pairs of two operands' walks with their numbers, within `bounds`, on the front of the lent
+// starts and corners. Refused with 22 or 21, and nothing changed, where there are too few places.
 fn hand_out_keyed(
     firsts: &[u32],
     points: &[[i32; 2]],
@@ -55,7 +56,8 @@ fn hand_out_keyed(
     }
 }
 
-// All pairs of two operands that 7, 2 and 9 are not told of, in work buffers that hold the points of both and a number a point.
+// All pairs of two operands that 7, 2 and 9 are not told of, in work buffers that hold the points
+// of both and a number a point.
 pub fn pairs_keyed(
     operation: Operation,
     left_starts: &[u32],

@@ -1,5 +1,5 @@
--- The buffers cut to the points in use, up to the last first place: the walks there are the same (`walks-same`), they are keyed, and every point is on the grid (`cut-used`).
--- Assumes nothing.
+-- The buffers cut to the points in use, up to the last first place: the walks there are the same
+-- (`walks-same`), they are keyed, and every point is on the grid (`cut-used`). Assumes nothing.
 use mathlib.Core.Path.{_≡_, refl, sym, _∙_, ap, subst}
 use mathlib.Core.List.{List, [], _∷_, map}
 use Prim.Native.Nat.{ℕ, zero, suc, _+_, _<_, _-_, _≤_}

@@ -1,5 +1,6 @@
--- Two walks of the buffers as a pair: what merging them by numbers asks and gives (`Held`), for walks that lie anywhere (`held-from`) and for left walk p and right walk q
--- (`pair-held`), whose corners fit a work buffer (`pair-short`). Assumes nothing.
+-- Two walks of the buffers as a pair: what merging them by numbers asks and gives (`Held`), for
+-- walks that lie anywhere (`held-from`) and for left walk p and right walk q (`pair-held`), whose
+-- corners fit a work buffer (`pair-short`). Assumes nothing.
 use mathlib.Core.Path.{_≡_, refl, sym, subst₂, _∙_, ap, subst}
 use mathlib.Core.List.{List, [], _∷_}
 use Prim.Native.Nat.{ℕ, _+_, _*_, _<_, _-_, _≤_, min}

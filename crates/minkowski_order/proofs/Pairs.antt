@@ -1,6 +1,6 @@
--- All pairs in one list, in order: how many (`pairs-length`), and pair p, q of them (`pairs-at`); so the
--- contours and edges of two operands' walks (`contours-length`, `is-pair`), and a pair's corners as
--- pair_chains has them (`as-fits`, `as-put`, `as-count`). Assumes nothing.
+-- All pairs in one list, in order: how many (`pairs-length`), and pair p, q of them (`pairs-at`);
+-- so the contours and edges of two operands' walks (`contours-length`, `is-pair`), and a pair's
+-- corners as pair_chains has them (`as-fits`, `as-put`, `as-count`). Assumes nothing.
 use mathlib.Core.Path.{_≡_, refl, sym, _∙_, ap, subst, ap₂}
 use mathlib.Core.List.{List, [], _∷_, map, _++_, flatten}
 use Prim.Native.Nat.{ℕ, zero, suc, _+_, _*_, _<_, _-_, _≤_}

@@ -1,6 +1,6 @@
 -- All pairs of two operands' walks in order (`InOrder`), each as pair_chains takes it (`pairAt`,
--- `IsPair`), its contour (`pairContourAt`) and how many edges it has (`edgesAt`); the buffers cut to
--- the points in use (`Used`). Assumes nothing.
+-- `IsPair`), its contour (`pairContourAt`) and how many edges it has (`edgesAt`); the buffers cut
+-- to the points in use (`Used`). Assumes nothing.
 use mathlib.Core.Path.{_≡_}
 use mathlib.Core.Bool.{cond}
 use mathlib.Core.List.{List, [], map, flatten}
@@ -38,7 +38,8 @@ pub record Between (firsts : List ℕ) (n : ℕ) : Type 0 where
 
 -- ---- in order
 
--- while pairs are left, the next is number n: "one contour for each left part and, within it, each right part in order"
+-- while pairs are left, the next is number n: "one contour for each left part and, within it, each
+-- right part in order"
 pub record InOrder (left right : ℕ) (s : Place) : Type 0 where
   pub next : s .n < left * right → (s .p < left) × (s .q < right) × (s .n ≡ s .p * right + s .q)
 

@@ -1,5 +1,5 @@
-// All pairs of two operands' walks in order (int/minkowski.rs, `sum_parts`), each as pair_chains takes
-// it: `pair_next` and `four_next` are the pairs at a place, `after` is the next place, and
+// All pairs of two operands' walks in order (int/minkowski.rs, `sum_parts`), each as pair_chains
+// takes it: `pair_next` and `four_next` are the pairs at a place, `after` is the next place, and
 // `merge_pair` puts one pair's contour into a work buffer. Walks lie in one buffer, the left
 // operand's first (pair_walks), with a number a point (pair_numbers). Leans on pair_chains,
 // pair_walks and pair_numbers.
@@ -13,7 +13,8 @@ ghost use Rattle.minkowski_order.specs.Order.{pairFrom, pairAt, Between,
 use pair_chains::Pair;
 use pair_chains::Pairs;
 
-// Where all pairs have come to: left walk p and right walk q are next, pair n in order, after k corners.
+// Where all pairs have come to: left walk p and right walk q are next, pair n in order, after k
+// corners.
 pub struct Place {
     pub p: usize,
     pub q: usize,
@@ -89,7 +90,8 @@ fn pair_at(firsts: &[u32], left: usize, p: usize, q: usize) -> Pair
     )
 }
 
-// The contour of left walk p and right walk q, on the front of the work buffer; of buffers cut to the points in use.
+// The contour of left walk p and right walk q, on the front of the work buffer; of buffers cut to
+// the points in use.
 fn merge_used(
     firsts: &[u32],
     points: &[[i32; 2]],
@@ -112,7 +114,8 @@ fn merge_used(
     pair_chains::merge_one(points, numbers, x, out, at)
 }
 
-// The contour of left walk p and right walk q is put on the front of the work buffer; answers how many corners it has.
+// The contour of left walk p and right walk q is put on the front of the work buffer; answers how
+// many corners it has.
 pub fn merge_pair(
     firsts: &[u32],
     points: &[[i32; 2]],

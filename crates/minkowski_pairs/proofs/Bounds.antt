@@ -1,5 +1,6 @@
--- Every corner of the result lies within the result bounds and on the grid (`result-within`). In order: what the test of bounds tells; a sum of corners within
--- the sum of bounds; the parts of an operand within its bounds; what an accepted pair of operands is; all pairs. Assumes nothing.
+-- Every corner of the result lies within the result bounds and on the grid (`result-within`). In
+-- order: what the test of bounds tells; a sum of corners within the sum of bounds; the parts of an
+-- operand within its bounds; what an accepted pair of operands is; all pairs. Assumes nothing.
 use mathlib.Core.Path.{_≡_, sym, subst}
 use mathlib.Core.Bool.{Bool, true, false}
 use mathlib.Core.List.{List, [], _∷_, map}

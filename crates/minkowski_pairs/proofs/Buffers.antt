@@ -1,5 +1,6 @@
--- The buffers that an accepted call leaves hold the pairs' contours (`result-is-pairs`), so demand 3 and de Berg et al. hold of what stands there
--- (`table-reach`, `table-de-berg`); pairs in pieces (`pairs-shard`). Assumes nothing.
+-- The buffers that an accepted call leaves hold the pairs' contours (`result-is-pairs`), so demand
+-- 3 and de Berg et al. hold of what stands there (`table-reach`, `table-de-berg`); pairs in pieces
+-- (`pairs-shard`). Assumes nothing.
 use mathlib.Core.Path.{_≡_, refl, sym, _∙_, ap, subst}
 use mathlib.Core.Bool.{Bool, true}
 use mathlib.Core.List.{List, [], map, map-append, flatten}

@@ -1,5 +1,5 @@
--- How many corners all pairs have at the most: R times the left corners and L times the right ones (`pairs-few`), so fewer than 2^32 of operands within the limits
--- (`pairs-small`). Assumes nothing.
+-- How many corners all pairs have at the most: R times the left corners and L times the right ones
+-- (`pairs-few`), so fewer than 2^32 of operands within the limits (`pairs-small`). Assumes nothing.
 use mathlib.Core.Path.{ap}
 use mathlib.Core.Bool.{Bool}
 use mathlib.Core.List.{List, [], _∷_, map, flatten}

@@ -1,5 +1,5 @@
--- Each corner of a pair is a corner of one contour plus a corner of the other (`corners-are-sums`), of any two contours: both walks stay on their contours.
--- Assumes nothing.
+-- Each corner of a pair is a corner of one contour plus a corner of the other (`corners-are-sums`),
+-- of any two contours: both walks stay on their contours. Assumes nothing.
 use mathlib.Core.Path.{_≡_, refl, ap}
 use mathlib.Core.Bool.{Bool, true, false, cond}
 use mathlib.Core.List.{List, [], _∷_}

@@ -1,4 +1,5 @@
--- All pairs of two accepted operands, as statements over the buffers that the call leaves; proved in proofs/. Assumes nothing.
+-- All pairs of two accepted operands, as statements over the buffers that the call leaves; proved
+-- in proofs/. Assumes nothing.
 use mathlib.Core.Path.{_≡_}
 use mathlib.Core.Bool.{Bool, true, false}
 use mathlib.Core.List.{List, [], _++_}
@@ -33,12 +34,14 @@ ResultIsPairs =
 
 -- ---- demand 3 of the table
 
--- demand 3's whole sentence of a contour K emitted for A and B: "the one that document 01's two walks give, beginning with the sum of the walks' first points", and the rest of it
+-- demand 3's whole sentence of a contour K emitted for A and B: "the one that document 01's two
+-- walks give, beginning with the sum of the walks' first points", and the rest of it
 pub record EmittedWhole (reflected : Bool) (A B K : List Pt) : Type 0 where
   pub walked : K ≡ pairContour reflected A B
   pub reach : FarthestReach (pointOf A (begin false A) +ᵖ pointOf B (begin reflected B)) A (second reflected B) K
 
--- "Take any left and any right contour of an accepted pair" that go "once round a convex area above zero": the whole contour emitted for them, whatever the other parts are
+-- "Take any left and any right contour of an accepted pair" that go "once round a convex area above
+-- zero": the whole contour emitted for them, whatever the other parts are
 abbrev pub TableReach : Type 0
 TableReach =
     (reflected : Bool) (l r : Operand) (s : List ℕ) (c : List ℤ) → pairsFault reflected l r (length s) (length c) ≡ 0 →
@@ -56,7 +59,8 @@ TableDeBerg =
 
 -- ---- where the corners lie
 
--- each corner of a pair, once round or not, is a corner of one plus a corner of the other as the pair reads it
+-- each corner of a pair, once round or not, is a corner of one plus a corner of the other as the
+-- pair reads it
 abbrev pub CornersAreSums : Type 0
 CornersAreSums = (reflected : Bool) (A B : List Pt) → All (λ c. Any (λ a. Any (λ b. c ≡ a +ᵖ b) (second reflected B)) A) (pairContour reflected A B)
 

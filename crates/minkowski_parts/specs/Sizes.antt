@@ -1,4 +1,5 @@
--- The sizes of operands that have work buffers of their own, which take less time to set up. Assumes nothing.
+-- The sizes of operands that have work buffers of their own, which take less time to set up.
+-- Assumes nothing.
 use mathlib.Core.Bool.{Bool}
 use mathlib.Core.List.{List}
 use Prim.Native.Nat.{ℕ, _+_, _*_, _/_, _≤_}
@@ -6,7 +7,8 @@ use lib.Dec.{ltb}
 use lib.ListN.{length}
 use lib.IntN.{ℤ}
 
--- an operand with at most so many starts and corners together is tiny, as of one triangle, small or medium: its work buffers are of that size
+-- an operand with at most so many starts and corners together is tiny, as of one triangle, small or
+-- medium: its work buffers are of that size
 abbrev pub tinyPlaces : ℕ
 tinyPlaces = 16
 
@@ -19,7 +21,8 @@ mediumPlaces = 2048
 abbrev pub FitsIn : ℕ → List ℕ → List ℤ → Type 0
 FitsIn places starts corners = length starts + length corners / 2 ≤ places
 
--- whether all pairs have less than four times the operands' corners, a part more counted on either side
+-- whether all pairs have less than four times the operands' corners, a part more counted on either
+-- side
 abbrev pub fewPairs : List ℕ → List ℤ → List ℕ → List ℤ → Bool
 fewPairs ls lc rs rc = ltb (length rs * (length lc / 2) + length ls * (length rc / 2)) (4 * (length lc / 2 + length rc / 2))
 

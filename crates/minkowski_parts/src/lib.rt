@@ -1,6 +1,9 @@
-// All pair sums and differences (int/minkowski.rs): `sum_parts` and `difference_parts`, with no `requires`. Their answer and both lent buffers equal
-// `pairsCounts`, `pairsStarts` and `pairsCorners` of minkowski/specs/Pairs.antt. The pairs are made in local buffers that hold the points of any two operands, or of
-// two medium, small or tiny ones, which are faster to set up; by numbers, but for tiny operands and few pairs. Leans on minkowski_faults, minkowski_work and minkowski_keyed.
+// All pair sums and differences (int/minkowski.rs): `sum_parts` and `difference_parts`, with no
+// `requires`. Their answer and both lent buffers equal `pairsCounts`, `pairsStarts` and
+// `pairsCorners` of minkowski/specs/Pairs.antt. The pairs are made in local buffers that hold the
+// points of any two operands, or of two medium, small or tiny ones, which are faster to set up; by
+// numbers, but for tiny operands and few pairs. Leans on minkowski_faults, minkowski_work and
+// minkowski_keyed.
 ghost use mathlib.Core.Path.{_≡_};
 ghost use mathlib.Core.Bool.{false, true};
 ghost use Rattle.minkowski.specs.Pairs.{pairsCounts, pairsStarts, pairsCorners};
@@ -11,7 +14,8 @@ use minkowski::Operation;
 use minkowski::PairCounts;
 use table::IntRect;
 
-// An operand has at most this many starts and corners together to be a medium one, a small one, or a tiny one, as of one triangle.
+// An operand has at most this many starts and corners together to be a medium one, a small one, or
+// a tiny one, as of one triangle.
 pub const MEDIUM: usize = 2048;
 
 pub const SMALL: usize = 256;
@@ -211,8 +215,9 @@ fn keyed_large(
     )
 }
 
-// All pairs of two tiny operands. Each size has a function of its own that both calls ask, so that no frame has larger buffers than its size: a large one takes longer to
-// set up than a pair of triangles to merge.
+// All pairs of two tiny operands. Each size has a function of its own that both calls ask, so that
+// no frame has larger buffers than its size: a large one takes longer to set up than a pair of
+// triangles to merge.
 fn tiny_pairs(
     operation: Operation,
     left_starts: &[u32],
@@ -253,7 +258,8 @@ fn tiny_pairs(
     )
 }
 
-// Whether so few pairs are asked for that numbers, two divisions an edge, would not pay: together they have less than four times the operands' corners.
+// Whether so few pairs are asked for that numbers, two divisions an edge, would not pay: together
+// they have less than four times the operands' corners.
 fn few_pairs(
     left_starts: &[u32],
     left_corners: &[i32],
@@ -380,8 +386,9 @@ fn large_pairs(
     )
 }
 
-// The sums of each left part and each right part: one contour a pair, starts and corners (x, y in turn) on the front of the lent buffers. A refusal (7, 2, 9, 8, 10,
-// 20, 22 or 21) gives zero counts and changes nothing.
+// The sums of each left part and each right part: one contour a pair, starts and corners (x, y in
+// turn) on the front of the lent buffers. A refusal (7, 2, 9, 8, 10, 20, 22 or 21) gives zero
+// counts and changes nothing.
 pub fn sum_parts(
     left_starts: &[u32],
     left_corners: &[i32],
@@ -445,7 +452,8 @@ pub fn sum_parts(
     )
 }
 
-// The differences, left less right, in the same way: sums with the right parts turned through the origin.
+// The differences, left less right, in the same way: sums with the right parts turned through the
+// origin.
 pub fn difference_parts(
     left_starts: &[u32],
     left_corners: &[i32],

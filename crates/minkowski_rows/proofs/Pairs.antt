@@ -1,5 +1,7 @@
--- Contours put one after another: one (`pairs-one`), none, some and then more (`pairs-none`, `pairs-then`), room for the next (`room-next`), all from the first on
--- (`all-put`); a turn of a row and of all rows (`row-room`, `row-more`, `all-room`, `all-more`), and their ends (`row-done`, `all-done`). Assumes nothing.
+-- Contours put one after another: one (`pairs-one`), none, some and then more (`pairs-none`,
+-- `pairs-then`), room for the next (`room-next`), all from the first on (`all-put`); a turn of a
+-- row and of all rows (`row-room`, `row-more`, `all-room`, `all-more`), and their ends (`row-done`,
+-- `all-done`). Assumes nothing.
 use mathlib.Core.Path.{_≡_, refl, sym, _∙_, ap, subst}
 use mathlib.Core.List.{List, [], _∷_, _++_, flatten, append-assoc, append-nil}
 use Prim.Native.Nat.{ℕ, suc, _+_, _≤_, _<_, _^_}

@@ -1,2 +1,3 @@
--- What the contracts cite: walks gathered in buffers, and the contours of their pairs put into lent ones.
+-- What the contracts cite: walks gathered in buffers, and the contours of their pairs put into lent
+-- ones.
 pub mod Rows

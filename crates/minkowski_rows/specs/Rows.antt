@@ -1,5 +1,6 @@
--- Merges of two walks of a buffer, and of one with each right one (`mergedIn`, `mergedRowIn`), and contours put one after another into lent starts and corners
--- (`PairsRoom`, `PairsPut`, `AllPut`). Assumes nothing.
+-- Merges of two walks of a buffer, and of one with each right one (`mergedIn`, `mergedRowIn`), and
+-- contours put one after another into lent starts and corners (`PairsRoom`, `PairsPut`, `AllPut`).
+-- Assumes nothing.
 use mathlib.Core.Path.{_≡_}
 use mathlib.Core.List.{List, _++_, flatten}
 use Prim.Native.Nat.{ℕ, _+_, _<_, _^_}
@@ -24,7 +25,8 @@ mergedRowIn firsts points left right p = mergedRow (walkIn firsts points (left +
 
 -- ---- contours put into lent starts and corners
 
--- there is room for the contours `new` after the first n, which have k corners, and every start has a number of 32 bits
+-- there is room for the contours `new` after the first n, which have k corners, and every start has
+-- a number of 32 bits
 pub record PairsRoom (new : List (List Pt)) (starts : List ℕ) (n : ℕ) (out : List ℤ) (k : ℕ) : Type 0 where
   pub for-starts : n + length new < length starts
   pub for-corners : RoomAfter (flatten new) out k
@@ -40,7 +42,8 @@ pub record PairsPut (new : List (List Pt)) (starts : List ℕ) (n : ℕ) (out : 
       (done : List (List Pt)) (s : List ℕ) (c : List ℤ) → length done ≡ n → length (flatten done) ≡ k → starts ≡ overlay (startsOf done) s → out ≡ overlay (cornersOf done) c →
       (starts′ ≡ overlay (startsOf (done ++ new)) s) × (out′ ≡ overlay (cornersOf (done ++ new)) c)
 
--- all of some contours stand on the front of lent starts and corners, which held s and c; k is how many corners they have
+-- all of some contours stand on the front of lent starts and corners, which held s and c; k is how
+-- many corners they have
 pub record AllPut (ps : List (List Pt)) (s : List ℕ) (c : List ℤ) (s′ : List ℕ) (c′ : List ℤ) (k : ℕ) : Type 0 where
   pub starts : s′ ≡ overlay (startsOf ps) s
   pub corners : c′ ≡ overlay (cornersOf ps) c

@@ -1,6 +1,8 @@
-// All pairs of two operands' walks in one buffer (int/minkowski.rs, `sum_parts`; pair_walks has where walks lie): `append_all` merges each left walk with each right
-// one in order and puts the contours on the front of lent starts and corners; `merge_walks` merges any two of them. By the law `merged-pairs` of pair_walks these are
-// the pairs' contours. Leans on pair_merge, points and pair_walks' definitions.
+// All pairs of two operands' walks in one buffer (int/minkowski.rs, `sum_parts`; pair_walks has
+// where walks lie): `append_all` merges each left walk with each right one in order and puts the
+// contours on the front of lent starts and corners; `merge_walks` merges any two of them. By the
+// law `merged-pairs` of pair_walks these are the pairs' contours. Leans on pair_merge, points and
+// pair_walks' definitions.
 ghost use mathlib.Core.Path.{_≡_};
 ghost use mathlib.Core.List.{_∷_, []};
 ghost use Prim.Native.Nat.{_+_, _<_};
@@ -8,7 +10,8 @@ ghost use Rattle.pair_merge.specs.Putting.{RoomAfter, CornersPut};
 ghost use Rattle.pair_walks.specs.Walks.{Walks, contoursIn};
 ghost use Rattle.minkowski_rows.specs.Rows.{mergedIn, mergedRowIn, PairsRoom, PairsPut, AllPut};
 
-// The contour of walks m and n of `count` is put after the first `at` corners; answers how many stand there then.
+// The contour of walks m and n of `count` is put after the first `at` corners; answers how many
+// stand there then.
 pub fn merge_walks(
     firsts: &[u32],
     points: &[[i32; 2]],
@@ -84,7 +87,8 @@ fn append_row(
     k
 }
 
-// The contours of all pairs, each left walk with each right one in order, on the front of the lent starts and corners; answers how many corners they have.
+// The contours of all pairs, each left walk with each right one in order, on the front of the lent
+// starts and corners; answers how many corners they have.
 pub fn append_all(
     firsts: &[u32],
     points: &[[i32; 2]],

@@ -1,5 +1,5 @@
--- How many corners all pairs have: at most R for each left corner and L for each right one (`few-all`), of parts and of sound tables (`few-pairs`).
--- Assumes nothing.
+-- How many corners all pairs have: at most R for each left corner and L for each right one
+-- (`few-all`), of parts and of sound tables (`few-pairs`). Assumes nothing.
 use mathlib.Core.Path.{_≡_, _∙_, ap, ap₂}
 use mathlib.Core.Bool.{Bool, false}
 use mathlib.Core.List.{List, [], _∷_, _++_, map, flatten}

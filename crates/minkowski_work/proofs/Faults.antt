@@ -1,6 +1,8 @@
--- The faults of two operands in their order, before any others: those that need no walk (`operands-first`), those that walks decide (`walks-first`), and then
--- the others alone (`rest-decides`); the same before the room's; a winding (`left-leaves`, `right-leaves`) and the result's (`result-decides`); what operands
--- without a fault of the first kinds meet (`judged`). Assumes nothing.
+-- The faults of two operands in their order, before any others: those that need no walk
+-- (`operands-first`), those that walks decide (`walks-first`), and then the others alone
+-- (`rest-decides`); the same before the room's; a winding (`left-leaves`, `right-leaves`) and the
+-- result's (`result-decides`); what operands without a fault of the first kinds meet (`judged`).
+-- Assumes nothing.
 use mathlib.Core.Path.{_≡_, sym, _∙_, ap}
 use mathlib.Core.Bool.{Bool, true, false}
 use mathlib.Core.List.{List, [], _∷_, _++_}

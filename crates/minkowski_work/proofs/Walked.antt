@@ -1,5 +1,7 @@
--- Two operands as walks in work buffers: a refusal before (`call-refused`), buffers that hold any two (`large`), the one unrolled after the other (`left-unrollable`, `right-unrollable`,
--- `walked`), whose pairs are the pairs of parts (`contours-in`), and so the answer (`unrolleds`, `answered`). Assumes nothing.
+-- Two operands as walks in work buffers: a refusal before (`call-refused`), buffers that hold any
+-- two (`large`), the one unrolled after the other (`left-unrollable`, `right-unrollable`,
+-- `walked`), whose pairs are the pairs of parts (`contours-in`), and so the answer (`unrolleds`,
+-- `answered`). Assumes nothing.
 use mathlib.Core.Path.{_≡_, refl, sym, _∙_, ap, ap₂, subst}
 use mathlib.Core.Bool.{Bool, false}
 use mathlib.Core.List.{List, [], _∷_, _++_, flatten}

@@ -1,5 +1,6 @@
--- A call on two lent tables (`Call`, `callOf`); what it answers and leaves (`Answers`); work buffers for the points of both operands (`AcceptedWithRoom`), and what they hold
--- once both are unrolled and the result is judged (`BothWalked`, `WalksTold`). Assumes nothing.
+-- A call on two lent tables (`Call`, `callOf`); what it answers and leaves (`Answers`); work
+-- buffers for the points of both operands (`AcceptedWithRoom`), and what they hold once both are
+-- unrolled and the result is judged (`BothWalked`, `WalksTold`). Assumes nothing.
 use mathlib.Core.Path.{_≡_}
 use mathlib.Core.Bool.{Bool, false}
 use mathlib.Core.List.{List, [], _∷_, _++_}
@@ -43,7 +44,8 @@ Answers x s c r s′ c′ =
 abbrev pub pointsOver : Operand → ℕ
 pointsOver o = length (o .corners) / 2 + partCount (o .starts)
 
--- room for the points of both operands, and for their firsts and one more; every place has a number of 32 bits
+-- room for the points of both operands, and for their firsts and one more; every place has a number
+-- of 32 bits
 pub record Scratch (x : Call) (points : List (List ℤ)) (firsts : List ℕ) : Type 0 where
   pub for-points : pointsOver (x .left) + pointsOver (x .right) ≤ length points
   pub for-firsts : length (x .left .starts) + length (x .right .starts) ≤ length firsts + 1

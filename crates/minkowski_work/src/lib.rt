@@ -1,6 +1,8 @@
-// All pairs of two operands that 7, 2 and 9 are not told of, in work buffers that hold the points of both: each part is unrolled to points once (8) and the result is
-// judged (10, 20) by `walks_fault`, which leaves the walks there, the left operand's first (`WalksTold` of specs/Scratch.antt); `pairs_over` merges the pairs into the
-// lent buffers once there is room (22, 21), its answer being `Answers`. Leans on minkowski_faults, pair_unroll_all and minkowski_answer.
+// All pairs of two operands that 7, 2 and 9 are not told of, in work buffers that hold the points
+// of both: each part is unrolled to points once (8) and the result is judged (10, 20) by
+// `walks_fault`, which leaves the walks there, the left operand's first (`WalksTold` of
+// specs/Scratch.antt); `pairs_over` merges the pairs into the lent buffers once there is room (22,
+// 21), its answer being `Answers`. Leans on minkowski_faults, pair_unroll_all and minkowski_answer.
 ghost use mathlib.Core.Path.{_≡_};
 ghost use mathlib.Core.Bool.{false};
 ghost use Prim.Native.Nat.{_+_, _*_, _/_};
@@ -29,8 +31,9 @@ pub fn most_corners(
     r * (left_corners.len() / corners::WIDTH) + l * (right_corners.len() / corners::WIDTH)
 }
 
-// Unrolls two operands that 7, 2 and 9 are not told of, each part to points once, and judges the result: the first of 8, 10 and 20 that holds; 0 for none, and then
-// the work buffers hold the walks of both.
+// Unrolls two operands that 7, 2 and 9 are not told of, each part to points once, and judges the
+// result: the first of 8, 10 and 20 that holds; 0 for none, and then the work buffers hold the
+// walks of both.
 pub fn walks_fault(
     operation: Operation,
     left_starts: &[u32],
@@ -59,7 +62,8 @@ pub fn walks_fault(
     minkowski_faults::result_fault(bounds, left_starts, right_starts)
 }
 
-// All pairs of two operands that 7, 2 and 9 are not told of, in work buffers that hold the points of both.
+// All pairs of two operands that 7, 2 and 9 are not told of, in work buffers that hold the points
+// of both.
 pub fn pairs_over(
     operation: Operation,
     left_starts: &[u32],

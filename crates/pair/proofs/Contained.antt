@@ -1,6 +1,7 @@
--- Every list of points with the reaches of a strictly convex contour contains its corners (`contains`). A corner c, with e' in and e out, is
--- farthest along the outward normals of both; a point of the list that is as far along their sum is as far along both, so it is c.
--- Assumes nothing.
+-- Every list of points with the reaches of a strictly convex contour contains its corners
+-- (`contains`). A corner c, with e' in and e out, is farthest along the outward normals of both; a
+-- point of the list that is as far along their sum is as far along both, so it is c. Assumes
+-- nothing.
 use mathlib.Core.Path.{_≡_, sym, _∙_, ap, subst, subst₂}
 use mathlib.Core.List.{List, [], _∷_}
 use mathlib.Core.Logic.{inl, inr}

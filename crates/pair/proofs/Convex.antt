@@ -1,6 +1,6 @@
--- What demand 3's proof speaks of: lists of edges, with no walks in them. In order: members (`In`), pairwise order (`Sorted`); `Convex`, the
--- edges of a convex contour from its least corner; `Outline`, that a first point and a list of
--- edges stand for a contour. Assumes nothing.
+-- What demand 3's proof speaks of: lists of edges, with no walks in them. In order: members (`In`),
+-- pairwise order (`Sorted`); `Convex`, the edges of a convex contour from its least corner;
+-- `Outline`, that a first point and a list of edges stand for a contour. Assumes nothing.
 use mathlib.Core.Path.{_≡_, refl}
 use mathlib.Core.List.{List, [], _∷_}
 use mathlib.Core.Logic.{inl, inr}
@@ -23,7 +23,8 @@ pub in-self : (l : List Pt) → All (In l) l
 in-self [] = tt
 in-self (e ∷ l) = (inl refl, all-map l (λ c h. inr h) (in-self l))
 
--- each stands in R to all later ones: `Sorted Le` is weakly ascending in direction, `Sorted Lt` strictly
+-- each stands in R to all later ones: `Sorted Le` is weakly ascending in direction, `Sorted Lt`
+-- strictly
 abbrev pub Sorted : (Pt → Pt → Type 0) → List Pt → Type 0
 Sorted R [] = Unit {0}
 Sorted R (e ∷ l) = All (R e) l × Sorted R l

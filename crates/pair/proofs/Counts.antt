@@ -1,5 +1,6 @@
--- Counts of the pairs that pass a test (`howMany` of specs/Premise.antt), and the neighbours round a list of edges. In order: none pass, all pass; the same
--- tests; mapped; the last and the first as one pair before the others (`perm-last`); sorted lists. Assumes nothing.
+-- Counts of the pairs that pass a test (`howMany` of specs/Premise.antt), and the neighbours round
+-- a list of edges. In order: none pass, all pass; the same tests; mapped; the last and the first as
+-- one pair before the others (`perm-last`); sorted lists. Assumes nothing.
 use mathlib.Core.Path.{_≡_, refl, sym, _∙_, ap, ap₂, subst}
 use mathlib.Core.Bool.{Bool, true, false, not, cond}
 use mathlib.Core.List.{List, [], _∷_, _++_, map, map-map, List·Permᴰ, List·Permᴰ·append-comm}

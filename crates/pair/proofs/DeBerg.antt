@@ -1,6 +1,7 @@
--- De Berg et al.'s merge by angle is the join, on strictly ascending lists of nonzero edges (`berg-join`): no two edges of one list have one
--- direction, so a run is one edge or two, and both merges take them alike. First, that the merge has the cases that the specification writes out beside it
--- (`merge-cases`). Assumes nothing.
+-- De Berg et al.'s merge by angle is the join, on strictly ascending lists of nonzero edges
+-- (`berg-join`): no two edges of one list have one direction, so a run is one edge or two, and both
+-- merges take them alike. First, that the merge has the cases that the specification writes out
+-- beside it (`merge-cases`). Assumes nothing.
 use mathlib.Core.Path.{_≡_, refl, sym, _∙_, ap}
 use mathlib.Core.List.{List, [], _∷_}
 use Rattle.integers.specs.Lists.{All}

@@ -1,6 +1,7 @@
--- Document 01's examples of pairs, and the premise and strict convexity on contours that meet them and that do not, by computation, each
--- group one statement over a list. In order: tests over a list of contours, from every start and both ways; the contours; once round;
--- strictly convex; pairs. Nothing cites this file. Assumes nothing.
+-- Document 01's examples of pairs, and the premise and strict convexity on contours that meet them
+-- and that do not, by computation, each group one statement over a list. In order: tests over a
+-- list of contours, from every start and both ways; the contours; once round; strictly convex;
+-- pairs. Nothing cites this file. Assumes nothing.
 use mathlib.Core.Path.{_≡_, refl}
 use mathlib.Core.Bool.{Bool, true, false, not, cond}
 use mathlib.Core.List.{List, [], _∷_, _++_, map, reverse}
@@ -49,7 +50,8 @@ K = p 0 0 ∷ p 2 0 ∷ p 0 2 ∷ []
 unfoldable square : List Pt
 square = p 0 0 ∷ p 4 0 ∷ p 4 4 ∷ p 0 4 ∷ []
 
--- the triangle and the square as they stand; with an in-line corner; with a corner that repeats the one before, twice, and both
+-- the triangle and the square as they stand; with an in-line corner; with a corner that repeats the
+-- one before, twice, and both
 unfoldable roundOnes : List (List Pt)
 roundOnes =
     K ∷ (p 0 0 ∷ p 1 0 ∷ p 2 0 ∷ p 0 2 ∷ []) ∷ (p 0 0 ∷ p 2 0 ∷ p 2 0 ∷ p 0 2 ∷ []) ∷

@@ -1,6 +1,8 @@
--- Demand 3 over lists of edges (`FarthestReach` of specs/Demand.antt): the contour of the join of two convex lists is strictly convex, its corners
--- are sums, its reaches are the reaches added, and every list with those reaches contains its corners and so is no shorter. In order: of any two
--- contours that the lists stand for (`farthest-outlines`), and of the lists' own contours (`farthest`). Assumes nothing.
+-- Demand 3 over lists of edges (`FarthestReach` of specs/Demand.antt): the contour of the join of
+-- two convex lists is strictly convex, its corners are sums, its reaches are the reaches added, and
+-- every list with those reaches contains its corners and so is no shorter. In order: of any two
+-- contours that the lists stand for (`farthest-outlines`), and of the lists' own contours
+-- (`farthest`). Assumes nothing.
 use mathlib.Core.Path.{_≡_, refl, sym, _∙_, ap, ap₂, subst}
 use mathlib.Core.List.{List, [], _∷_}
 use lib.IntN.{_+ℤ_}

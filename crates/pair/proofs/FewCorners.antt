@@ -1,5 +1,6 @@
--- "Pair contours never have more corners than both inputs together" (`few-corners`), of any two contours: a walk has no more edges than its
--- contour has corners, and no step on the way from the edges to the corners adds one. Assumes nothing.
+-- "Pair contours never have more corners than both inputs together" (`few-corners`), of any two
+-- contours: a walk has no more edges than its contour has corners, and no step on the way from the
+-- edges to the corners adds one. Assumes nothing.
 use mathlib.Core.Path.{_≡_, refl, ap}
 use mathlib.Core.Bool.{Bool, false}
 use mathlib.Core.List.{List, [], _∷_}

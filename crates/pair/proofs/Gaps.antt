@@ -1,5 +1,6 @@
--- Neighbours round a strictly ascending closed list of edges, not on one line, turn left by less than half a turn (`turns-left`): else all edges
--- lie on one side of one of them, and adding up to 0 they lie on its line. Assumes nothing.
+-- Neighbours round a strictly ascending closed list of edges, not on one line, turn left by less
+-- than half a turn (`turns-left`): else all edges lie on one side of one of them, and adding up to
+-- 0 they lie on its line. Assumes nothing.
 use mathlib.Core.List.{List, [], _∷_, _++_}
 use mathlib.Core.Logic.{⊎-elim}
 use native.Mathlib.Omega.{arith}

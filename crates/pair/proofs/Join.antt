@@ -1,6 +1,7 @@
--- The merge of two ascending lists of edges, equal directions made one: `join`, which is what a pair's steps give of them. In order: the steps
--- (`stepped`) reorder both lists, keep the order, and pass zero edges by; runs of one direction (`grouped`) give a strictly ascending list
--- with the same sum over each set of directions; the two together. Assumes nothing.
+-- The merge of two ascending lists of edges, equal directions made one: `join`, which is what a
+-- pair's steps give of them. In order: the steps (`stepped`) reorder both lists, keep the order,
+-- and pass zero edges by; runs of one direction (`grouped`) give a strictly ascending list with the
+-- same sum over each set of directions; the two together. Assumes nothing.
 use mathlib.Core.Path.{_≡_, refl, sym, _∙_, ap, subst}
 use mathlib.Core.Bool.{Bool, true, false, cond}
 use mathlib.Core.List.{List, [], _∷_, _++_, List·Permᴰ, List·Permᴰ·cons, List·Permᴰ·trans, Permᴰ·refl, Permᴰ·symm, Permᴰ·middle}

@@ -1,12 +1,14 @@
--- What holds of walks and pairs; specs/Demand.antt has the statements and Theorem their proofs. In reading order.
--- From places to lists of edges: where a walk starts, its edges, the pair's steps, the corner count, the premise without repeated corners.
+-- What holds of walks and pairs; specs/Demand.antt has the statements and Theorem their proofs. In
+-- reading order. From places to lists of edges: where a walk starts, its edges, the pair's steps,
+-- the corner count, the premise without repeated corners.
 pub mod Start
 pub mod Places
 pub mod Live
 pub mod PairSteps
 pub mod FewCorners
 pub mod Repeats
--- Ascending lists of edges with sum zero: cuts, the join of two, reaches, turns, and the main theorem over them (Farthest).
+-- Ascending lists of edges with sum zero: cuts, the join of two, reaches, turns, and the main
+-- theorem over them (Farthest).
 pub mod Convex
 pub mod Totals
 pub mod Join

@@ -1,5 +1,6 @@
--- The nonzero edges of a list: laws of `live` of specs/Demand.antt. In order: with a zero edge and with another in front; length; in two
--- parts, rotated, backwards, negated; by cases (`live-by`), nonzero, all where none is zero, their sum. Assumes nothing.
+-- The nonzero edges of a list: laws of `live` of specs/Demand.antt. In order: with a zero edge and
+-- with another in front; length; in two parts, rotated, backwards, negated; by cases (`live-by`),
+-- nonzero, all where none is zero, their sum. Assumes nothing.
 use mathlib.Core.Path.{_≡_, refl, sym, _∙_, ap, subst}
 use mathlib.Core.Bool.{true, false}
 use mathlib.Core.List.{List, [], _∷_, _++_, map, append-nil, reverse, reverse-cons}

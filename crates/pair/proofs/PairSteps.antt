@@ -1,7 +1,8 @@
--- A pair's steps by places are its steps over two lists of edges: laws of `nextStep`, `run`, `pairStep`, `emit`, `pairContour` of
--- specs/Pair.antt. In order: what is still to be stepped (`ways`) and its first edge (`Next`); one edge of the pair, the steps of one run
--- (`Ran`); the corners emitted (`emit-is`), and the contour of a pair (`pair-contour`); more fuel changes nothing (`run-enough`,
--- `emit-enough`). Assumes nothing.
+-- A pair's steps by places are its steps over two lists of edges: laws of `nextStep`, `run`,
+-- `pairStep`, `emit`, `pairContour` of specs/Pair.antt. In order: what is still to be stepped
+-- (`ways`) and its first edge (`Next`); one edge of the pair, the steps of one run (`Ran`); the
+-- corners emitted (`emit-is`), and the contour of a pair (`pair-contour`); more fuel changes
+-- nothing (`run-enough`, `emit-enough`). Assumes nothing.
 use mathlib.Core.Path.{_≡_, refl, sym, _∙_, ap, ap₂, subst}
 use mathlib.Core.Bool.{Bool, true, false, cond}
 use mathlib.Core.List.{List, [], _∷_}
@@ -120,7 +121,8 @@ module _ (A B : List Pt) (s : ConvexSum) where
 abbrev pub toCome : List Pt → List Pt → ConvexSum → List Pt
 toCome A B s = cornersFrom (sumPoint A B s) (grouped (live (ways A B s)))
 
--- steps along d: where p is the corner begun and u the edge so far, the edge ends where the run does
+-- steps along d: where p is the corner begun and u the edge so far, the edge ends where the run
+-- does
 pub record Along (A B : List Pt) (d : Pt) (s : ConvexSum) (r : Run) : Type 0 where
   pub heads : r .heading ≡ along d
   pub fewer : stepsLeft (r .at) ≤ stepsLeft s

@@ -1,7 +1,10 @@
--- A walk by places is a list of edges: laws of `begin`, `advance`, `pointOf`, `edgeOf`, `handed` of specs/Walk.antt and specs/Demand.antt.
--- In order: where a walk begins, one case a winding (`begin-by`); the walk's places are corners of the contour (`Valid`); its points are the
--- first and the edges added (`point-advance`); the edges handed out: once round in table order (`walk-onward`), backwards (`walk-backward`),
--- and out and back along a segment (`walk-segment`, `walk-point`); no more steps than corners (`begin-remaining`). Assumes nothing.
+-- A walk by places is a list of edges: laws of `begin`, `advance`, `pointOf`, `edgeOf`, `handed` of
+-- specs/Walk.antt and specs/Demand.antt.
+-- In order: where a walk begins, one case a winding (`begin-by`); the walk's places are corners of
+-- the contour (`Valid`); its points are the first and the edges added (`point-advance`); the edges
+-- handed out: once round in table order (`walk-onward`), backwards (`walk-backward`), and out and
+-- back along a segment (`walk-segment`, `walk-point`); no more steps than corners
+-- (`begin-remaining`). Assumes nothing.
 use mathlib.Core.Path.{_≡_, refl, sym, _∙_, ap, ap₂, subst}
 use mathlib.Core.Bool.{Bool, true, false, cond}
 use mathlib.Core.List.{List, [], _∷_, _++_, map, map-id, reverse}
@@ -147,7 +150,8 @@ handed-onward l reflected s (suc k) m i h g =
     ∙ ap (λ r. map (turned reflected) (take k r)) after ∙ ap (map (turned reflected)) (take-append-le k rest (getD (edges l) i O ∷ []) fits))
     ∙ ap (λ r. map (turned reflected) (take (suc k) r)) (sym (rotate-at i (edges l) O (omega arith)))
 
--- backwards from place i is in table order from place j of the table reversed, where i + j is the last place
+-- backwards from place i is in table order from place j of the table reversed, where i + j is the
+-- last place
 handed-backward : (l : List Pt) (reflected : Bool) (s k m i j : ℕ) → suc (i + j) ≡ length l → handed k l (around true reflected s m i) ≡ handed k (reverse l) (around false reflected s m j)
 unfolding handed edgeOf advance nextIndex
 handed-backward l reflected s zero m i j h = refl

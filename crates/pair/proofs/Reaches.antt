@@ -1,5 +1,6 @@
--- The reach (support function) of a list of points, and of the contour of a convex list of edges: in direction d it is attained at the cut of
--- rot d (`reach-corners`), so reaches add (`reach-join`). Assumes nothing.
+-- The reach (support function) of a list of points, and of the contour of a convex list of edges:
+-- in direction d it is attained at the cut of rot d (`reach-corners`), so reaches add
+-- (`reach-join`). Assumes nothing.
 use mathlib.Core.Path.{_≡_, refl, sym, _∙_, ap, ap₂, subst, subst₂}
 use mathlib.Core.List.{List, [], _∷_, map, List·Permᴰ}
 use mathlib.Core.Logic.{_⊎_, inl, inr, ⊎-elim}
@@ -85,7 +86,8 @@ unfolding cornersFrom
 corners-nonempty P [] c h = convex-nonempty [] c refl
 corners-nonempty P (e ∷ l) c h = let z : _≡_ {A = ℕ} 0 1 = cc in omega arith
 
--- ---- no corner passes the cut: A, the edges before the corner, in any order; b ∷ B, those after it
+-- ---- no corner passes the cut: A, the edges before the corner, in any order; b ∷ B, those after
+-- it
 
 module _ (r : Pt) (nr : Nz r) (E : List Pt) (c : Convex E) (A : List Pt) (b : Pt) (B : List Pt) (s : Split Le E A (b ∷ B)) where
   nA : All Nz A

@@ -1,6 +1,7 @@
--- A table read from the place s of a least corner by (y, x), onward (`rotate s l`) or backwards: the nonzero edges are a convex list, the table's
--- outline, and the sign of the winding says which way it goes. In order: rotations and reversals of a contour; the four theorems
--- (`outline-on`, `winding-on`, `outline-back`, `winding-back`). Assumes nothing.
+-- A table read from the place s of a least corner by (y, x), onward (`rotate s l`) or backwards:
+-- the nonzero edges are a convex list, the table's outline, and the sign of the winding says which
+-- way it goes. In order: rotations and reversals of a contour; the four theorems (`outline-on`,
+-- `winding-on`, `outline-back`, `winding-back`). Assumes nothing.
 use mathlib.Core.Path.{_≡_, refl, sym, _∙_, ap, subst}
 use mathlib.Core.Bool.{false}
 use mathlib.Core.List.{List, [], _∷_, _++_, map, reverse, reverse-cons, List·Permᴰ, List·Permᴰ·trans, Permᴰ·map, Permᴰ·symm, Permᴰ·reverse}

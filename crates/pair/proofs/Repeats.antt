@@ -1,7 +1,9 @@
--- Once round, by the nonzero edges: "corners equal to the one before dropped" leaves the turns of the nonzero edges. Laws of `fresh`,
--- `withoutRepeats`, `howMany`, `roundBy`, `onceRound` of specs/Premise.antt. In order: a count in another order (`howMany-perm`); edges once
--- round (`RoundEdges`) and `roundBy`; the edges into the corners that are kept, and so the turns (`turns-without`), read the other way round
--- too (`turns-without-back`); the premise (`round-live`, `live-round`, `once-round`), and so of a walk's edges (`round-rotate`,
+-- Once round, by the nonzero edges: "corners equal to the one before dropped" leaves the turns of
+-- the nonzero edges. Laws of `fresh`, `withoutRepeats`, `howMany`, `roundBy`, `onceRound` of
+-- specs/Premise.antt. In order: a count in another order (`howMany-perm`); edges once round
+-- (`RoundEdges`) and `roundBy`; the edges into the corners that are kept, and so the turns
+-- (`turns-without`), read the other way round too (`turns-without-back`); the premise
+-- (`round-live`, `live-round`, `once-round`), and so of a walk's edges (`round-rotate`,
 -- `round-backwards`). Assumes nothing.
 use mathlib.Core.Path.{_≡_, refl, sym, _∙_, ap, ap₂, subst}
 use mathlib.Core.Bool.{Bool, true, not, cond}
@@ -119,7 +121,8 @@ negated-back E F p =
 turns-reverse : (l : List Pt) → List·Permᴰ (turns (reverse l)) (neighbours (reverse (map negᵖ (edges l))))
 turns-reverse l = rw edges-reverse (perm-neighbours-rotate 1 (reverse (map negᵖ (edges l))))
 
--- the nonzero edges of the contour read backwards are the nonzero edges negated, in the other order, from another edge
+-- the nonzero edges of the contour read backwards are the nonzero edges negated, in the other
+-- order, from another edge
 live-reverse-edges : (l : List Pt) → List·Permᴰ (neighbours (live (edges (reverse l)))) (neighbours (reverse (map negᵖ (live (edges l)))))
 live-reverse-edges l =
     let E : List Pt = reverse (map negᵖ (edges l)) in

@@ -1,7 +1,9 @@
--- Strictly convex contours. In order: strictly ascending lists with the same edges are one (`sorted-unique`); what `strictlyConvex` says of the
--- edges: none is zero (`sharp-nonzero`), they go round (`sharp-round`), and read from a least corner, onward or, where the reverse is strictly
--- convex, backwards, they ascend strictly (`sharp-ascends`, `sharp-ascends-back`), which is one reading (`sharp-back`); the winding seen from a
--- corner is the doubled area (`winding-area`). Assumes nothing.
+-- Strictly convex contours. In order: strictly ascending lists with the same edges are one
+-- (`sorted-unique`); what `strictlyConvex` says of the edges: none is zero (`sharp-nonzero`), they
+-- go round (`sharp-round`), and read from a least corner, onward or, where the reverse is strictly
+-- convex, backwards, they ascend strictly (`sharp-ascends`, `sharp-ascends-back`), which is one
+-- reading (`sharp-back`); the winding seen from a corner is the doubled area (`winding-area`).
+-- Assumes nothing.
 use mathlib.Core.Path.{_≡_, refl, sym, _∙_, ap, subst}
 use mathlib.Core.Bool.{true, false, not, cond}
 use mathlib.Core.List.{List, [], _∷_, map, map-map, reverse, List·Permᴰ, List·Permᴰ·trans, Permᴰ·refl, Permᴰ·symm, Permᴰ·reverse}

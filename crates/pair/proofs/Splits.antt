@@ -1,6 +1,7 @@
--- A sorted list of edges in two parts (`Split`), to walk along it with the edges before as a bag; and the corners of a strictly ascending list: each
--- is the first plus the cut at the edge out of it (`corners-cuts`), and an edge goes from its own cut to the next one's (`cut-next`).
--- Assumes nothing.
+-- A sorted list of edges in two parts (`Split`), to walk along it with the edges before as a bag;
+-- and the corners of a strictly ascending list: each is the first plus the cut at the edge out of
+-- it (`corners-cuts`), and an edge goes from its own cut to the next one's (`cut-next`). Assumes
+-- nothing.
 use mathlib.Core.Path.{_≡_, refl, sym, _∙_, ap, ap₂}
 use mathlib.Core.Bool.{Bool, true}
 use mathlib.Core.List.{List, [], _∷_, _++_, map, List·Permᴰ, List·Permᴰ·trans, Permᴰ·refl, Permᴰ·symm, Permᴰ·middle}

@@ -1,7 +1,9 @@
--- Where a walk starts, and the other extreme of its contour: laws of `below`, `leastAt`, `greatestAt`, `startAt`, `endAt` of specs/Walk.antt.
--- In order: `below` is a strict total order of points by (y, x), which is the upper half seen from the lower one (`below-up`), and turning
--- through the origin turns it about; the least corner, first of equals, and the greatest, last of equals (`Least`, `Greatest`, by place);
--- a walk's start and end, of either kind. Assumes nothing.
+-- Where a walk starts, and the other extreme of its contour: laws of `below`, `leastAt`,
+-- `greatestAt`, `startAt`, `endAt` of specs/Walk.antt.
+-- In order: `below` is a strict total order of points by (y, x), which is the upper half seen from
+-- the lower one (`below-up`), and turning through the origin turns it about; the least corner,
+-- first of equals, and the greatest, last of equals (`Least`, `Greatest`, by place); a walk's start
+-- and end, of either kind. Assumes nothing.
 use mathlib.Core.Path.{_≡_, refl, sym, _∙_, ap, subst}
 use mathlib.Core.Bool.{Bool, true, false}
 use mathlib.Core.List.{List, [], _∷_}
@@ -233,7 +235,8 @@ least-all l h = getD-all (λ c. below c (cornerAt l (leastAt l)) ≡ false) l O 
 pub greatest-all : (l : List Pt) → 0 < length l → All (λ c. below (cornerAt l (greatestAt l)) c ≡ false) l
 greatest-all l h = getD-all (λ c. below (cornerAt l (greatestAt l)) c ≡ false) l O (greatest-is l h .highest)
 
--- ---- a walk's start and the other extreme: the least and the greatest, for a reflected walk the other way round
+-- ---- a walk's start and the other extreme: the least and the greatest, for a reflected walk the
+-- other way round
 
 pub start-is-least : (l : List Pt) → 0 < length l → Least l (length l) (startAt false l)
 unfolding startAt

@@ -1,5 +1,6 @@
--- The corners of a convex, strictly ascending list of edges are a strictly convex contour as document 01 defines it (`strictly-convex`): their
--- edges are the list (`edges-corners`), every turn is to the left, and there is one descent, from the last edge to the first. Assumes nothing.
+-- The corners of a convex, strictly ascending list of edges are a strictly convex contour as
+-- document 01 defines it (`strictly-convex`): their edges are the list (`edges-corners`), every
+-- turn is to the left, and there is one descent, from the last edge to the first. Assumes nothing.
 use mathlib.Core.Path.{_≡_, refl, sym, _∙_, ap, ap₂}
 use mathlib.Core.Bool.{true, not}
 use mathlib.Core.List.{List, [], _∷_, _++_, map}

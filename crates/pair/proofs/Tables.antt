@@ -1,6 +1,8 @@
--- From a table of corners to a convex list of edges. W = P ∷ t is the table read from a least corner P. In order: the way along a list (`steps`),
--- its corners and points, its end, and the winding's terms; from a least corner with `RoundEdges`, `live (edges W)` is convex (`convex-read`), its
--- winding above 0 (`winding-read`), and W's outline (`outline-read`). Assumes nothing.
+-- From a table of corners to a convex list of edges. W = P ∷ t is the table read from a least
+-- corner P. In order: the way along a list (`steps`), its corners and points, its end, and the
+-- winding's terms; from a least corner with `RoundEdges`, `live (edges W)` is convex
+-- (`convex-read`), its winding above 0 (`winding-read`), and W's outline (`outline-read`). Assumes
+-- nothing.
 use mathlib.Core.Path.{_≡_, refl, sym, _∙_, ap, ap₂, subst, subst₂}
 use mathlib.Core.Bool.{true, false, cond}
 use mathlib.Core.List.{List, [], _∷_, _++_, map}
@@ -169,7 +171,8 @@ forward-cases c h =
       | after e k ↦ differ (sym (ap₂ (λ b o. cond b true (isEqual o)) t e) ∙ h)
     ])
 
--- the descent from the last edge to the first is the only one, and were all on one line, that turn would go back
+-- the descent from the last edge to the first is the only one, and were all on one line, that turn
+-- would go back
 convex-many : (s e f : Pt) (l : List Pt) → All Nz (e ∷ f ∷ l) → sumᵖ (e ∷ f ∷ l) ≡ O → All (From s) (cornersFrom s (e ∷ f ∷ l)) → RoundEdges (e ∷ f ∷ l) → Convex (e ∷ f ∷ l)
 unfolding descent
 convex-many s e f l n z from round = record {

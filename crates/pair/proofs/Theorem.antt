@@ -1,4 +1,5 @@
--- Demand 3 of the definitions (`demand3`), the walk's lemma (`walked`) and de Berg et al.'s sum (`sum-is-de-berg`). Assumes nothing.
+-- Demand 3 of the definitions (`demand3`), the walk's lemma (`walked`) and de Berg et al.'s sum
+-- (`sum-is-de-berg`). Assumes nothing.
 use mathlib.Core.Path.{_≡_, refl, sym, _∙_, ap, ap₂, subst, subst₂}
 use mathlib.Core.Bool.{Bool, true, false, cond}
 use mathlib.Core.List.{List, [], _∷_, map, map-id, reverse}

@@ -1,5 +1,6 @@
--- Sums of edges. In order: `sumᵖ`; the sum over the edges whose direction passes a test (`total`), and over those before a direction r (`cut`);
--- on which side of r a sum lies, from the sides of its edges; sums of integers at least 0. Assumes nothing.
+-- Sums of edges. In order: `sumᵖ`; the sum over the edges whose direction passes a test (`total`),
+-- and over those before a direction r (`cut`); on which side of r a sum lies, from the sides of its
+-- edges; sums of integers at least 0. Assumes nothing.
 use mathlib.Core.Path.{_≡_, refl, sym, _∙_, ap, subst}
 use mathlib.Core.Bool.{Bool, true, false, cond}
 use mathlib.Core.List.{List, [], _∷_, _++_, map, List·Permᴰ, List·Permᴰ·nil, List·Permᴰ·cons, List·Permᴰ·swap, List·Permᴰ·trans}

@@ -1,7 +1,8 @@
--- A contour turned through the origin, as a reflected walk reads it. In order: edges round a contour, negated, go round too (`round-neg`): the
--- descents of one are the changes from the lower to the upper half, and round a cycle these are as many as the changes back; negation goes
--- through edges, rotations and windings; so what holds from a least corner holds from a greatest one (`outline-on-neg`, `winding-on-neg`,
--- `outline-back-neg`, `winding-back-neg`). Assumes nothing.
+-- A contour turned through the origin, as a reflected walk reads it. In order: edges round a
+-- contour, negated, go round too (`round-neg`): the descents of one are the changes from the lower
+-- to the upper half, and round a cycle these are as many as the changes back; negation goes through
+-- edges, rotations and windings; so what holds from a least corner holds from a greatest one
+-- (`outline-on-neg`, `winding-on-neg`, `outline-back-neg`, `winding-back-neg`). Assumes nothing.
 use mathlib.Core.Path.{_≡_, refl, sym, _∙_, ap, ap₂, subst, subst₂}
 use mathlib.Core.Bool.{Bool, true, false, not, cond}
 use mathlib.Core.List.{List, [], _∷_, map, map-map, reverse, Permᴰ·map}

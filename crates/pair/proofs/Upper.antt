@@ -1,5 +1,6 @@
--- Seen from its first corner, the other corners of a convex list of edges lie in the upper half (`up-corner`) and none right of the edge out of it
--- (`left-weakly`, `left-strictly`): a sum of edges before, or minus a sum of edges after. So the corners are distinct (`distinct-corners`).
+-- Seen from its first corner, the other corners of a convex list of edges lie in the upper half
+-- (`up-corner`) and none right of the edge out of it (`left-weakly`, `left-strictly`): a sum of
+-- edges before, or minus a sum of edges after. So the corners are distinct (`distinct-corners`).
 -- Assumes nothing.
 use mathlib.Core.Path.{_≡_, refl, sym, _∙_, ap, subst}
 use mathlib.Core.Bool.{Bool, true, false}
@@ -26,7 +27,8 @@ use Rattle.pair.proofs.Totals.{sum-cons, sum-some, sum-left, sum-right,
 use Rattle.pair.proofs.Splits.{Split, split-start, split-next, split-before, split-all, split-sum, cut-split, corners-cuts}
 use Rattle.pair.proofs.Join.{sorted-le}
 
--- what comes before one of the upper half is in it, what comes after one of the lower half is in that
+-- what comes before one of the upper half is in it, what comes after one of the lower half is in
+-- that
 half-before : {a b : Pt} → Le a b → lower b ≡ false → lower a ≡ false
 half-before {a} {b} h e = at (lower a) (lower b) (h .le) e
   where

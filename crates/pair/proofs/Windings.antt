@@ -1,5 +1,6 @@
--- The winding of a convex list of edges: the sum of the crosses of each corner, seen from the first, with the edge out of it, is above 0
--- (`winding-pos`). No term is below 0; were all 0, each edge would lie along the first. Assumes nothing.
+-- The winding of a convex list of edges: the sum of the crosses of each corner, seen from the
+-- first, with the edge out of it, is above 0 (`winding-pos`). No term is below 0; were all 0, each
+-- edge would lie along the first. Assumes nothing.
 use mathlib.Core.Path.{_≡_, refl, sym, _∙_, ap, subst}
 use mathlib.Core.List.{List, [], _∷_}
 use mathlib.Core.Logic.{⊎-elim}

@@ -1,5 +1,6 @@
--- De Berg et al.'s sum (document 01): "the corner list that their merge of edges by angle from the lowest, then leftmost, corners gives. It is
--- stated for contours without repeated or in-line corners, clockwise ones turned about first". Assumes nothing.
+-- De Berg et al.'s sum (document 01): "the corner list that their merge of edges by angle from the
+-- lowest, then leftmost, corners gives. It is stated for contours without repeated or in-line
+-- corners, clockwise ones turned about first". Assumes nothing.
 use mathlib.Core.Path.{_≡_}
 use mathlib.Core.Bool.{cond}
 use mathlib.Core.List.{List, [], _∷_, reverse}
@@ -19,8 +20,8 @@ anticlockwise l = cond (ltZ (contourArea l) (pos 0)) (reverse l) l
 unfoldable pub fromLowest : List Pt → List Pt
 fromLowest l = rotate (leastAt l) l
 
--- one turn of the merge, written so that it recurses on one list: the edge e, the edges after it, which `rest` merges, and the list m. `MergeCases` below
--- says it case by case
+-- one turn of the merge, written so that it recurses on one list: the edge e, the edges after it,
+-- which `rest` merges, and the list m. `MergeCases` below says it case by case
 unfoldable pub mergeOne : Pt → (List Pt → List Pt) → List Pt → List Pt
 mergeOne e rest [] = e ∷ rest []
 mergeOne e rest (f ∷ m) =
@@ -35,7 +36,8 @@ unfoldable pub mergeByAngle : List Pt → List Pt → List Pt
 mergeByAngle [] m = m
 mergeByAngle (e ∷ l) m = mergeOne e (mergeByAngle l) m
 
--- the same case by case, as de Berg et al. have it; that the definition has them is proved (`merge-cases` of proofs/DeBerg.antt)
+-- the same case by case, as de Berg et al. have it; that the definition has them is proved
+-- (`merge-cases` of proofs/DeBerg.antt)
 pub record MergeCases : Type 0 where
   -- one list has run out: what is left of the other
   pub first-out : (m : List Pt) → mergeByAngle [] m ≡ m

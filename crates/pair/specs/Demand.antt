@@ -1,5 +1,5 @@
--- Demand 3, and what stands beside it, as statements over the definitions of walk, pair and premise. They are proved in proofs/Theorem.antt.
--- Assumes nothing.
+-- Demand 3, and what stands beside it, as statements over the definitions of walk, pair and
+-- premise. They are proved in proofs/Theorem.antt. Assumes nothing.
 use mathlib.Core.Path.{_≡_}
 use mathlib.Core.Bool.{Bool, true, false, cond}
 use mathlib.Core.List.{List, [], _∷_, reverse}
@@ -16,16 +16,19 @@ use Rattle.pair.specs.Pair.{pairContour}
 use Rattle.pair.specs.Berg.{deBerg}
 use Rattle.pair.specs.Premise.{withoutRepeats, roundBy, forward, onceRound, strictlyConvex, reach, throughOrigin}
 
--- the second contour as a pair reads it: "with the second contour turned through the origin" for a difference
+-- the second contour as a pair reads it: "with the second contour turned through the origin" for a
+-- difference
 unfoldable pub second : Bool → List Pt → List Pt
 second reflected B = cond reflected (throughOrigin B) B
 
--- L has at least one point, and "in every whole-number direction its reach is exactly the two reaches added"
+-- L has at least one point, and "in every whole-number direction its reach is exactly the two
+-- reaches added"
 pub record SameReach (A B L : List Pt) : Type 0 where
   pub nonempty : L ≡ [] → ⊥
   pub adds : (d : Pt) → reach d L ≡ reach d A +ℤ reach d B
 
--- K, emitted for A and B, where B stands as `second` reads it and `start` is the sum of the walks' first points
+-- K, emitted for A and B, where B stands as `second` reads it and `start` is the sum of the walks'
+-- first points
 pub record FarthestReach (start : Pt) (A B K : List Pt) : Type 0 where
   pub begins : cornerAt K 0 ≡ start
   pub convex : strictlyConvex K ≡ true
@@ -72,7 +75,8 @@ pub record WalkedRound (reflected : Bool) (l : List Pt) : Type 0 where
   pub ascends : ascending (live (walkEdges reflected l)) ≡ true
   pub closes : sumᵖ (walkEdges reflected l) ≡ O
 
--- the winding of a contour once round is not zero, its sign says which way it winds, and the walk's edges ascend in direction and add up to zero
+-- the winding of a contour once round is not zero, its sign says which way it winds, and the walk's
+-- edges ascend in direction and add up to zero
 abbrev pub Walked : Type 0
 Walked = (reflected : Bool) (l : List Pt) → onceRound l ≡ true → WalkedRound reflected l
 
@@ -80,7 +84,8 @@ Walked = (reflected : Bool) (l : List Pt) → onceRound l ≡ true → WalkedRou
 abbrev pub FewCorners : Type 0
 FewCorners = (reflected : Bool) (A B : List Pt) → length (pairContour reflected A B) ≤ length A + length B
 
--- ---- "on strictly convex contours the sum is proved to be de Berg et al.'s" (demand 2), clockwise ones turned about first
+-- ---- "on strictly convex contours the sum is proved to be de Berg et al.'s" (demand 2), clockwise
+-- ones turned about first
 abbrev pub EitherWay : List Pt → Type 0
 EitherWay l = (strictlyConvex l ≡ true) ⊎ (strictlyConvex (reverse l) ≡ true)
 

@@ -1,5 +1,5 @@
--- Two walks merged (document 01, "Walking a pair"): which walk steps, one corner, the end, and the contour of a pair.
--- Assumes nothing.
+-- Two walks merged (document 01, "Walking a pair"): which walk steps, one corner, the end, and the
+-- contour of a pair. Assumes nothing.
 use mathlib.Core.Bool.{Bool, true, false, cond}
 use mathlib.Core.List.{List, [], _∷_}
 use Prim.Native.Nat.{ℕ, zero, suc, _+_}
@@ -18,8 +18,8 @@ pub data Pick : Type 0 where
   first : Pt → Pick
   second : Pt → Pick
 
--- "A zero edge steps without effect and before any comparison, the first operand's first"; "The lesser edge steps; the first operand steps on
--- equality."
+-- "A zero edge steps without effect and before any comparison, the first operand's first"; "The
+-- lesser edge steps; the first operand steps on equality."
 unfoldable pub lesser : Pt → Pt → Pick
 lesser a b = cond (isZero a) (first a) (cond (isZero b) (second b) (cond (isGreater (angleCmp a b)) (second b) (first a)))
 

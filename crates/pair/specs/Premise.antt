@@ -1,5 +1,6 @@
--- The words of demand 3: once round a convex area above zero, strictly convex, reach (document 01, "Walking a pair").
--- They speak of the cyclic list of corners alone: its turns and descents, or those of its reverse. Assumes nothing.
+-- The words of demand 3: once round a convex area above zero, strictly convex, reach (document 01,
+-- "Walking a pair"). They speak of the cyclic list of corners alone: its turns and descents, or
+-- those of its reverse. Assumes nothing.
 use mathlib.Core.Bool.{Bool, true, false, not, cond}
 use mathlib.Core.List.{List, [], _∷_, map, reverse}
 use Prim.Native.Nat.{ℕ, _+_}
@@ -11,7 +12,8 @@ use Rattle.integers.specs.Greatest.{greatest}
 use Rattle.plane.specs.Plane.{Pt, negᵖ, eqPt, cross, dot, angleCmp, isEqual, isLess}
 use Rattle.plane.specs.Contour.{lastOf, edges}
 
--- ---- "corners equal to the one before dropped (the last is before the first; no other repeats are dropped)"
+-- ---- "corners equal to the one before dropped (the last is before the first; no other repeats are
+-- dropped)"
 
 -- those of l, where q is before its first
 unfoldable pub fresh : Pt → List Pt → List Pt
@@ -33,7 +35,8 @@ unfoldable pub howMany : (Pt × Pt → Bool) → List (Pt × Pt) → ℕ
 howMany t [] = 0
 howMany t (c ∷ l) = cond (t c) 1 0 + howMany t l
 
--- "every turn goes to one side or straight on, never back", read so that the turns go left: "straight on is 0 with the direction kept"
+-- "every turn goes to one side or straight on, never back", read so that the turns go left:
+-- "straight on is 0 with the direction kept"
 unfoldable pub forward : Pt × Pt → Bool
 forward c = cond (ltZ (pos 0) (cross (c .0) (c .1))) true (isEqual (angleCmp (c .0) (c .1)))
 
@@ -58,11 +61,13 @@ roundBy t l = both (eqb (howMany (λ c. not (t c)) (turns l)) 0) (eqb (howMany d
 unfoldable pub onceRound : List Pt → Bool
 onceRound l = cond (roundBy forward (withoutRepeats l)) true (roundBy forward (reverse (withoutRepeats l)))
 
--- "Strictly convex, counter-clockwise means the same of the corners as they stand, with every turn above 0."
+-- "Strictly convex, counter-clockwise means the same of the corners as they stand, with every turn
+-- above 0."
 unfoldable pub strictlyConvex : List Pt → Bool
 strictlyConvex l = roundBy left l
 
--- "Reach in direction (u, v) is the greatest u times x plus v times y over the list" (the support function); 0 of no corners
+-- "Reach in direction (u, v) is the greatest u times x plus v times y over the list" (the support
+-- function); 0 of no corners
 unfoldable pub reach : Pt → List Pt → ℤ
 reach d [] = pos 0
 reach d (p ∷ l) = greatest (dot d p) (map (dot d) l)

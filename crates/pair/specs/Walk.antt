@@ -1,5 +1,5 @@
--- One walk (document 01, "Walking a pair"): where it starts, its winding, its place, and what it hands out.
--- Assumes nothing.
+-- One walk (document 01, "Walking a pair"): where it starts, its winding, its place, and what it
+-- hands out. Assumes nothing.
 use mathlib.Core.Bool.{Bool, true, false, cond}
 use mathlib.Core.List.{List, [], _∷_, map}
 use Prim.Native.Nat.{ℕ, suc, _-_}
@@ -15,7 +15,8 @@ use Rattle.pair.specs.declared.Place.{Place}
 abbrev pub cornerAt : List Pt → ℕ → Pt
 cornerAt l i = getD l i O
 
--- ---- "A walk starts at the lowest corner, then leftmost, first of equals; a reflected walk at the highest, then rightmost, last of equals."
+-- ---- "A walk starts at the lowest corner, then leftmost, first of equals; a reflected walk at the
+-- highest, then rightmost, last of equals."
 
 -- p comes before q by (y, x)
 unfoldable pub below : Pt → Pt → Bool
@@ -47,7 +48,8 @@ startAt reflected l = cond reflected (greatestAt l) (leastAt l)
 unfoldable pub endAt : Bool → List Pt → ℕ
 endAt reflected l = cond reflected (leastAt l) (greatestAt l)
 
--- ---- "Winding is the sum of crosses of neighbouring corners, seen from the start, in table order."
+-- ---- "Winding is the sum of crosses of neighbouring corners, seen from the start, in table
+-- order."
 
 unfoldable pub windingTerms : ℕ → List Pt → List ℤ
 windingTerms s l = map (λ e. cross (e .0 -ᵖ cornerAt l s) (e .1 -ᵖ cornerAt l s)) (neighbours (rotate s l))
@@ -55,7 +57,8 @@ windingTerms s l = map (λ e. cross (e .0 -ᵖ cornerAt l s) (e .1 -ᵖ cornerAt
 unfoldable pub winding : Bool → List Pt → ℤ
 winding reflected l = sumℤ (windingTerms (startAt reflected l) l)
 
--- "a winding's running total, as the walk forms it, leaves signed 64 bits" (fault 8): some total of t and the terms so far does
+-- "a winding's running total, as the walk forms it, leaves signed 64 bits" (fault 8): some total of
+-- t and the terms so far does
 abbrev pub inWord : ℤ → Bool
 inWord z = cond (ltZ z (negsuc 9223372036854775807)) false (leZ z (pos 9223372036854775807))
 
@@ -68,8 +71,8 @@ windingLeaves reflected l = totalLeaves (pos 0) (windingTerms (startAt reflected
 
 -- ---- where it stands at first
 
--- "Negative: walk backwards. Zero: the contour is a segment between the extremes by (y, x) .., walked out and back; a point if they are
--- equal, with no edges."
+-- "Negative: walk backwards. Zero: the contour is a segment between the extremes by (y, x) ..,
+-- walked out and back; a point if they are equal, with no edges."
 abbrev pub placeBy : Bool → ℕ → ℕ → ℕ → ℤ → Bool → Place
 placeBy reflected n s e w point =
     cond (ltZ w (pos 0))
@@ -85,7 +88,8 @@ begin reflected l =
 
 -- ---- "A walk .. hands out point, edge and the next place."
 
--- round a contour of n corners; a segment's walk goes from its start to its end, and from anywhere else to its start
+-- round a contour of n corners; a segment's walk goes from its start to its end, and from anywhere
+-- else to its start
 unfoldable pub nextIndex : ℕ → Place → ℕ
 nextIndex n w =
     cond (w .segment) (cond (eqb (w .index) (w .start)) (w .end) (w .start))

@@ -1,5 +1,7 @@
--- Chains a turn at a time: the next place (`chain-next`), the end (`chain-end`), that a turn goes on (`onward`), how many places there are at most (`chain-short`); where a
--- lane stands (`Stands`), from its start (`stands-start`) by turns (`stands-room`, `stands-next`) to its end (`stands-end`). Assumes nothing.
+-- Chains a turn at a time: the next place (`chain-next`), the end (`chain-end`), that a turn goes
+-- on (`onward`), how many places there are at most (`chain-short`); where a lane stands (`Stands`),
+-- from its start (`stands-start`) by turns (`stands-room`, `stands-next`) to its end
+-- (`stands-end`). Assumes nothing.
 use mathlib.Core.Path.{_≡_, refl, sym, _∙_, ap, subst}
 use mathlib.Core.Bool.{Bool, true, false, cond}
 use mathlib.Core.List.{List, [], _∷_, append-nil}
@@ -88,7 +90,8 @@ module _ (numbers : List ℕ) (end : ℕ) where
 
 -- ---- where a lane stands
 
--- of the corners `whole`, put into `out₀` after the first k₀, those from the lane's places on are still to come
+-- of the corners `whole`, put into `out₀` after the first k₀, those from the lane's places on are
+-- still to come
 pub record Stands (points : List (List ℤ)) (numbers : List ℕ) (end : ℕ) (whole : List Pt) (out₀ : List ℤ) (k₀ : ℕ) (s : Lane) (out : List ℤ) : Type 0 where
   pub runs : Runs (length points) numbers end (s .i) (s .j)
   pub put : Reached whole (contourFrom points numbers end (s .i) (s .j)) out₀ k₀ out (s .k)

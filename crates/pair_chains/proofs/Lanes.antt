@@ -1,5 +1,6 @@
--- Lanes of pairs, each with what its calls ask and tell: one that puts corners (`Of`: `of-start`, `of-turn`, `of-next`, `of-rest`, `of-done`), and one that counts them
--- (`Counting`, with the same). Loops over two and four lanes use these alone. Assumes nothing.
+-- Lanes of pairs, each with what its calls ask and tell: one that puts corners (`Of`: `of-start`,
+-- `of-turn`, `of-next`, `of-rest`, `of-done`), and one that counts them (`Counting`, with the
+-- same). Loops over two and four lanes use these alone. Assumes nothing.
 use mathlib.Core.Path.{_≡_, sym, _∙_, ap, subst}
 use mathlib.Core.Bool.{Bool, true, false, cond}
 use mathlib.Core.List.{List, [], _∷_}

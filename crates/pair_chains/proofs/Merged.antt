@@ -1,4 +1,5 @@
--- The chain of two walks that lie in the buffers with their numbers (`Lies`): its corners are the walks merged, and its places are theirs (`chain-merged`). Assumes nothing.
+-- The chain of two walks that lie in the buffers with their numbers (`Lies`): its corners are the
+-- walks merged, and its places are theirs (`chain-merged`). Assumes nothing.
 use mathlib.Core.Path.{_≡_, refl, sym, _∙_, ap, ap₂, subst, subst₂}
 use mathlib.Core.Bool.{true, false}
 use mathlib.Core.List.{List, [], _∷_}
@@ -24,7 +25,8 @@ pub record Lies (numberOf : List Pt → ℕ → ℕ) (points : List (List ℤ)) 
   pub corner : (i : ℕ) → i < length a → cornerIn points (f + i) ≡ nthPoint a i
   pub number : (i : ℕ) → i < length a → getD numbers (f + i) 0 ≡ numberOf a i
 
--- from places i and j of the walks on: the corners are the rest merged, and the places are among those of the buffer
+-- from places i and j of the walks on: the corners are the rest merged, and the places are among
+-- those of the buffer
 pub record MergedFrom (points : List (List ℤ)) (numbers : List ℕ) (end f g : ℕ) (a b : List Pt) (i j : ℕ) : Type 0 where
   pub corners : contourFrom points numbers end (f + i) (g + j) ≡ mergedOf (drop i a) (drop j b)
   pub inside : All (λ p. (p .0 < length points) × (p .1 < length points)) (chain numbers end (f + i) (g + j))

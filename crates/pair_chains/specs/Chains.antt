@@ -1,5 +1,6 @@
--- Two walks in one buffer of points merged by the numbers of their points (direction_keys has what those are): the places at which they stand, turn by turn (`chain`), the
--- corners at those (`contourFrom`), and what running along a chain asks (`Runs`, `Buffers`). Assumes nothing.
+-- Two walks in one buffer of points merged by the numbers of their points (direction_keys has what
+-- those are): the places at which they stand, turn by turn (`chain`), the corners at those
+-- (`contourFrom`), and what running along a chain asks (`Runs`, `Buffers`). Assumes nothing.
 use mathlib.Core.Bool.{Bool, false, cond}
 use mathlib.Core.List.{List, [], _∷_, map}
 use Prim.Native.Nat.{ℕ, zero, suc, _+_, _-_, _≤_, _<_, _^_}

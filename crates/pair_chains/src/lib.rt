@@ -1,7 +1,10 @@
-// Pairs of walks merged by the numbers of their points (direction_keys), over one buffer of points and one of numbers: the places where two walks stand follow from the
-// numbers alone, without a branch but the loop's (`chain` of specs/Chains.antt), and the corners are the sums there. `merge_one` puts a pair's corners, `merge_two` and
-// `merge_four` those of two and four pairs side by side, the first into the lent corners and the others into work buffers; `count_one` and `count_four` only count them.
-// That these are the merged walks is the law `chain-merged`. Leans on direction_keys and pair_merge.
+// Pairs of walks merged by the numbers of their points (direction_keys), over one buffer of points
+// and one of numbers: the places where two walks stand follow from the numbers alone, without a
+// branch but the loop's (`chain` of specs/Chains.antt), and the corners are the sums there.
+// `merge_one` puts a pair's corners, `merge_two` and `merge_four` those of two and four pairs side
+// by side, the first into the lent corners and the others into work buffers; `count_one` and
+// `count_four` only count them. That these are the merged walks is the law `chain-merged`. Leans on
+// direction_keys and pair_merge.
 ghost use mathlib.Core.Path.{_≡_};
 ghost use mathlib.Core.Bool.{Bool, true, false, cond};
 ghost use mathlib.Core.List.{_∷_, []};
@@ -20,7 +23,8 @@ pub struct Lane {
     pub k: usize,
 }
 
-// Where a pair's walks begin, and the sum of the places of their last points; 0, 0, 0 where one is empty.
+// Where a pair's walks begin, and the sum of the places of their last points; 0, 0, 0 where one is
+// empty.
 pub struct Pair {
     pub i: usize,
     pub j: usize,
@@ -54,7 +58,8 @@ fn one_if(t: bool) -> usize
     t as usize
 }
 
-// One turn without a corner: the walk with the lesser number steps, and both where the numbers are equal.
+// One turn without a corner: the walk with the lesser number steps, and both where the numbers are
+// equal.
 fn step_on(numbers: &[u64], s: Lane) -> Lane
     requires { ⌜ (s .i < length (now numbers)) × (s .j < length (now numbers)) × (s .k + 1 < 2 ^ 64) ⌝ }
     ensures { λ r.
@@ -185,7 +190,8 @@ fn going_four(a: Lane, b: Lane, c: Lane, d: Lane, x: Pairs) -> bool
     false
 }
 
-// The same of four pairs side by side: those of the second, the third and the fourth are put into work buffers.
+// The same of four pairs side by side: those of the second, the third and the fourth are put into
+// work buffers.
 pub fn merge_four(
     points: &[[i32; 2]],
     numbers: &[u64],

@@ -1,4 +1,5 @@
--- The pairs program's line, computed: "0 0 3 (0,0) (4,0) (0,4)"; an empty contour; a head line. Assumes nothing.
+-- The pairs program's line, computed: "0 0 3 (0,0) (4,0) (0,4)"; an empty contour; a head line.
+-- Assumes nothing.
 use mathlib.Core.Path.{_≡_, refl}
 use mathlib.Core.List.{List, [], _∷_, flatten}
 use Prim.Native.Nat.{ℕ}

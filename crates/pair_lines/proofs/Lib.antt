@@ -1,4 +1,5 @@
--- Laws of the lines of pairs: their pieces and lengths; the line of a pair of walks; their order; lines computed.
+-- Laws of the lines of pairs: their pieces and lengths; the line of a pair of walks; their order;
+-- lines computed.
 pub mod Pieces
 pub mod Sizes
 pub mod Pairs

@@ -1,4 +1,5 @@
--- The lines of all pairs are the lines of left part 0 with each right part, then those of left part 1, and so on (`lines-in-order`). Assumes nothing.
+-- The lines of all pairs are the lines of left part 0 with each right part, then those of left part
+-- 1, and so on (`lines-in-order`). Assumes nothing.
 use mathlib.Core.Path.{_≡_, refl, sym, _∙_, ap, ap₂}
 use mathlib.Core.Bool.{Bool}
 use mathlib.Core.List.{List, [], _∷_, _++_, map, flatten, append-assoc, append-nil, map-append}

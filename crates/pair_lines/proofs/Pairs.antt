@@ -1,6 +1,7 @@
--- The pair of two walks in a buffer: its corners stand on the front of the work buffer (`merged-front`), their numbers have 32 bits (`pair-words`), they are few
--- (`pair-few`), so that a line has room (`pair-room`); as code has them (`pair-count`, `pair-inside`); and it is the contour of the parts that were unrolled
--- (`line-of-pair`). Assumes nothing.
+-- The pair of two walks in a buffer: its corners stand on the front of the work buffer
+-- (`merged-front`), their numbers have 32 bits (`pair-words`), they are few (`pair-few`), so that a
+-- line has room (`pair-room`); as code has them (`pair-count`, `pair-inside`); and it is the
+-- contour of the parts that were unrolled (`line-of-pair`). Assumes nothing.
 use mathlib.Core.Path.{_≡_, refl, sym, _∙_, ap, ap₂}
 use mathlib.Core.Bool.{Bool, true, false}
 use mathlib.Core.List.{List, [], _∷_, map}

@@ -1,5 +1,6 @@
--- The lines in their pieces: how long each line is (`bounds-length`, `head-length`, `line-length`), and that its pieces put one after another are the line
--- (`bounds-pieces`, `head-pieces`, `line-pieces`). A number z that code reads back is u. Assumes nothing.
+-- The lines in their pieces: how long each line is (`bounds-length`, `head-length`, `line-length`),
+-- and that its pieces put one after another are the line (`bounds-pieces`, `head-pieces`,
+-- `line-pieces`). A number z that code reads back is u. Assumes nothing.
 use mathlib.Core.Path.{_≡_, refl, sym, _∙_, ap}
 use mathlib.Core.List.{List, [], _∷_, _++_}
 use Prim.Native.Nat.{ℕ, _+_, _/_, _≤_}

@@ -1,5 +1,5 @@
--- How long lines are: the head line has at most 114 bytes (`head-size`), the line of at most 2,052 corners of 32-bit numbers at most 53,399 (`line-size`).
--- Assumes nothing.
+-- How long lines are: the head line has at most 114 bytes (`head-size`), the line of at most 2,052
+-- corners of 32-bit numbers at most 53,399 (`line-size`). Assumes nothing.
 use mathlib.Core.List.{List}
 use Prim.Native.Nat.{ℕ, _*_, _≤_}
 use native.Mathlib.Omega.{arith}

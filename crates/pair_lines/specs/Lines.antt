@@ -1,5 +1,6 @@
--- The lines that the pairs program prints: "It prints `contours N corners N bounds a b c d`, then one line a pair: left part, right part, corner count, corners
--- as in the area listing (`0 0 3 (0,0) (4,0) (0,4)`)". Assumes nothing.
+-- The lines that the pairs program prints: "It prints `contours N corners N bounds a b c d`, then
+-- one line a pair: left part, right part, corner count, corners as in the area listing
+-- (`0 0 3 (0,0) (4,0) (0,4)`)". Assumes nothing.
 use mathlib.Core.Bool.{Bool}
 use mathlib.Core.Path.{_≡_}
 use mathlib.Core.List.{List, [], _∷_, _++_, map, flatten}

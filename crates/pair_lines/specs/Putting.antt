@@ -1,4 +1,5 @@
--- When the line of a pair can be put: left walk p and right walk q lie in a buffer with a number a point, and there is room for any merge and any line. Assumes nothing.
+-- When the line of a pair can be put: left walk p and right walk q lie in a buffer with a number a
+-- point, and there is room for any merge and any line. Assumes nothing.
 use mathlib.Core.List.{List}
 use Prim.Native.Nat.{ℕ, _+_, _*_, _≤_, _<_}
 use lib.ListN.{length}

@@ -1,6 +1,7 @@
-// The lines that the pairs program prints (specs/Lines.antt), put on the front of lent bytes: `put_head` the head line, `put_line` the line of one pair of
-// unrolled walks, merged by numbers into a work buffer. By the law `line-of-pair` it is the line of the pair's contour, and a buffer of 53,399 bytes holds any. Leans
-// on text and minkowski_order.
+// The lines that the pairs program prints (specs/Lines.antt), put on the front of lent bytes:
+// `put_head` the head line, `put_line` the line of one pair of unrolled walks, merged by numbers
+// into a work buffer. By the law `line-of-pair` it is the line of the pair's contour, and a buffer
+// of 53,399 bytes holds any. Leans on text and minkowski_order.
 ghost use Prim.Native.Nat.{_+_, _≤_};
 ghost use lib.ListN.{length};
 ghost use Rattle.corners.specs.Corners.{pointsOf};

@@ -1,5 +1,6 @@
--- The merge over buffers of points, a turn at a time, by places: points and edges read (`point-in`, `edge-in`), a turn by how the edges compare (`turn-less`,
--- and so on), the room for its corner, and what is put where one list has no edge left. Assumes nothing.
+-- The merge over buffers of points, a turn at a time, by places: points and edges read (`point-in`,
+-- `edge-in`), a turn by how the edges compare (`turn-less`, and so on), the room for its corner,
+-- and what is put where one list has no edge left. Assumes nothing.
 use mathlib.Core.Path.{_≡_, refl, sym, _∙_, ap, ap₂, subst}
 use mathlib.Core.Bool.{true, false}
 use mathlib.Core.List.{List, [], _∷_, _++_, append-nil}

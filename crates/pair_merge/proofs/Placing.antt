@@ -1,5 +1,5 @@
--- Corners put into lent numbers: one (`put-one`), none, some and then more (`reached-start`, `reached-more`, `reached-end`), and the room that is left
--- (`reached-room`). Assumes nothing.
+-- Corners put into lent numbers: one (`put-one`), none, some and then more (`reached-start`,
+-- `reached-more`, `reached-end`), and the room that is left (`reached-room`). Assumes nothing.
 use mathlib.Core.Path.{_≡_, refl, sym, _∙_, ap}
 use mathlib.Core.List.{List, [], _∷_, _++_, append-assoc, append-nil}
 use Prim.Native.Nat.{ℕ, _+_, _*_, _<_}

@@ -1,5 +1,5 @@
--- Corners put into lent numbers, x and y in turn, one after another (`CornersPut`), how far that has come (`Reached`), and what merging asks of a list of points
--- (`Mergeable`). Assumes nothing.
+-- Corners put into lent numbers, x and y in turn, one after another (`CornersPut`), how far that
+-- has come (`Reached`), and what merging asks of a list of points (`Mergeable`). Assumes nothing.
 use mathlib.Core.Path.{_≡_}
 use mathlib.Core.List.{List, _++_, map}
 use Prim.Native.Nat.{ℕ, _+_, _*_, _≤_}

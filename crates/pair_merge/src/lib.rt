@@ -1,6 +1,7 @@
-// Two unrolled walks merged (the Rust's `ConvexSum` from its first step to its last; pair_points has the definitions): `append_pair` puts the corners of
-// `mergedOf` into lent numbers after those put before, a corner a turn, and answers how many stand there then. By the law `pair-merged` they are the
-// pair's contour. Leans on pair_points, points (points read) and plane.
+// Two unrolled walks merged (the Rust's `ConvexSum` from its first step to its last; pair_points
+// has the definitions): `append_pair` puts the corners of `mergedOf` into lent numbers after those
+// put before, a corner a turn, and answers how many stand there then. By the law `pair-merged` they
+// are the pair's contour. Leans on pair_points, points (points read) and plane.
 ghost use mathlib.Core.Path.{_≡_};
 ghost use mathlib.Core.List.{_∷_, []};
 ghost use mathlib.Core.Logic.{_⊎_};
@@ -16,7 +17,8 @@ use plane::IntPoint;
 use plane::IntVector;
 use plane::Ordering;
 
-// Where a merge stands once one list has no edge left: a point of each, and how many corners are put.
+// Where a merge stands once one list has no edge left: a point of each, and how many corners are
+// put.
 pub struct Halt {
     pub i: usize,
     pub j: usize,

@@ -1,5 +1,7 @@
--- The walks of two operands that neither 9 nor 10 is told of have edges for which keys are exact (`walks-close`): no edge is longer than the bounds are wide, and the
--- bounds of both are together no wider than the result's. So such walks with their numbers can be merged by them (`operands-keyed`). Assumes nothing.
+-- The walks of two operands that neither 9 nor 10 is told of have edges for which keys are exact
+-- (`walks-close`): no edge is longer than the bounds are wide, and the bounds of both are together
+-- no wider than the result's. So such walks with their numbers can be merged by them
+-- (`operands-keyed`). Assumes nothing.
 use mathlib.Core.Path.{_≡_, sym, _∙_, ap, subst₂}
 use mathlib.Core.Bool.{Bool, true, false, cond}
 use mathlib.Core.List.{List, [], map}

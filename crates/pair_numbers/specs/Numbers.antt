@@ -1,4 +1,5 @@
--- The numbers of points in a buffer of walks (direction_keys has what those are), and walks that can be merged by them (`Keyed`). Assumes nothing.
+-- The numbers of points in a buffer of walks (direction_keys has what those are), and walks that
+-- can be merged by them (`Keyed`). Assumes nothing.
 use mathlib.Core.Path.{_≡_}
 use mathlib.Core.Bool.{Bool, cond}
 use mathlib.Core.List.{List, []}
@@ -31,7 +32,8 @@ pub record Numberable (firsts : List ℕ) (points : List (List ℤ)) (left right
   pub room : length points ≤ length numbers
   pub counted : left + right < 2 ^ 32
 
--- two operands' walks in one buffer, with a number a point, and the numbers compare as directions do
+-- two operands' walks in one buffer, with a number a point, and the numbers compare as directions
+-- do
 pub record Keyed (firsts : List ℕ) (points : List (List ℤ)) (numbers : List ℕ) (left right : ℕ) : Type 0 where
   pub walks : Walks firsts points (left + right)
   pub few : length points < 2 ^ 32

@@ -1,5 +1,6 @@
-// The numbers of walks' points (direction_keys), by which pairs are merged: `number_walks` writes them for all walks of two operands, once, into a lent buffer with a place
-// a point (`Numbered` of specs/Numbers.antt). Leans on direction_keys, pair_merge (edges read), pair_walks and plane.
+// The numbers of walks' points (direction_keys), by which pairs are merged: `number_walks` writes
+// them for all walks of two operands, once, into a lent buffer with a place a point (`Numbered` of
+// specs/Numbers.antt). Leans on direction_keys, pair_merge (edges read), pair_walks and plane.
 ghost use mathlib.Core.Path.{_≡_};
 ghost use Prim.Native.Nat.{_+_, _<_, _^_};
 ghost use lib.ListN.{length};
@@ -65,7 +66,8 @@ fn put_numbers(a: &[[i32; 2]], first: bool, out: &mut [u64])
     }
 }
 
-// Those of all walks of two operands, the left one's first: walk n has the points from firsts[n] to firsts[n + 1].
+// Those of all walks of two operands, the left one's first: walk n has the points from firsts[n] to
+// firsts[n + 1].
 pub fn number_walks(
     firsts: &[u32],
     points: &[[i32; 2]],

@@ -1,5 +1,6 @@
--- Grouping each list of edges before they are merged changes nothing: join (grouped m) (grouped l) = join m l (`join-grouped`). In order: two lists
--- that every run goes on through alike (`Alike`); what grouping does, as any relation that two edges made one and an edge in front keep
+-- Grouping each list of edges before they are merged changes nothing: join (grouped m) (grouped
+-- l) = join m l (`join-grouped`). In order: two lists that every run goes on through alike
+-- (`Alike`); what grouping does, as any relation that two edges made one and an edge in front keep
 -- (`grouped-by`); lists alike as the first of the merge, and as the second. Assumes nothing.
 use mathlib.Core.Path.{_≡_, refl, sym, _∙_, ap}
 use mathlib.Core.Bool.{true, false, cond}

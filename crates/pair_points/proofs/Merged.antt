@@ -1,5 +1,5 @@
--- The merge of two unrolled walks is the pair's contour (`pair-merged`). In order: points and their edges; unrolled walks are `Turning`; the law; how long
--- walks and merges are. Assumes nothing.
+-- The merge of two unrolled walks is the pair's contour (`pair-merged`). In order: points and their
+-- edges; unrolled walks are `Turning`; the law; how long walks and merges are. Assumes nothing.
 use mathlib.Core.Path.{_≡_, refl, sym, _∙_, ap, ap₂, subst}
 use mathlib.Core.Bool.{Bool, false}
 use mathlib.Core.List.{List, [], _∷_}

@@ -1,4 +1,5 @@
--- The points of an unrolled walk are corners of its contour, negated where it is reflected (`unrolled-points`): what holds of those holds of them. Assumes nothing.
+-- The points of an unrolled walk are corners of its contour, negated where it is reflected
+-- (`unrolled-points`): what holds of those holds of them. Assumes nothing.
 use mathlib.Core.Path.{_≡_, refl, sym, _∙_, ap, subst}
 use mathlib.Core.Bool.{Bool}
 use mathlib.Core.List.{List, [], _∷_}

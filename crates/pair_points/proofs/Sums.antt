@@ -1,4 +1,5 @@
--- Each corner of a merge is a point of one list plus a point of the other: what holds of every such sum holds of each corner (`merged-sums`). Assumes nothing.
+-- Each corner of a merge is a point of one list plus a point of the other: what holds of every such
+-- sum holds of each corner (`merged-sums`). Assumes nothing.
 use mathlib.Core.Path.{_≡_, refl, sym, _∙_, ap, subst}
 use mathlib.Core.List.{List, [], _∷_}
 use Rattle.integers.specs.Lists.{All}

@@ -1,6 +1,7 @@
--- The merge a corner a turn, of two lists of points that turn at each (`Turning`). In order: a list without its first points turns too; the join of two
--- lists of edges begun, by how their first edges compare (`join-less`, `join-greater`, `join-both`, `join-first`); the same of points by index (`at-less`,
--- and so on), and where one list has one point left (`at-rest`). Assumes nothing.
+-- The merge a corner a turn, of two lists of points that turn at each (`Turning`). In order: a list
+-- without its first points turns too; the join of two lists of edges begun, by how their first
+-- edges compare (`join-less`, `join-greater`, `join-both`, `join-first`); the same of points by
+-- index (`at-less`, and so on), and where one list has one point left (`at-rest`). Assumes nothing.
 use mathlib.Core.Path.{_≡_, refl, sym, _∙_, ap, ap₂, subst₂}
 use mathlib.Core.Bool.{true, false}
 use mathlib.Core.List.{List, [], _∷_, _++_, append-nil}

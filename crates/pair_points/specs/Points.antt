@@ -1,5 +1,7 @@
--- A contour's walk as points in walk order, the start again at the end where it goes round (`unrolled`), and the merge of two such lists (`mergedOf`).
--- Code works on these; that the merge is the pair's contour is a law (proofs/Merged.antt). What the merge asks of a list is `Turning`. Assumes nothing.
+-- A contour's walk as points in walk order, the start again at the end where it goes round
+-- (`unrolled`), and the merge of two such lists (`mergedOf`). Code works on these; that the merge
+-- is the pair's contour is a law (proofs/Merged.antt). What the merge asks of a list is `Turning`.
+-- Assumes nothing.
 use mathlib.Core.Path.{_≡_}
 use mathlib.Core.Bool.{Bool, true, false}
 use mathlib.Core.List.{List, [], _∷_}
@@ -31,12 +33,14 @@ nthPoint a i = getD a i O
 abbrev pub edgeAt : List Pt → ℕ → Pt
 edgeAt a i = nthPoint a (i + 1) -ᵖ nthPoint a i
 
--- a walk's points: its zero edges dropped, its edges of one direction in a row made one. A segment has three, a point one, an empty contour none.
+-- a walk's points: its zero edges dropped, its edges of one direction in a row made one. A segment
+-- has three, a point one, an empty contour none.
 unfoldable pub unrolled : Bool → List Pt → List Pt
 unrolled reflected [] = []
 unrolled reflected (c ∷ l) = pointsAlong (pointOf (c ∷ l) (begin reflected (c ∷ l))) (grouped (live (walkEdges reflected (c ∷ l))))
 
--- the corners of two lists of points merged: the lesser edge steps, the first list's on equality, and edges of one direction are one
+-- the corners of two lists of points merged: the lesser edge steps, the first list's on equality,
+-- and edges of one direction are one
 unfoldable pub mergedOf : List Pt → List Pt → List Pt
 mergedOf [] b = []
 mergedOf (p ∷ a) [] = []

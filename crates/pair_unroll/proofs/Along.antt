@@ -1,6 +1,9 @@
--- A walk's points one after another, over lists. In order: `withPoint` by its cases (`with-repeated`, `with-straight`, `with-turning`, `with-second`), and what it keeps
--- (`all-with`); a run's sum has its direction (`beside-same`); where a list of edges ends (`lastAlong`, `last-more`); how many points there are (`length-along`,
--- `few-points`); one edge more is one point added (`along-more`); what holds of every point on the way holds of every point that stays (`every-point`). Assumes nothing.
+-- A walk's points one after another, over lists. In order: `withPoint` by its cases
+-- (`with-repeated`, `with-straight`, `with-turning`, `with-second`), and what it keeps
+-- (`all-with`); a run's sum has its direction (`beside-same`); where a list of edges ends
+-- (`lastAlong`, `last-more`); how many points there are (`length-along`, `few-points`); one edge
+-- more is one point added (`along-more`); what holds of every point on the way holds of every point
+-- that stays (`every-point`). Assumes nothing.
 use mathlib.Core.Path.{_≡_, refl, sym, _∙_, ap, ap₂, subst}
 use mathlib.Core.Bool.{true, false}
 use mathlib.Core.List.{List, [], _∷_, _++_, append-nil}

@@ -1,5 +1,7 @@
--- Points in a buffer. In order: those appended, read by their places (`new-at`, `all-at`), and the first of them (`appended-fewer`); the code's test whether a point lies
--- straight on (`goes-few`, `goes-some`); a point added: repeated, straight on, neither (`added-repeated`, `added-straight`, `added-turning`). Assumes nothing.
+-- Points in a buffer. In order: those appended, read by their places (`new-at`, `all-at`), and the
+-- first of them (`appended-fewer`); the code's test whether a point lies straight on (`goes-few`,
+-- `goes-some`); a point added: repeated, straight on, neither (`added-repeated`, `added-straight`,
+-- `added-turning`). Assumes nothing.
 use mathlib.Core.Path.{_≡_, sym, _∙_, ap, ap₂, subst}
 use mathlib.Core.Bool.{Bool, true, false}
 use mathlib.Core.List.{List, [], _∷_, _++_, map}

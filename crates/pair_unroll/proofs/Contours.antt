@@ -1,6 +1,7 @@
--- A contour unrolled. In order: what is answered (`told-to`, `told-leaves`); an empty contour (`none-unrolled`); where the walk begins, by what `begin_checked` answers
--- (`begun-at`, `begun-refused`, `walkable`); the walk's points are the contour unrolled (`unrolled-walk`, `walk-unrolled`), all
--- in range (`unrolled-ranged`). Assumes nothing.
+-- A contour unrolled. In order: what is answered (`told-to`, `told-leaves`); an empty contour
+-- (`none-unrolled`); where the walk begins, by what `begin_checked` answers (`begun-at`,
+-- `begun-refused`, `walkable`); the walk's points are the contour unrolled (`unrolled-walk`,
+-- `walk-unrolled`), all in range (`unrolled-ranged`). Assumes nothing.
 use mathlib.Core.Path.{_≡_, refl, sym, _∙_, ap, subst}
 use mathlib.Core.Bool.{Bool, true, false}
 use mathlib.Core.List.{List, [], _∷_}

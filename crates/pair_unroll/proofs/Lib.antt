@@ -1,4 +1,5 @@
--- Laws of unrolling, in reading order: a walk's points one after another, over lists; in a buffer; a walk step by step.
+-- Laws of unrolling, in reading order: a walk's points one after another, over lists; in a buffer;
+-- a walk step by step.
 pub mod Along
 pub mod Buffered
 pub mod Walked

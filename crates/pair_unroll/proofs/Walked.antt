@@ -1,6 +1,7 @@
--- A walk step by step. In order: the edges taken so far and those to come (`Taken`: `taken-start`, `taken-step`, `taken-count`, `taken-all`, `fewer-steps`); a buffer
--- stored to past its first points (`onto`, `stored`); the points so far in a buffer (`Walking`: `walking-start`, `walking-placed`, `walking-adding`, `walking-step`,
--- `walking-end`). Assumes nothing.
+-- A walk step by step. In order: the edges taken so far and those to come (`Taken`: `taken-start`,
+-- `taken-step`, `taken-count`, `taken-all`, `fewer-steps`); a buffer stored to past its first
+-- points (`onto`, `stored`); the points so far in a buffer (`Walking`: `walking-start`,
+-- `walking-placed`, `walking-adding`, `walking-step`, `walking-end`). Assumes nothing.
 use mathlib.Core.Path.{_≡_, refl, sym, _∙_, ap, subst}
 use mathlib.Core.Bool.{false}
 use mathlib.Core.List.{List, [], _∷_, _++_, map, append-assoc, append-nil}

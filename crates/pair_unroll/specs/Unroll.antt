@@ -1,5 +1,5 @@
--- A walk's points put one after another (`withPoint`), in a buffer (`Adding`, `PointAdded`), and what unrolling a contour answers (`UnrolledBy`).
--- Assumes nothing.
+-- A walk's points put one after another (`withPoint`), in a buffer (`Adding`, `PointAdded`), and
+-- what unrolling a contour answers (`UnrolledBy`). Assumes nothing.
 use mathlib.Core.Path.{_≡_}
 use mathlib.Core.Bool.{Bool, true, false, cond}
 use mathlib.Core.List.{List, [], _∷_}
@@ -37,13 +37,15 @@ withPoint (p ∷ q ∷ s ∷ l) r = p ∷ withPoint (q ∷ s ∷ l) r
 abbrev pub Ranged : Pt → Type 0
 Ranged p = Coordinate (p .x) × Coordinate (p .y)
 
--- what adding a point asks of the points from one place up to another: there is one, they are in range, and one more has room
+-- what adding a point asks of the points from one place up to another: there is one, they are in
+-- range, and one more has room
 pub record Adding (points : List (List ℤ)) (from count : ℕ) : Type 0 where
   pub some : from < count
   pub room : count < length points
   pub ranged : (i : ℕ) → from ≤ i → i < count → Ranged (cornerIn points i)
 
--- whether the point r lies straight on from the last two of them; it does not where there is one only
+-- whether the point r lies straight on from the last two of them; it does not where there is one
+-- only
 unfoldable pub goesOn : List (List ℤ) → ℕ → ℕ → Pt → Bool
 goesOn points from count r =
     cond (ltb (count - from) 2) false (straightOn (cornerIn points (count - 2)) (cornerIn points (count - 1)) r)
@@ -56,11 +58,13 @@ pub record PointAdded (r : Pt) (from : ℕ) (points : List (List ℤ)) (count : 
 
 -- ---- a walk
 
--- the points of the walk from a place: its zero edges dropped, its edges of one direction in a row made one
+-- the points of the walk from a place: its zero edges dropped, its edges of one direction in a row
+-- made one
 abbrev pub pointsFrom : List Pt → Place → List Pt
 pointsFrom l w = pointsAlong (pointOf l w) (grouped (live (handed (w .remaining) l w)))
 
--- what walking a contour from a place asks: judged already, with room for a point a step and the first
+-- what walking a contour from a place asks: judged already, with room for a point a step and the
+-- first
 pub record Walkable (l : List ℤ) (w : Place) (points : List (List ℤ)) (from : ℕ) : Type 0 where
   pub short : lengthBroken l ≡ false
   pub ranged : offRange l ≡ false

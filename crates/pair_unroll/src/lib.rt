@@ -1,6 +1,8 @@
-// A contour's walk unrolled once to points in walk order, the start again at the end (`unroll`): repeated points dropped, an in-line point replaced by
-// the next, a reflected walk negated; a segment is three points, a point one, an empty contour none. It promises `unrolled` of pair_points, or tells
-// that the winding leaves 64 bits (fault 8). Corners are read through corners alone. Leans on walk_begin, walk_move, walk_read, corners, plane and points.
+// A contour's walk unrolled once to points in walk order, the start again at the end (`unroll`):
+// repeated points dropped, an in-line point replaced by the next, a reflected walk negated; a
+// segment is three points, a point one, an empty contour none. It promises `unrolled` of
+// pair_points, or tells that the winding leaves 64 bits (fault 8). Corners are read through corners
+// alone. Leans on walk_begin, walk_move, walk_read, corners, plane and points.
 ghost use mathlib.Core.Path.{_≡_};
 ghost use Prim.Native.Nat.{_<_};
 ghost use lib.ListN.{length};
@@ -53,7 +55,8 @@ fn goes_on(points: &[[i32; 2]], from: usize, count: usize, r: IntPoint) -> bool
     straight_on(point_at(points, count - 2), point_at(points, count - 1), r)
 }
 
-// The point r after the points `from` .. `count`: a repeated one goes, one straight on takes the last one's place. Answers the new count.
+// The point r after the points `from` .. `count`: a repeated one goes, one straight on takes the
+// last one's place. Answers the new count.
 fn add_point(points: &mut [[i32; 2]], from: usize, count: usize, r: IntPoint) -> usize
     requires { ⌜ Adding (now points) from count × OnGrid r ⌝ }
     ensures { λ n. ⌜ PointAdded (point r) from (now (points .entry)) count (now (points .exit)) n ⌝ }
@@ -69,7 +72,8 @@ fn add_point(points: &mut [[i32; 2]], from: usize, count: usize, r: IntPoint) ->
     count + 1
 }
 
-// The points of the walk that stands at `start`, after the first `from` points; answers the new count.
+// The points of the walk that stands at `start`, after the first `from` points; answers the new
+// count.
 fn add_walk(contour: &[i32], start: Place, points: &mut [[i32; 2]], from: usize) -> usize
     requires { ⌜ Walkable (now contour) start (now points) from ⌝ }
     ensures { λ n. ⌜ Appended (pointsFrom (pointsOf (now (contour .entry))) start) (now (points .entry)) from (now (points .exit)) n ⌝ }
@@ -85,7 +89,8 @@ fn add_walk(contour: &[i32], start: Place, points: &mut [[i32; 2]], from: usize)
     count
 }
 
-// A contour of sound length and range unrolled after the first `from` points, which have room for its corner count and one more.
+// A contour of sound length and range unrolled after the first `from` points, which have room for
+// its corner count and one more.
 pub fn unroll(contour: &[i32], reflected: bool, points: &mut [[i32; 2]], from: usize) -> Unrolled
     requires { ⌜ Unrollable (now contour) (now points) from ⌝ }
     ensures { λ r. ⌜ UnrolledBy reflected (pointsOf (now (contour .entry))) (now (points .entry)) from (now (points .exit)) r ⌝ }

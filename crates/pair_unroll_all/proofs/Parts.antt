@@ -1,5 +1,7 @@
--- All parts of a table unrolled. In order: a part's numbers are a contour of sound length and range (`part-short`, `part-unrollable`); the loop over the
--- parts (`Unrolling`: `unrolling-start`, `unrolling-leaves`, `unrolling-turn`, `unrolling-end`); how many points (`unrolled-few`); every point in range (`parts-ranged`). Assumes nothing.
+-- All parts of a table unrolled. In order: a part's numbers are a contour of sound length and range
+-- (`part-short`, `part-unrollable`); the loop over the parts (`Unrolling`: `unrolling-start`,
+-- `unrolling-leaves`, `unrolling-turn`, `unrolling-end`); how many points (`unrolled-few`); every
+-- point in range (`parts-ranged`). Assumes nothing.
 use mathlib.Core.Path.{_≡_, refl, sym, _∙_, ap, subst}
 use mathlib.Core.Bool.{Bool, true, false, cond}
 use mathlib.Core.List.{List, [], _∷_, _++_, map-append, flatten}
@@ -61,7 +63,8 @@ unrollable-at {points = points} {from = from} e a = subst (λ l. Unrollable l po
 pub unrolled-at : {reflected : Bool} {l m : List Pt} {points : List (List ℤ)} {from : ℕ} {points′ : List (List ℤ)} {r : Unrolled} → l ≡ m → UnrolledBy reflected l points from points′ r → UnrolledBy reflected m points from points′ r
 unrolled-at {reflected} {points = points} {from = from} {points′ = points′} {r = r} e u = subst (λ l. UnrolledBy reflected l points from points′ r) e u
 
--- ---- the loop: the first p parts are unrolled after `done` walks, and none of their windings leaves
+-- ---- the loop: the first p parts are unrolled after `done` walks, and none of their windings
+-- leaves
 
 pub record Unrolling (reflected : Bool) (ps : List (List Pt)) (done : ℕ) (points₀ : List (List ℤ)) (firsts₀ : List ℕ) (points : List (List ℤ)) (firsts : List ℕ) (count p : ℕ) : Type 0 where
   pub within : p ≤ length ps

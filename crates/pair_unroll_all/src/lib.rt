@@ -1,5 +1,7 @@
-// All parts of a sound table unrolled to points, one after another, after walks that are there (`unroll_all`): walk n is the points from firsts[n] up to
-// firsts[n + 1]. Or it is told that some winding leaves 64 bits (fault 8), and then what the buffers hold is of no matter. Leans on pair_unroll and points.
+// All parts of a sound table unrolled to points, one after another, after walks that are there
+// (`unroll_all`): walk n is the points from firsts[n] up to firsts[n + 1]. Or it is told that some
+// winding leaves 64 bits (fault 8), and then what the buffers hold is of no matter. Leans on
+// pair_unroll and points.
 ghost use mathlib.Core.List.{[]};
 ghost use lib.ListN.{getD};
 ghost use Rattle.table.specs.Table.{tableParts};
@@ -26,7 +28,8 @@ fn unroll_part(
     pair_unroll::unroll(&corners[a..e], reflected, points, from)
 }
 
-// All parts unrolled after the first `done` walks, which end at firsts[done]; answers whether some winding leaves 64 bits.
+// All parts unrolled after the first `done` walks, which end at firsts[done]; answers whether some
+// winding leaves 64 bits.
 pub fn unroll_all(
     starts: &[u32],
     corners: &[i32],

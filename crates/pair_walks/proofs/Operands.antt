@@ -1,5 +1,7 @@
--- Walks in a buffer have their firsts (`walks-enough`). Those of two operands: how many each has (`lefts-count`, `rights-count`) and which they are (`left-walk`, `right-walk`), those of two lists one
--- after the other (`both-lefts`, `both-rights`); how many contours their pairs have (`contours-count`); a row of merges and all rows in pieces. Assumes nothing.
+-- Walks in a buffer have their firsts (`walks-enough`). Those of two operands: how many each has
+-- (`lefts-count`, `rights-count`) and which they are (`left-walk`, `right-walk`), those of two
+-- lists one after the other (`both-lefts`, `both-rights`); how many contours their pairs have
+-- (`contours-count`); a row of merges and all rows in pieces. Assumes nothing.
 use mathlib.Core.Path.{_≡_, sym, _∙_, ap, ap₂}
 use mathlib.Core.List.{List, [], _∷_, _++_, map, map-append, flatten, append-nil}
 use Prim.Native.Nat.{ℕ, suc, _+_, _*_, _<_}

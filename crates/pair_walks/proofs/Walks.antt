@@ -1,5 +1,6 @@
--- Walks read from their buffer (`walk-placed`, `walk-ready`, `walk-short`); unrolled parts gathered are walks (`gathered-walks`), and their merges are the pairs'
--- contours (`merged-pairs`). Assumes nothing.
+-- Walks read from their buffer (`walk-placed`, `walk-ready`, `walk-short`); unrolled parts gathered
+-- are walks (`gathered-walks`), and their merges are the pairs' contours (`merged-pairs`). Assumes
+-- nothing.
 use mathlib.Core.Path.{_≡_, refl, sym, _∙_, ap, ap₂, subst}
 use mathlib.Core.Bool.{Bool, true, false}
 use mathlib.Core.List.{List, [], _∷_, _++_, map, flatten}

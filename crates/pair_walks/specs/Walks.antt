@@ -1,5 +1,5 @@
--- Walks gathered in a buffer (`Walks`), those of two operands in it, the left one's first (`leftsIn`, `rightsIn`), and their merges in order (`mergedAll`,
--- `contoursIn`). Assumes nothing.
+-- Walks gathered in a buffer (`Walks`), those of two operands in it, the left one's first
+-- (`leftsIn`, `rightsIn`), and their merges in order (`mergedAll`, `contoursIn`). Assumes nothing.
 use mathlib.Core.Path.{_≡_}
 use mathlib.Core.Bool.{true}
 use mathlib.Core.List.{List, [], map, flatten}
@@ -19,7 +19,8 @@ use Rattle.pair_points.specs.Points.{mergedOf, Turning}
 abbrev pub walksIn : List ℕ → List (List ℤ) → ℕ → List (List Pt)
 walksIn firsts points n = partsOf (take (n + 1) firsts) (firstPoints (getD firsts n 0) points)
 
--- they are gathered there, their points are on the grid, each turns at every point, and each is of a contour of at most 1,026 corners
+-- they are gathered there, their points are on the grid, each turns at every point, and each is of
+-- a contour of at most 1,026 corners
 pub record Walks (firsts : List ℕ) (points : List (List ℤ)) (n : ℕ) : Type 0 where
   pub gathered : Gathered firsts points (record { parts = n; corners = getD firsts n 0 }) (walksIn firsts points n)
   pub grid : All (All (λ p. onGrid p ≡ true)) (walksIn firsts points n)

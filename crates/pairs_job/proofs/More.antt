@@ -1,5 +1,6 @@
--- More input changes nothing (`MoreInput`): a job of more than 147,516 bytes is refused by its operation (13) or by its length, counts or rules (7), and the
--- operation is in the first four bytes. 147,516 = 4 (15 + 2 (2,048 + 2 · 8,192)). Assumes nothing.
+-- More input changes nothing (`MoreInput`): a job of more than 147,516 bytes is refused by its
+-- operation (13) or by its length, counts or rules (7), and the operation is in the first four
+-- bytes. 147,516 = 4 (15 + 2 (2,048 + 2 · 8,192)). Assumes nothing.
 use mathlib.Core.Path.{_≡_, refl, sym, _∙_, ap}
 use mathlib.Core.Bool.{Bool, true, false}
 use mathlib.Core.List.{List, [], _∷_, _++_}

@@ -1,5 +1,6 @@
--- The fault of a job's shape, by the tests that code makes, and the job's: where the shape has one it is the job's (`shape-told`), else the operands'
--- alone decides (`shape-passed`), and both tables lie within the bytes and the limits (`shaped`). Assumes nothing.
+-- The fault of a job's shape, by the tests that code makes, and the job's: where the shape has one
+-- it is the job's (`shape-told`), else the operands' alone decides (`shape-passed`), and both
+-- tables lie within the bytes and the limits (`shaped`). Assumes nothing.
 use mathlib.Core.Path.{_≡_, sym, _∙_, ap}
 use mathlib.Core.Bool.{Bool, true, false}
 use mathlib.Core.List.{List, [], _∷_}
@@ -107,7 +108,8 @@ module _ (bytes : List ℕ) where
   unfolding jobFault
   job-length a b l = first-next 13 (ltb (length bytes) 4) _ a ∙ first-next 13 (ltb 1 (operation bytes)) _ b ∙ first-this 7 _ _ l
 
-  -- a count past its limit breaks its table's rules, which 7 is told of before anything else of the operands
+  -- a count past its limit breaks its table's rules, which 7 is told of before anything else of the
+  -- operands
   module _ (a : ltb (length bytes) 4 ≡ false) (b : ltb 1 (operation bytes) ≡ false) (l : jobLengthBroken bytes ≡ false) where
     pub to-operands : jobFault bytes ≡ firstFault (pairKinds (reflectedOf bytes) (leftOf bytes) (rightOf bytes))
     unfolding jobFault

@@ -1,6 +1,7 @@
--- How long a job is. In order: the length by the counts, as code tests it; a table that lies within the bytes has as many starts and numbers as its counts
--- say (`count-starts`, `count-numbers`), and counts past the limits break its rules (`counts-rules`); of a job of the right length, where its tables
--- lie (`sized`). Assumes nothing.
+-- How long a job is. In order: the length by the counts, as code tests it; a table that lies within
+-- the bytes has as many starts and numbers as its counts say (`count-starts`, `count-numbers`), and
+-- counts past the limits break its rules (`counts-rules`); of a job of the right length, where its
+-- tables lie (`sized`). Assumes nothing.
 use mathlib.Core.Path.{_≡_, sym, _∙_, ap}
 use mathlib.Core.Bool.{Bool, true, false, not, cond}
 use mathlib.Core.List.{List, map}

@@ -1,5 +1,5 @@
--- A table that a pair job holds from word k on is a stored table (`table-stored`): the words of bytes from a place on, and up to one, are words from a place on, and
--- up to one. Assumes nothing.
+-- A table that a pair job holds from word k on is a stored table (`table-stored`): the words of
+-- bytes from a place on, and up to one, are words from a place on, and up to one. Assumes nothing.
 use mathlib.Core.Path.{_≡_, refl, sym, _∙_, ap}
 use mathlib.Core.List.{List, [], _∷_, map}
 use Prim.Native.Nat.{ℕ, zero, suc, _+_, _*_}

@@ -1,5 +1,7 @@
--- A pair job, which the pairs program reads: "one u32 (0 sum, 1 difference); then for the left and then the right operand four i32 (least x, greatest x, least
--- y, greatest y) and a stored table", little-endian. Its operation, its operands, its faults, and what is printed of it. Assumes nothing.
+-- A pair job, which the pairs program reads: "one u32 (0 sum, 1 difference); then for the left and
+-- then the right operand four i32 (least x, greatest x, least y, greatest y) and a stored table",
+-- little-endian. Its operation, its operands, its faults, and what is printed of it. Assumes
+-- nothing.
 use mathlib.Core.Path.{_≡_}
 use mathlib.Core.Bool.{Bool, true, not, cond}
 use mathlib.Core.List.{List, [], _∷_, _++_, map, flatten}
@@ -26,7 +28,8 @@ boundsAt bytes k = record {
   «max_y» = signed (wordAt bytes (k + 3));
 }
 
--- document 01: "Stored, a table is part count, corner count, starts, corners, each 32 bits"; one more start than parts, two numbers a corner
+-- document 01: "Stored, a table is part count, corner count, starts, corners, each 32 bits"; one
+-- more start than parts, two numbers a corner
 abbrev pub startsAt : List ℕ → ℕ → List ℕ
 startsAt bytes k = take (wordAt bytes k + 1) (drop (k + 2) (wordsOf bytes))
 
@@ -54,7 +57,8 @@ operation bytes = wordAt bytes 0
 abbrev pub reflectedOf : List ℕ → Bool
 reflectedOf bytes = eqb (operation bytes) 1
 
--- the left bounds stand from word 1 on and the left table from word 5 on; four bounds, and the right table from here on
+-- the left bounds stand from word 1 on and the left table from word 5 on; four bounds, and the
+-- right table from here on
 unfoldable pub rightPlace : List ℕ → ℕ
 rightPlace bytes = 5 + tableWords bytes 5 + 4
 
@@ -69,12 +73,15 @@ rightOf bytes = operandAt bytes (5 + tableWords bytes 5) (rightPlace bytes)
 
 -- ---- its faults
 
--- "7 where the bytes are not of the length that the counts give", both tables'; "7 also where the bytes end before a count": no job has so few
+-- "7 where the bytes are not of the length that the counts give", both tables'; "7 also where the
+-- bytes end before a count": no job has so few
 unfoldable pub jobLengthBroken : List ℕ → Bool
 jobLengthBroken bytes = not (eqb (length bytes) (4 * (rightPlace bytes + tableWords bytes (rightPlace bytes))))
 
--- "13 for fewer than 4 bytes or another operation; 7 where the bytes are not of the length that the counts give, or against a table's rules or limits; then the
--- order of pairs up to 20": all of 7 comes before 2, and a table's rules and limits, its counts among them, are the first kinds of pairs
+-- "13 for fewer than 4 bytes or another operation; 7 where the bytes are not of the length that the
+-- counts give, or against a table's rules or limits; then the order of pairs up to 20": all of 7
+-- comes before 2, and a table's rules and limits, its counts among them, are the first kinds of
+-- pairs
 unfoldable pub jobFault : List ℕ → ℕ
 jobFault bytes =
     firstFault ((faultFile, ltb (length bytes) 4) ∷ (faultFile, ltb 1 (operation bytes)) ∷ (faultRules, jobLengthBroken bytes) ∷ pairKinds (reflectedOf bytes) (leftOf bytes) (rightOf bytes))
@@ -84,7 +91,8 @@ jobFault bytes =
 abbrev pub contoursOf : List ℕ → List (List Pt)
 contoursOf bytes = pairContours (reflectedOf bytes) (leftOf bytes) (rightOf bytes)
 
--- "It prints `contours N corners N bounds a b c d`, then one line a pair"; "a refusal as in document 01"
+-- "It prints `contours N corners N bounds a b c d`, then one line a pair"; "a refusal as in
+-- document 01"
 unfoldable pub pairsText : List ℕ → List ℕ
 pairsText bytes =
     cond (eqb (jobFault bytes) 0)
@@ -92,11 +100,13 @@ pairsText bytes =
     ++ pairLines (reflectedOf bytes) (operandParts (leftOf bytes)) (operandParts (rightOf bytes)))
     (refusal (jobFault bytes))
 
--- the bytes of the longest good job: an operation, and of either operand four bounds, two counts, the starts and the corners
+-- the bytes of the longest good job: an operation, and of either operand four bounds, two counts,
+-- the starts and the corners
 abbrev pub longestJob : ℕ
 longestJob = 4 * (1 + 2 * (4 + 2 + (maxParts + 1) + 2 * maxCorners))
 
--- "at most 147,517 bytes are read, one more than the longest good job": what comes after them changes nothing (proofs/More.antt)
+-- "at most 147,517 bytes are read, one more than the longest good job": what comes after them
+-- changes nothing (proofs/More.antt)
 abbrev pub MoreInput : Type 0
 MoreInput = (bytes more : List ℕ) → length bytes ≡ longestJob + 1 → pairsText (bytes ++ more) ≡ pairsText bytes
 
@@ -106,7 +116,8 @@ MoreInput = (bytes more : List ℕ) → length bytes ≡ longestJob + 1 → pair
 abbrev pub countsBroken : List ℕ → ℕ → Bool
 countsBroken bytes k = cond (ltb maxParts (wordAt bytes k)) true (ltb maxCorners (wordAt bytes (k + 1)))
 
--- a job whose counts are past the limits is told so before its tables are read into places of that many; the other rules are judged of what was read
+-- a job whose counts are past the limits is told so before its tables are read into places of that
+-- many; the other rules are judged of what was read
 unfoldable pub shapeFault : List ℕ → ℕ
 shapeFault bytes =
     firstFault (

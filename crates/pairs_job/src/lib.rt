@@ -1,6 +1,8 @@
-// A pair job's bytes, which the pairs program reads: an operation, and for either operand four bounds and a stored table. `shape_fault` tells what is wrong
-// with their shape (13, and 7 for their length and counts); of a job without such a fault `bounds_at` and `read_operand` read an operand, whose table begins at
-// word LEFT or at word `right_place`. What they answer are equations with specs/Job.antt. Leans on table_words and table.
+// A pair job's bytes, which the pairs program reads: an operation, and for either operand four
+// bounds and a stored table. `shape_fault` tells what is wrong with their shape (13, and 7 for
+// their length and counts); of a job without such a fault `bounds_at` and `read_operand` read an
+// operand, whose table begins at word LEFT or at word `right_place`. What they answer are equations
+// with specs/Job.antt. Leans on table_words and table.
 ghost use mathlib.Core.Path.{_≡_};
 ghost use mathlib.Core.Bool.{false};
 ghost use Prim.Native.Nat.{_+_, _*_, _<_, _≤_};
@@ -19,7 +21,8 @@ pub const LEFT: usize = 5;
 // A sum is operation 0, a difference 1.
 pub const DIFFERENCE: u32 = 1;
 
-// The bytes of the longest good job: an operation, and of either operand four bounds, two counts, the starts and the corners.
+// The bytes of the longest good job: an operation, and of either operand four bounds, two counts,
+// the starts and the corners.
 pub const LONGEST: usize = WORD
     * (1 + 2 * (4 + 2 + (table::MAX_PARTS + 1) + corners::WIDTH * table::MAX_CORNERS));
 
@@ -103,7 +106,8 @@ pub fn bounds_at(bytes: &[u8], k: usize) -> IntRect
     }
 }
 
-// Copies the starts and the corners of the table at word k on the front of the lent ones. Past them they keep what they held.
+// Copies the starts and the corners of the table at word k on the front of the lent ones. Past them
+// they keep what they held.
 pub fn read_operand(bytes: &[u8], k: usize, starts: &mut [u32], corners: &mut [i32])
     requires { ⌜ TableIn (now bytes) k (now starts) (now corners) ⌝ }
     ensures starts { λ _. ⌜ now (starts .exit) ≡ overlay (startsAt (now (bytes .entry)) k) (now (starts .entry)) ⌝ }

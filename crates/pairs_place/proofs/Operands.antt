@@ -1,4 +1,5 @@
--- The pairs of two operands that are not refused: they can be walked (`walkable`), and what is told of their walks is told of them (`told-at`, `told-refused`). Assumes nothing.
+-- The pairs of two operands that are not refused: they can be walked (`walkable`), and what is told
+-- of their walks is told of them (`told-at`, `told-refused`). Assumes nothing.
 use mathlib.Core.Path.{_≡_, refl, sym, _∙_, ap, subst}
 use mathlib.Core.Bool.{true, false}
 use mathlib.Core.List.{List, [], _∷_, _++_, flatten}

@@ -1,5 +1,6 @@
--- Pair k of two operands' walks is that of left walk k / right and right walk k % right (`pair-at`), and can be merged (`merging`); its corners on the front of a work buffer (`front-range`,
--- `front-fits`). Assumes nothing.
+-- Pair k of two operands' walks is that of left walk k / right and right walk k % right
+-- (`pair-at`), and can be merged (`merging`); its corners on the front of a work buffer
+-- (`front-range`, `front-fits`). Assumes nothing.
 use mathlib.Core.Path.{_≡_, refl, sym, _∙_, ap, ap₂, subst}
 use mathlib.Core.Bool.{true, false}
 use mathlib.Core.List.{List, [], _∷_}

@@ -1,4 +1,5 @@
--- Where a place lies by the contours of all pairs of two operands (`placedBy`), and what the steps of finding it ask. Assumes nothing.
+-- Where a place lies by the contours of all pairs of two operands (`placedBy`), and what the steps
+-- of finding it ask. Assumes nothing.
 use mathlib.Core.Path.{_≡_}
 use mathlib.Core.Bool.{true, cond}
 use mathlib.Core.List.{List}
@@ -18,7 +19,8 @@ use Rattle.placement.specs.declared.Placed.{Placed}
 use Rattle.placement.specs.declared.Placed.the-variants.{At, Refused}
 use Rattle.placement.specs.Placement.{contactBy}
 
--- "A refusal returns the number": the pairs' first fault, or where the place lies by the contours of all pairs
+-- "A refusal returns the number": the pairs' first fault, or where the place lies by the contours
+-- of all pairs
 unfoldable pub placedBy : Call → Pt → Placed
 placedBy x z = cond (eqb (callFault x) 0) (At (contactBy z (pairContours (x .reflected) (x .left) (x .right)))) (Refused (callFault x))
 

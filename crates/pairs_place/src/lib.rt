@@ -1,6 +1,9 @@
-// Where a place lies by the contours of all pairs of two operands, one pair after another: each pair of walks is merged into a work buffer and left there, so that no result is kept.
-// `place_operands` takes any two tables with bounds and a place on the grid; it tells the pairs' first fault (7, 2, 9, 8, 10, 20), or where the place lies, and stops at a contour
-// that the place lies strictly inside. Its answer is `placedBy` of specs/Place.antt. Leans on pairs_work, minkowski_chains and placement.
+// Where a place lies by the contours of all pairs of two operands, one pair after another: each
+// pair of walks is merged into a work buffer and left there, so that no result is kept.
+// `place_operands` takes any two tables with bounds and a place on the grid; it tells the pairs'
+// first fault (7, 2, 9, 8, 10, 20), or where the place lies, and stops at a contour that the place
+// lies strictly inside. Its answer is `placedBy` of specs/Place.antt. Leans on pairs_work,
+// minkowski_chains and placement.
 ghost use mathlib.Core.Path.{_≡_};
 ghost use Prim.Native.Nat.{_<_};
 ghost use Rattle.plane.specs.Machine.{point, OnGrid};
@@ -100,7 +103,8 @@ fn placed_begun(
     placed_walks(firsts, points, numbers, left, right, z, &mut work)
 }
 
-// Where z lies by the contours of all pairs of two operands. Refuses with 7, 2, 9, 8, 10, 20, in this order.
+// Where z lies by the contours of all pairs of two operands. Refuses with 7, 2, 9, 8, 10, 20, in
+// this order.
 pub fn place_operands(
     operation: Operation,
     left_starts: &[u32],

@@ -1,4 +1,5 @@
--- A loop over steps ends: as long as more is told the pieces left fall (`left-falls`). Assumes nothing.
+-- A loop over steps ends: as long as more is told the pieces left fall (`left-falls`). Assumes
+-- nothing.
 use mathlib.Core.Path.{_≡_, sym, _∙_}
 use mathlib.Core.Bool.{Bool, true, cond}
 use mathlib.Core.List.{List}

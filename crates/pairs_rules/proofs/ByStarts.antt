@@ -1,4 +1,5 @@
--- A table's rules by its starts and its counts (`by-starts`), and the front of a buffer that holds what was read on it. Assumes nothing.
+-- A table's rules by its starts and its counts (`by-starts`), and the front of a buffer that holds
+-- what was read on it. Assumes nothing.
 use mathlib.Core.Path.{_≡_, sym, _∙_, ap}
 use mathlib.Core.Bool.{false}
 use mathlib.Core.List.{List}

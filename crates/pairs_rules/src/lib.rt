@@ -1,6 +1,7 @@
-// The rules of a table that stands in the bytes of a pair job, or of two stored tables, from word k on: `table_broken` tells whether it breaks them (fault 7), of a
-// table that lies within the bytes and whose counts are within the limits. It equals table's `tableBroken` of pairs_job's `startsAt` and `cornersAt`. Leans on
-// pairs_job, table_words and table.
+// The rules of a table that stands in the bytes of a pair job, or of two stored tables, from word k
+// on: `table_broken` tells whether it breaks them (fault 7), of a table that lies within the bytes
+// and whose counts are within the limits. It equals table's `tableBroken` of pairs_job's `startsAt`
+// and `cornersAt`. Leans on pairs_job, table_words and table.
 ghost use mathlib.Core.Path.{_≡_};
 ghost use mathlib.Core.Bool.{false};
 ghost use Prim.Native.Nat.{_+_, _*_, _≤_};

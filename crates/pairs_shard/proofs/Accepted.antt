@@ -1,5 +1,7 @@
--- A shard of an accepted job, with a left part, is accepted: 7, 2, 9 and 8 are told of a table or of its parts, and fewer break no more rules; 10 is told of bounds, which stay.
--- In order: some of a list; starts less the first; an operand of fewer parts (`fewer-kinds`); the shard (`accepted-shards`). Assumes nothing.
+-- A shard of an accepted job, with a left part, is accepted: 7, 2, 9 and 8 are told of a table or
+-- of its parts, and fewer break no more rules; 10 is told of bounds, which stay.
+-- In order: some of a list; starts less the first; an operand of fewer parts (`fewer-kinds`); the
+-- shard (`accepted-shards`). Assumes nothing.
 use mathlib.Core.Path.{_≡_, refl, sym, _∙_, ap, subst}
 use mathlib.Core.Bool.{Bool, false}
 use mathlib.Core.List.{List, [], _∷_, _++_, map}
@@ -98,7 +100,8 @@ starts-less m n s e f k h =
 
 -- ---- an operand of fewer parts
 
--- 7 does not hold of it, nor 2, 9 or 8 where it does not hold of the other; the bounds are the other's
+-- 7 does not hold of it, nor 2, 9 or 8 where it does not hold of the other; the bounds are the
+-- other's
 pub record Fewer (l m : Operand) : Type 0 where
   pub table : tableBroken (m .starts) (m .corners) ≡ false
   pub range : offRange (l .corners) ≡ false → offRange (m .corners) ≡ false

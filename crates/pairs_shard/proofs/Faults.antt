@@ -1,4 +1,5 @@
--- The fault of cutting a job, by the tests that code makes, and what no fault tells (`cuttable`); the answer. Assumes nothing.
+-- The fault of cutting a job, by the tests that code makes, and what no fault tells (`cuttable`);
+-- the answer. Assumes nothing.
 use mathlib.Core.Path.{_≡_, refl, sym, _∙_, ap}
 use mathlib.Core.Bool.{true, false, cond}
 use mathlib.Core.List.{List}

@@ -1,4 +1,5 @@
--- What is known of a job that is cut at the parts f up to e: where its left table lies, its counts, its starts (`known`). Assumes nothing.
+-- What is known of a job that is cut at the parts f up to e: where its left table lies, its counts,
+-- its starts (`known`). Assumes nothing.
 use mathlib.Core.Path.{_≡_, _∙_, ap, subst}
 use mathlib.Core.List.{List}
 use Prim.Native.Nat.{ℕ, zero, suc, _+_, _*_, _-_, _<_, _≤_}

@@ -1,5 +1,7 @@
--- The parts of a table's starts f up to e, each less the first, over the points between them, are the table's parts f up to e (`parts-cut`). In order: some of the starts;
--- a part of a part; starts less the first; a part of the numbers; from the numbers that are asked for (`clamped`). Assumes nothing.
+-- The parts of a table's starts f up to e, each less the first, over the points between them, are
+-- the table's parts f up to e (`parts-cut`). In order: some of the starts; a part of a part; starts
+-- less the first; a part of the numbers; from the numbers that are asked for (`clamped`). Assumes
+-- nothing.
 use mathlib.Core.Path.{_≡_, refl, sym, _∙_, ap, subst}
 use mathlib.Core.List.{List, [], _∷_, map}
 use Prim.Native.Nat.{ℕ, zero, suc, _+_, _-_, _<_, _≤_}
@@ -86,7 +88,8 @@ slice-drop q u v l h =
     let z : q + v - (q + u) ≡ v - u = omega arith in
     sym (take-drop (q + u) (q + v) l (omega arith)) ∙ ap (λ n. take n (drop (q + u) l)) z ∙ ap (take (v - u)) (sym (drop-drop u q l)) ∙ take-drop u v (drop q l) h
 
--- the numbers that are asked for: j past the end counts as the end, i at or past that leaves nothing
+-- the numbers that are asked for: j past the end counts as the end, i at or past that leaves
+-- nothing
 pub clamped : {A : Type 0} (i j p : ℕ) (l : List A) → length l ≡ p → take (leastOf j p - leastOf i (leastOf j p)) (drop (leastOf i (leastOf j p)) l) ≡ take (j - i) (drop i l)
 clamped i j p l h = by (leastOf j p) refl
   where

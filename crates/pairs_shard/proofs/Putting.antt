@@ -1,5 +1,6 @@
--- A shard's bytes as code puts them. In order: words put are text put (`words-put`); the counts and the starts behind the first five words (`counts-put`); a start less the
--- first (`less-turn`); a part of the bytes as the machine takes it; the whole (`shard-put`). Assumes nothing.
+-- A shard's bytes as code puts them. In order: words put are text put (`words-put`); the counts and
+-- the starts behind the first five words (`counts-put`); a start less the first (`less-turn`); a
+-- part of the bytes as the machine takes it; the whole (`shard-put`). Assumes nothing.
 use mathlib.Core.Path.{_≡_, refl, sym, _∙_, ap}
 use mathlib.Core.List.{List, [], _∷_, _++_, map}
 use Prim.Native.Nat.{ℕ, _+_, _*_, _-_, _<_, _≤_}

@@ -1,4 +1,5 @@
--- A shard read as a job: its operation, its left operand and its right one (`ShardIs`), by its words. Assumes nothing.
+-- A shard read as a job: its operation, its left operand and its right one (`ShardIs`), by its
+-- words. Assumes nothing.
 use mathlib.Core.Path.{_≡_, sym, _∙_, ap}
 use mathlib.Core.List.{List, map}
 use Prim.Native.Nat.{ℕ, suc, _+_, _*_, _-_, _<_}

@@ -1,4 +1,5 @@
--- The shards put together: their left parts, their contours, their lines (specs/Whole.antt). Assumes nothing.
+-- The shards put together: their left parts, their contours, their lines (specs/Whole.antt).
+-- Assumes nothing.
 use mathlib.Core.Path.{_≡_, sym, _∙_, ap}
 use mathlib.Core.Bool.{Bool}
 use mathlib.Core.List.{List, [], _∷_, _++_, map, append-assoc}

@@ -1,5 +1,6 @@
--- The words of a shard. In order: five words, two counts, starts, corners and the rest, read again (`Laid`); words of joined bytes; a right operand by the words from its
--- bounds on (`right-from`); the shard's words (`shard-words`). Assumes nothing.
+-- The words of a shard. In order: five words, two counts, starts, corners and the rest, read again
+-- (`Laid`); words of joined bytes; a right operand by the words from its bounds on (`right-from`);
+-- the shard's words (`shard-words`). Assumes nothing.
 use mathlib.Core.Path.{_≡_, refl, sym, _∙_, ap}
 use mathlib.Core.List.{List, [], _∷_, _++_, map, append-assoc}
 use Prim.Native.Nat.{ℕ, suc, _+_, _*_, _-_, _%_, _<_}

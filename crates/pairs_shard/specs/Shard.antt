@@ -1,5 +1,7 @@
--- A shard of a pair job: the job of its left parts from number i up to, and without, number j. All right parts, the operation and all bounds stay what they are. j past the
--- part count counts as the part count; i at or past that leaves no left part. Its bytes, its faults, and what a call leaves of both. Assumes nothing.
+-- A shard of a pair job: the job of its left parts from number i up to, and without, number j. All
+-- right parts, the operation and all bounds stay what they are. j past the part count counts as the
+-- part count; i at or past that leaves no left part. Its bytes, its faults, and what a call leaves
+-- of both. Assumes nothing.
 use mathlib.Core.Path.{_≡_}
 use mathlib.Core.Bool.{Bool, cond}
 use mathlib.Core.List.{List, _∷_, _++_, map}
@@ -42,7 +44,8 @@ shardStarts f e bytes = map (λ s. s - startAt bytes f) (take (e - f + 1) (drop 
 abbrev pub shardCounts : ℕ → ℕ → List ℕ → List ℕ
 shardCounts f e bytes = (e - f) ∷ (startAt bytes e - startAt bytes f) ∷ shardStarts f e bytes
 
--- the operation and the left bounds; the counts and the starts; the corners of these parts; the right bounds and the right table
+-- the operation and the left bounds; the counts and the starts; the corners of these parts; the
+-- right bounds and the right table
 unfoldable pub shardBytes : ℕ → ℕ → List ℕ → List ℕ
 shardBytes f e bytes =
     (take 20 bytes ++ wordBytes (shardCounts f e bytes))
@@ -62,7 +65,8 @@ shardFault bytes = cond (eqb (shapeFault bytes) 0) (cond (leftBroken bytes) faul
 
 -- ---- what a call answers and leaves
 
--- "A refusal returns the number and zero counts, changes no buffer"; "On success places past the answer keep what they held."
+-- "A refusal returns the number and zero counts, changes no buffer"; "On success places past the
+-- answer keep what they held."
 abbrev pub cutOf : ℕ → ℕ → List ℕ → Shard
 cutOf i j bytes = record { fault = shardFault bytes; size = cond (eqb (shardFault bytes) 0) (length (shardOf i j bytes)) 0 }
 

@@ -1,4 +1,5 @@
--- The shards of a pair job put together are the whole, as statements over the bytes that `cut` writes; proved in proofs/. Assumes nothing.
+-- The shards of a pair job put together are the whole, as statements over the bytes that `cut`
+-- writes; proved in proofs/. Assumes nothing.
 use mathlib.Core.Path.{_≡_}
 use mathlib.Core.List.{List, _++_}
 use Prim.Native.Nat.{ℕ, _-_, _<_, _≤_}
@@ -19,7 +20,8 @@ pub record ShardIs (i j : ℕ) (bytes : List ℕ) : Type 0 where
 abbrev pub ShardOperands : Type 0
 ShardOperands = (i j : ℕ) (bytes : List ℕ) → shardFault bytes ≡ 0 → ShardIs i j bytes
 
--- the shard of all left parts has the job's contours, and two shards one after the other have those of the shard of both
+-- the shard of all left parts has the job's contours, and two shards one after the other have those
+-- of the shard of both
 abbrev pub WholeContours : Type 0
 WholeContours = (j : ℕ) (bytes : List ℕ) → shardFault bytes ≡ 0 → wordAt bytes 5 ≤ j → contoursOf (shardOf 0 j bytes) ≡ contoursOf bytes
 
@@ -32,7 +34,8 @@ JoinedContours =
 abbrev pub linesFrom : ℕ → List ℕ → List ℕ
 linesFrom n bytes = pairLinesFrom (reflectedOf bytes) n (operandParts (leftOf bytes)) (operandParts (rightOf bytes))
 
--- the same of the lines, with the left part numbers of a shard moved on by the number of its first part
+-- the same of the lines, with the left part numbers of a shard moved on by the number of its first
+-- part
 abbrev pub WholeLines : Type 0
 WholeLines = (j : ℕ) (bytes : List ℕ) → shardFault bytes ≡ 0 → wordAt bytes 5 ≤ j → linesFrom 0 (shardOf 0 j bytes) ≡ linesFrom 0 bytes
 

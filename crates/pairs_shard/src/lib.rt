@@ -1,6 +1,9 @@
-// A shard of a pair job cut out of the job's bytes: `cut` takes any bytes and two part numbers, and writes the job of the left parts from the first number up to, and
-// without, the second, with all right parts, the operation and all bounds. It refuses by number what is no job by its shape, or whose left table is against the rules. What it answers and leaves
-// in the lent bytes are equations with specs/Shard.antt; that the shards put together are the whole is specs/Whole.antt. Leans on pairs_job, pairs_rules, table_words and text.
+// A shard of a pair job cut out of the job's bytes: `cut` takes any bytes and two part numbers, and
+// writes the job of the left parts from the first number up to, and without, the second, with all
+// right parts, the operation and all bounds. It refuses by number what is no job by its shape, or
+// whose left table is against the rules. What it answers and leaves in the lent bytes are equations
+// with specs/Shard.antt; that the shards put together are the whole is specs/Whole.antt. Leans on
+// pairs_job, pairs_rules, table_words and text.
 ghost use mathlib.Core.Path.{_≡_};
 ghost use mathlib.Core.List.{_++_, map};
 ghost use Prim.Native.Nat.{_+_, _*_, _-_, _≤_};
@@ -17,7 +20,8 @@ use pairs_job::LONGEST;
 use table_words::put_word;
 use table_words::word_at;
 
-// What `cut` answers: the fault number, 0 for none, and how many bytes were written, 0 where it refused.
+// What `cut` answers: the fault number, 0 for none, and how many bytes were written, 0 where it
+// refused.
 pub struct Shard {
     pub fault: u32,
     pub size: usize,
@@ -59,7 +63,8 @@ fn put_less(bytes: &[u8], from: usize, count: usize, base: u32, out: &mut [u8], 
     }
 }
 
-// Writes the operation, the left bounds, the counts and the starts of the left parts first up to past; answers how many bytes they are.
+// Writes the operation, the left bounds, the counts and the starts of the left parts first up to
+// past; answers how many bytes they are.
 fn put_counts(bytes: &[u8], first: usize, past: usize, out: &mut [u8]) -> usize
     requires { ⌜ Cuts first past (now bytes) × (147516 ≤ length (now out)) ⌝ }
     ensures { λ r.
@@ -82,7 +87,8 @@ fn put_counts(bytes: &[u8], first: usize, past: usize, out: &mut [u8]) -> usize
     4 * (LEFT + 3 + (past - first))
 }
 
-// Writes the corners of the left parts first up to past, and then the right bounds and the right table; answers the place after them.
+// Writes the corners of the left parts first up to past, and then the right bounds and the right
+// table; answers the place after them.
 fn put_rest(bytes: &[u8], first: usize, past: usize, out: &mut [u8], at: usize) -> usize
     requires { ⌜ Cuts first past (now bytes) × (147516 ≤ length (now out)) × (at ≤ 8224) ⌝ }
     ensures { λ r.
@@ -100,8 +106,9 @@ fn put_rest(bytes: &[u8], first: usize, past: usize, out: &mut [u8], at: usize) 
     text::put_bytes(&bytes[4 * (corners + corners::WIDTH * count)..], out, after)
 }
 
-// Writes the shard of the left parts `from` up to, and without, `to` on the front of the lent bytes. Refuses with 13, 7, in this order, before the first store.
-// The last clause says again, in io's words, that they stand within the lent ones, for a caller that lends them on.
+// Writes the shard of the left parts `from` up to, and without, `to` on the front of the lent
+// bytes. Refuses with 13, 7, in this order, before the first store. The last clause says again, in
+// io's words, that they stand within the lent ones, for a caller that lends them on.
 pub fn cut(bytes: &[u8], from: usize, to: usize, out: &mut [u8; LONGEST]) -> Shard
     ensures told { λ r. ⌜ r ≡ cutOf from to (now (bytes .entry)) ⌝ }
     ensures bytes { λ r. ⌜ now (out .exit) ≡ bytesCut from to (now (bytes .entry)) (now (out .entry)) ⌝ }

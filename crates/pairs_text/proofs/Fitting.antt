@@ -1,5 +1,6 @@
--- The pieces in walks by their number: how many (`count-pieces`), the first (`piece-first`, told by its fault: `first-refused`, `first-head`), a line (`piece-line`),
--- and that its walks can be put (`puttable`). Assumes nothing.
+-- The pieces in walks by their number: how many (`count-pieces`), the first (`piece-first`, told by
+-- its fault: `first-refused`, `first-head`), a line (`piece-line`), and that its walks can be put
+-- (`puttable`). Assumes nothing.
 use mathlib.Core.Path.{_≡_, refl, sym, _∙_, ap}
 use mathlib.Core.List.{List, [], _∷_, map}
 use Prim.Native.Nat.{ℕ, zero, suc, _+_, _*_, _-_, _/_, _%_, _<_}

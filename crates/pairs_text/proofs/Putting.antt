@@ -1,6 +1,7 @@
--- Pieces put one after another into lent bytes (`Putting`), each into what is left of them (`rest`): none yet (`putting-none`), one more (`putting-turn`), no room for
--- another (`handed-full`), none left (`handed-all`); what a call
--- answers of a job (`handed-chunk`). Assumes nothing.
+-- Pieces put one after another into lent bytes (`Putting`), each into what is left of them
+-- (`rest`): none yet (`putting-none`), one more (`putting-turn`), no room for another
+-- (`handed-full`), none left (`handed-all`); what a call answers of a job (`handed-chunk`). Assumes
+-- nothing.
 use mathlib.Core.Path.{_≡_, refl, sym, _∙_, ap, ap₂}
 use mathlib.Core.Bool.{Bool, true, false}
 use mathlib.Core.List.{List, [], _∷_, _++_, flatten, append-assoc, append-nil}
@@ -24,7 +25,8 @@ use Rattle.pairs_text.specs.Walks.{Handed}
 use Rattle.pairs_text.proofs.Sizes.{put-inside}
 use Rattle.pairs_text.proofs.Taking.{taking-turn, taking-full}
 
--- from piece `from` up to piece k the pieces `done` are put, of `size` bytes, into lent bytes that held `old`; those that a call puts are these, and then what it still takes
+-- from piece `from` up to piece k the pieces `done` are put, of `size` bytes, into lent bytes that
+-- held `old`; those that a call puts are these, and then what it still takes
 pub record Putting (pieces : List (List ℕ)) (from k size : ℕ) (old buf : List ℕ) : Type 0 where
   pub done : List (List ℕ)
   pub whole : takingPieces (length old) (drop from pieces) ≡ done ++ takingPieces (length old - size) (drop k pieces)

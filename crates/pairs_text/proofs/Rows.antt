@@ -1,4 +1,5 @@
--- Rows of n one after another are numbered from 0 on: number k stands in row k / n at place k % n (`rows-numbered`). Assumes nothing.
+-- Rows of n one after another are numbered from 0 on: number k stands in row k / n at place k % n
+-- (`rows-numbered`). Assumes nothing.
 use mathlib.Core.Path.{_≡_, sym, _∙_, ap, ap₂}
 use mathlib.Core.List.{List, [], _∷_, _++_, map, flatten, append-assoc, append-nil, map-append}
 use Prim.Native.Nat.{ℕ, zero, suc, _+_, _*_, _/_, _%_, _<_, _≤_}

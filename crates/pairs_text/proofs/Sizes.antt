@@ -1,5 +1,6 @@
--- A head line has at most 154 bytes, whatever its numbers (`head-any`), and a refusal at most 29 (`refusal-any`); what was put on the front of lent bytes
--- lies within them (`put-inside`). Assumes nothing.
+-- A head line has at most 154 bytes, whatever its numbers (`head-any`), and a refusal at most 29
+-- (`refusal-any`); what was put on the front of lent bytes lies within them (`put-inside`). Assumes
+-- nothing.
 use mathlib.Core.Path.{sym}
 use mathlib.Core.List.{List}
 use Prim.Native.Nat.{ℕ, suc, _≤_}

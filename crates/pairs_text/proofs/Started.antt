@@ -1,4 +1,5 @@
--- Of what a job answered before its lines, with the walks of both operands and their numbers: it can be put (`started`), and its pieces are the job's (`pieces-in`). Assumes nothing.
+-- Of what a job answered before its lines, with the walks of both operands and their numbers: it
+-- can be put (`started`), and its pieces are the job's (`pieces-in`). Assumes nothing.
 use mathlib.Core.Path.{_≡_, refl, sym, _∙_, ap, ap₂, subst}
 use mathlib.Core.Bool.{Bool}
 use mathlib.Core.List.{List, [], _∷_, map, flatten}

@@ -1,5 +1,6 @@
--- What calls hand over: the front of what is left (`front-handed-over`), at least a piece where there is any (`some-handed-over`), and from 0 on to the end the whole
--- text and nothing else (`all-handed-over`). Assumes nothing.
+-- What calls hand over: the front of what is left (`front-handed-over`), at least a piece where
+-- there is any (`some-handed-over`), and from 0 on to the end the whole text and nothing else
+-- (`all-handed-over`). Assumes nothing.
 use mathlib.Core.Path.{_≡_, sym, _∙_, ap, subst}
 use mathlib.Core.Bool.{true, false}
 use mathlib.Core.List.{List, [], _++_, flatten, append-nil}

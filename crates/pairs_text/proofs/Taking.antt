@@ -1,5 +1,6 @@
--- Pieces taken while there is room: one more (`taking-turn`), no room (`taking-full`); they are the first ones (`taking-front`), no more than there are
--- (`taking-few`), and at least one where there is any and room for it (`taking-some`). Assumes nothing.
+-- Pieces taken while there is room: one more (`taking-turn`), no room (`taking-full`); they are the
+-- first ones (`taking-front`), no more than there are (`taking-few`), and at least one where there
+-- is any and room for it (`taking-some`). Assumes nothing.
 use mathlib.Core.Path.{_≡_, refl, ap}
 use mathlib.Core.List.{List, [], _∷_, _++_}
 use Prim.Native.Nat.{ℕ, _+_, _-_, _<_, _≤_}

@@ -1,5 +1,5 @@
--- What calls hand over, each from where the one before it ended: together the text of the job, whole and in order. They are proved in proofs/Steps.antt. Assumes
--- nothing.
+-- What calls hand over, each from where the one before it ended: together the text of the job,
+-- whole and in order. They are proved in proofs/Steps.antt. Assumes nothing.
 use mathlib.Core.Path.{_≡_}
 use mathlib.Core.Bool.{true, false}
 use mathlib.Core.List.{List, _++_, flatten}
@@ -12,7 +12,8 @@ use Rattle.pairs_text.specs.Pieces.{piecesOf, textFrom, chunkOf, nextPie
 abbrev pub FrontHandedOver : Type 0
 FrontHandedOver = (bytes : List ℕ) (from : ℕ) → textFrom bytes from ≡ flatten (chunkOf bytes from) ++ textFrom bytes (nextPiece bytes from)
 
--- where pieces are left, at least one of them, and never more than there are: so calls come to the end
+-- where pieces are left, at least one of them, and never more than there are: so calls come to the
+-- end
 abbrev pub SomeHandedOver : Type 0
 SomeHandedOver = (bytes : List ℕ) (from : ℕ) → from < length (piecesOf bytes) → (from < nextPiece bytes from) × (nextPiece bytes from ≤ length (piecesOf bytes))
 

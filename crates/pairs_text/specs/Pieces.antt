@@ -1,5 +1,5 @@
--- The text of a pair job in pieces, the head line or the refusal and then one line a pair (`piecesOf`), and which of them one call hands over (`chunkOf`).
--- Assumes nothing.
+-- The text of a pair job in pieces, the head line or the refusal and then one line a pair
+-- (`piecesOf`), and which of them one call hands over (`chunkOf`). Assumes nothing.
 use mathlib.Core.Path.{_≡_}
 use mathlib.Core.Bool.{Bool, cond}
 use mathlib.Core.List.{List, [], _∷_, map, flatten}
@@ -52,7 +52,8 @@ takingPieces room (p ∷ ps) = cond (ltb room lineRoom) [] (p ∷ takingPieces (
 abbrev pub chunkRoom : ℕ
 chunkRoom = 1048576
 
--- the pieces that the call at `from` hands over, how many have been handed over then, and whether more are left
+-- the pieces that the call at `from` hands over, how many have been handed over then, and whether
+-- more are left
 abbrev pub chunkOf : List ℕ → ℕ → List (List ℕ)
 chunkOf bytes from = takingPieces chunkRoom (drop from (piecesOf bytes))
 

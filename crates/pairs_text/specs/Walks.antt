@@ -1,4 +1,5 @@
--- The pieces as the walks of both operands in a work buffer have them (`piecesIn`), and what the inner functions promise of them. Assumes nothing.
+-- The pieces as the walks of both operands in a work buffer have them (`piecesIn`), and what the
+-- inner functions promise of them. Assumes nothing.
 use mathlib.Core.Path.{_≡_}
 use mathlib.Core.Bool.{cond}
 use mathlib.Core.List.{List, _∷_, map, flatten}
@@ -38,7 +39,8 @@ module _ (x : Begun) (firsts : List ℕ) (points : List (List ℤ)) where
   piecesIn = firstIn ∷ map lineIn (upTo (x .left * x .right))
 
   module _ (numbers : List ℕ) where
-    -- fewer pairs than 2^32, none of a job that is refused; of another the walks of both operands, which can be merged by their numbers
+    -- fewer pairs than 2^32, none of a job that is refused; of another the walks of both operands,
+    -- which can be merged by their numbers
     pub record JobStarted : Type 0 where
       pub few : x .left * x .right < 4294967296
       pub refused : (x .fault ≡ 0 → ⊥) → x .left * x .right ≡ 0

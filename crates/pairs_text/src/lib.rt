@@ -1,7 +1,9 @@
-// The text of a pair job handed over piece by piece: `next_chunk` takes any bytes and how many pieces have been handed over, and puts as many of the next ones as
-// lent bytes have room for. It keeps nothing between calls and its work arrays are its own. What the pieces are and which of them one call puts is
-// specs/Pieces.antt; that calls from 0 to the end hand over the whole text, `pairsText`, is specs/HandedOver.antt. Leans on pairs_work, pair_lines,
-// minkowski_counted and text.
+// The text of a pair job handed over piece by piece: `next_chunk` takes any bytes and how many
+// pieces have been handed over, and puts as many of the next ones as lent bytes have room for. It
+// keeps nothing between calls and its work arrays are its own. What the pieces are and which of
+// them one call puts is specs/Pieces.antt; that calls from 0 to the end hand over the whole text,
+// `pairsText`, is specs/HandedOver.antt. Leans on pairs_work, pair_lines, minkowski_counted and
+// text.
 ghost use mathlib.Core.Path.{_≡_};
 ghost use mathlib.Core.List.{[], flatten};
 ghost use Prim.Native.Nat.{_≤_};
@@ -15,7 +17,8 @@ use pairs_work::Begun;
 use pairs_work::FIRSTS;
 use pairs_work::POINTS;
 
-// Room for many lines, so that judging a job and unrolling its walks again at each call costs little beside them.
+// Room for many lines, so that judging a job and unrolling its walks again at each call costs
+// little beside them.
 pub const ROOM: usize = 1048576;
 
 // Room for any piece, the longest line's: 47 bytes, and 26 for each corner of a pair.
@@ -24,14 +27,16 @@ const LINE: usize = 47 + 26 * (2 * table::MAX_CONTOUR);
 // The numbers of a work buffer that holds the corners of any pair.
 const WORK: usize = corners::WIDTH * (2 * table::MAX_CONTOUR);
 
-// What one call handed over: how many bytes, how many pieces have been handed over with them, and whether more are left.
+// What one call handed over: how many bytes, how many pieces have been handed over with them, and
+// whether more are left.
 pub struct Chunk {
     pub size: usize,
     pub next: usize,
     pub more: bool,
 }
 
-// Puts the head line, or the refusal, on the front of the lent bytes and answers how many bytes it has. Only the head line wants the corners counted.
+// Puts the head line, or the refusal, on the front of the lent bytes and answers how many bytes it
+// has. Only the head line wants the corners counted.
 fn put_first(
     begun: Begun,
     firsts: &[u32],
@@ -76,7 +81,8 @@ fn put_piece(
     pair_lines::put_line(firsts, points, numbers, left, right, p, q, work, out)
 }
 
-// Puts pieces from the one at `from` on, one after another, as long as there is room for any and pieces are left.
+// Puts pieces from the one at `from` on, one after another, as long as there is room for any and
+// pieces are left.
 fn put_pieces(
     begun: Begun,
     firsts: &[u32],
@@ -128,9 +134,10 @@ fn put_begun(
     put_pieces(begun, firsts, points, numbers, from, &mut work, out)
 }
 
-// Hands over the pieces of a job's text after the first `from`, as many as there is room for, on the front of the lent bytes; past them these keep what they held.
-// Past the last piece nothing is handed over, and `next` is `from`. The last clause says again, in io's words, that the bytes stand within the lent ones, for a
-// caller that lends them on.
+// Hands over the pieces of a job's text after the first `from`, as many as there is room for, on
+// the front of the lent bytes; past them these keep what they held. Past the last piece nothing is
+// handed over, and `next` is `from`. The last clause says again, in io's words, that the bytes
+// stand within the lent ones, for a caller that lends them on.
 pub fn next_chunk(bytes: &[u8], from: usize, out: &mut [u8; ROOM]) -> Chunk
     ensures size { λ r. ⌜ r .size ≡ length (flatten (chunkOf (now (bytes .entry)) from)) ⌝ }
     ensures next { λ r. ⌜ r .next ≡ nextPiece (now (bytes .entry)) from ⌝ }

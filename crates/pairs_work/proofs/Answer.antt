@@ -1,4 +1,5 @@
--- The answer before the lines: a refusal (`begun-refused`), or the numbers of an accepted job (`begun-accepted`). Assumes nothing.
+-- The answer before the lines: a refusal (`begun-refused`), or the numbers of an accepted job
+-- (`begun-accepted`). Assumes nothing.
 use mathlib.Core.Path.{_≡_, sym, _∙_, ap}
 use Prim.Native.Nat.{ℕ}
 use borrow.Author.Tests.{eq-eqb, ne-eqb}

@@ -1,5 +1,6 @@
--- A job's operands as they are read: both tables lie within the bytes and have room (`left-table`, `right-table`); the front of a buffer is what was read
--- (`starts-front`, `corners-front`); the answer for what was read is the job's (`begun-job`). Assumes nothing.
+-- A job's operands as they are read: both tables lie within the bytes and have room (`left-table`,
+-- `right-table`); the front of a buffer is what was read (`starts-front`, `corners-front`); the
+-- answer for what was read is the job's (`begun-job`). Assumes nothing.
 use mathlib.Core.Path.{_≡_, sym, _∙_, ap, subst}
 use mathlib.Core.Bool.{Bool}
 use mathlib.Core.List.{List}

@@ -1,5 +1,6 @@
--- What a pair job answers before its lines: its fault, or how many parts its operands have and the result's bounds, with the walks of both operands, and a number
--- a point, in work buffers for any two (`Begins`). Assumes nothing.
+-- What a pair job answers before its lines: its fault, or how many parts its operands have and the
+-- result's bounds, with the walks of both operands, and a number a point, in work buffers for any
+-- two (`Begins`). Assumes nothing.
 use mathlib.Core.Path.{_≡_}
 use mathlib.Core.Bool.{cond}
 use mathlib.Core.List.{List}
@@ -15,7 +16,8 @@ use Rattle.minkowski_work.specs.Scratch.{Call, BothWalked}
 use Rattle.pairs_job.specs.Job.{reflectedOf, leftOf, rightOf, shapeFault}
 use Rattle.pairs_work.specs.declared.Begun.{Begun}
 
--- of either operand a point for each of 8,192 corners and one more for each of 2,048 parts, and a first for each of 2,049 starts
+-- of either operand a point for each of 8,192 corners and one more for each of 2,048 parts, and a
+-- first for each of 2,049 starts
 pub record Large (points : List (List ℤ)) (firsts : List ℕ) : Type 0 where
   pub for-points : length points ≡ 2 * (maxCorners + maxParts)
   pub for-firsts : length firsts ≡ 2 * (maxParts + 1)
@@ -61,7 +63,8 @@ acceptedBegun x = record {
 unfoldable pub jobBegun : Call → ℕ → Begun
 jobBegun x f = cond (eqb f 0) (acceptedBegun x) (refusedBegun f)
 
--- that answer, and where there is no fault the walks of both operands, which can be merged by their numbers
+-- that answer, and where there is no fault the walks of both operands, which can be merged by their
+-- numbers
 pub record Begins (x : Call) (f : ℕ) (points : List (List ℤ)) (firsts numbers : List ℕ) (b : Begun) : Type 0 where
   pub answer : b ≡ jobBegun x f
   pub walked : f ≡ 0 → BothWalked x points firsts

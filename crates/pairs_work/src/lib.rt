@@ -1,7 +1,9 @@
-// A pair job before its lines: `begin_job` takes any bytes, tells the job's fault or how many parts its operands have and the result's bounds, and leaves the walks of
-// both operands, with a number a point, in its caller's work buffers, which pair_lines puts into lines (`Begins` of specs/Begun.antt, with pairs_job's `jobFault`,
-// `leftOf` and `rightOf`). Of a job that is refused nothing is said of the buffers. Leans on pairs_job, minkowski_faults, minkowski_work, pair_numbers and a law of
-// minkowski_keyed.
+// A pair job before its lines: `begin_job` takes any bytes, tells the job's fault or how many parts
+// its operands have and the result's bounds, and leaves the walks of both operands, with a number a
+// point, in its caller's work buffers, which pair_lines puts into lines (`Begins` of
+// specs/Begun.antt, with pairs_job's `jobFault`, `leftOf` and `rightOf`). Of a job that is refused
+// nothing is said of the buffers. Leans on pairs_job, minkowski_faults, minkowski_work,
+// pair_numbers and a law of minkowski_keyed.
 ghost use mathlib.Core.Path.{_≡_};
 ghost use Rattle.minkowski_work.specs.Scratch.{callOf};
 ghost use Rattle.pairs_job.specs.Job.{jobFault};
@@ -15,12 +17,14 @@ use table_words::word_at;
 // The starts of any operand.
 const STARTS: usize = table::MAX_PARTS + 1;
 
-// The points and the firsts of any two operands' walks: of each 8,192 corners, and one more point for each of 2,048 parts.
+// The points and the firsts of any two operands' walks: of each 8,192 corners, and one more point
+// for each of 2,048 parts.
 pub const POINTS: usize = 2 * (table::MAX_CORNERS + table::MAX_PARTS);
 
 pub const FIRSTS: usize = 2 * STARTS;
 
-// What a job answers before its lines: the fault number, 0 for none, how many parts each operand has, and the result's bounds; all 0 where it is refused.
+// What a job answers before its lines: the fault number, 0 for none, how many parts each operand
+// has, and the result's bounds; all 0 where it is refused.
 pub struct Begun {
     pub fault: u32,
     pub left: usize,
@@ -45,7 +49,8 @@ fn refused(fault: u32) -> Begun
     }
 }
 
-// The first fault of two operands in the order of pairs up to 20; 0 for none, and then the work buffers hold the walks of both.
+// The first fault of two operands in the order of pairs up to 20; 0 for none, and then the work
+// buffers hold the walks of both.
 fn pairs_fault(
     operation: Operation,
     left_starts: &[u32],
@@ -82,7 +87,8 @@ fn pairs_fault(
     )
 }
 
-// What the pairs of two operands answer before their lines; where there is no fault, the points have their numbers.
+// What the pairs of two operands answer before their lines; where there is no fault, the points
+// have their numbers.
 pub fn begin_operands(
     operation: Operation,
     left_starts: &[u32],
@@ -123,7 +129,8 @@ pub fn begin_operands(
     }
 }
 
-// What a job without a fault of its shape answers before its lines: both tables are read into places for any table within the limits.
+// What a job without a fault of its shape answers before its lines: both tables are read into
+// places for any table within the limits.
 fn begin_shaped(
     bytes: &[u8],
     left_starts: &mut [u32],

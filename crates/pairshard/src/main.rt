@@ -1,6 +1,9 @@
-// Cuts a shard out of a pair job: `pairshard FROM TO <JOB >SHARD` writes the job of the left parts from number FROM up to, and without, number TO. The right operand, the operation
-// and all bounds stay what they are. What is no job by its shape, or has a left table against its rules, is refused by its number on standard error, and nothing is written. It
-// reads one byte more than the longest good job has: a longer one is refused whatever comes after them. Leans on input, commands and pairs_shard.
+// Cuts a shard out of a pair job: `pairshard FROM TO <JOB >SHARD` writes the job of the left parts
+// from number FROM up to, and without, number TO. The right operand, the operation and all bounds
+// stay what they are. What is no job by its shape, or has a left table against its rules, is
+// refused by its number on standard error, and nothing is written. It reads one byte more than the
+// longest good job has: a longer one is refused whatever comes after them. Leans on input, commands
+// and pairs_shard.
 use pairs_job::LONGEST;
 
 const JOB: usize = LONGEST + 1;

@@ -1,7 +1,9 @@
-// What a call that writes parts answered, as the programs here print it on one line: the fault and the counts, and then the parts, a colon before
-// the first, a semicolon before each other one, and the corners of a part as (x,y), each after a space (`print_answer`); or all that the lent places
-// hold, so that a refusal which changed something shows (`print_lent`). The lists are read as far as they reach, so any lists are taken; what is
-// written is in io's hands, and each program's is held to its file `stdout`. Leans on table, corners and lines.
+// What a call that writes parts answered, as the programs here print it on one line: the fault and
+// the counts, and then the parts, a colon before the first, a semicolon before each other one, and
+// the corners of a part as (x,y), each after a space (`print_answer`); or all that the lent places
+// hold, so that a refusal which changed something shows (`print_lent`). The lists are read as far
+// as they reach, so any lists are taken; what is written is in io's hands, and each program's is
+// held to its file `stdout`. Leans on table, corners and lines.
 use table::Counts;
 
 // Writes corner j, where there is one.

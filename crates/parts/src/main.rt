@@ -1,5 +1,6 @@
-// Writes the split parts of a mesh file as a stored table, or prints its refusal. It reads at most one byte more than the longest good file from standard input; more input would
-// change nothing (parts_file/specs/MoreInput.antt). Leans on input, parts_file and refusal_print.
+// Writes the split parts of a mesh file as a stored table, or prints its refusal. It reads at most
+// one byte more than the longest good file from standard input; more input would change nothing
+// (parts_file/specs/MoreInput.antt). Leans on input, parts_file and refusal_print.
 use parts_file::PARTS;
 
 // The longest good file and one byte more, so that a longer one is seen to be too long.

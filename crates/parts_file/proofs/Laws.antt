@@ -1,4 +1,5 @@
--- Reading the stored parts gives them back (`parts-read-back`); more input changes nothing (`more-input`). Assumes nothing.
+-- Reading the stored parts gives them back (`parts-read-back`); more input changes nothing
+-- (`more-input`). Assumes nothing.
 use mathlib.Core.Path.{_≡_, sym, _∙_, ap}
 use mathlib.Core.List.{List, _++_, flatten}
 use Prim.Native.Nat.{ℕ, _*_, _-_, _/_}

@@ -1,4 +1,5 @@
--- What writing the split parts of an accepted file into room for any answers and leaves (`stored-left`), and a refusal (`refused-left`). Assumes nothing.
+-- What writing the split parts of an accepted file into room for any answers and leaves
+-- (`stored-left`), and a refusal (`refused-left`). Assumes nothing.
 use mathlib.Core.Path.{_≡_, sym, _∙_, ap, subst}
 use mathlib.Core.Bool.{cond}
 use mathlib.Core.List.{List, flatten}

@@ -1,4 +1,5 @@
--- Why the program `parts` reads no more than one byte past the longest good file, 20 + 36 · 1,024 = 36,884 bytes: the fault of more is the same. Assumes nothing.
+-- Why the program `parts` reads no more than one byte past the longest good file, 20 + 36 · 1,024 =
+-- 36,884 bytes: the fault of more is the same. Assumes nothing.
 use mathlib.Core.Path.{_≡_}
 use mathlib.Core.List.{List, _++_}
 use Prim.Native.Nat.{ℕ, _+_, _*_}

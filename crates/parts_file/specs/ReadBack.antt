@@ -1,4 +1,5 @@
--- What reading the stored table of a file's split parts gives: the parts. Proved in proofs/. Assumes nothing.
+-- What reading the stored table of a file's split parts gives: the parts. Proved in proofs/.
+-- Assumes nothing.
 use mathlib.Core.Path.{_≡_}
 use mathlib.Core.List.{List, flatten}
 use Prim.Native.Nat.{ℕ, _+_, _*_, _≤_}

@@ -1,12 +1,15 @@
-// Prints whether the right of two meshes, moved by a place, lies apart from the left one, touches it or overlaps it, or the refusal. It reads a place, a left mesh file and a right mesh file from
-// standard input: `placedText` of meshes_place/specs/Placed.antt of the bytes that it reads. Leans on input and meshes_place.
+// Prints whether the right of two meshes, moved by a place, lies apart from the left one, touches
+// it or overlaps it, or the refusal. It reads a place, a left mesh file and a right mesh file from
+// standard input: `placedText` of meshes_place/specs/Placed.antt of the bytes that it reads. Leans
+// on input and meshes_place.
 use meshes_place::LINE;
 use table_words::WORD;
 
 // As many bytes as the longest good file has.
 const FILE: usize = mesh_file::HEADER + mesh_file::RECORD * mesh::MAX_TRIANGLES;
 
-// A place, two of the longest good files and one byte more, so that a longer input is seen to be too long.
+// A place, two of the longest good files and one byte more, so that a longer input is seen to be
+// too long.
 const INPUT: usize = 2 * WORD + 2 * FILE + 1;
 
 fn main() {

@@ -1,5 +1,7 @@
--- Where a place lies by one contour, edge by edge. In order: the edges from the one into the first corner on (`round`); the edges left before corner k (`InTurn`), at the start, after an
--- edge, at an edge that z is right of, at the end; whether z is among the corners, corner by corner (`AmongTurn`). Assumes nothing.
+-- Where a place lies by one contour, edge by edge. In order: the edges from the one into the first
+-- corner on (`round`); the edges left before corner k (`InTurn`), at the start, after an edge, at
+-- an edge that z is right of, at the end; whether z is among the corners, corner by corner
+-- (`AmongTurn`). Assumes nothing.
 use mathlib.Core.Path.{_≡_, refl, sym, _∙_, ap, subst}
 use mathlib.Core.Bool.{Bool, true, false, cond}
 use mathlib.Core.List.{List, [], _∷_, _++_}
@@ -73,7 +75,8 @@ module _ (z : Pt) (l : List Pt) where
   unfolding some links
   some-next t a k h = rw (add-one, drop-cons l k O)
 
-  -- what is told of all edges is what is left to tell, with `strict` and `left` for those before; corner i is before corner k
+  -- what is told of all edges is what is left to tell, with `strict` and `left` for those before;
+  -- corner i is before corner k
   pub record InTurn (i k : ℕ) (strict left : Bool) : Type 0 where
     pub weakly : every (onOrLeft z) (neighbours l) ≡ every (onOrLeft z) (links (cornerAt l i) (drop k l))
     pub strictly : every (leftOrNone z) (neighbours l) ≡ cond strict (every (leftOrNone z) (links (cornerAt l i) (drop k l))) false

@@ -1,5 +1,6 @@
--- Where a place lies by the contours in turn: what is told of all is what is left to tell (`ByTurn`), at the start, after a contour, at one that it lies strictly inside, at the end; and part k of a pair
--- result, as the code takes it. Assumes nothing.
+-- Where a place lies by the contours in turn: what is told of all is what is left to tell
+-- (`ByTurn`), at the start, after a contour, at one that it lies strictly inside, at the end; and
+-- part k of a pair result, as the code takes it. Assumes nothing.
 use mathlib.Core.Path.{_≡_, refl, _∙_, ap, ap₂}
 use mathlib.Core.Bool.{Bool, true, false, cond}
 use mathlib.Core.List.{List, [], _∷_}

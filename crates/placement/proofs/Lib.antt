@@ -1,4 +1,5 @@
--- Laws of where a place lies: tests joined; faults; one contour, edge by edge; the contours in turn.
+-- Laws of where a place lies: tests joined; faults; one contour, edge by edge; the contours in
+-- turn.
 pub mod Bools
 pub mod Faults
 pub mod Contour

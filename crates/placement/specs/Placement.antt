@@ -1,6 +1,9 @@
--- Where a whole-number place lies by the contours of a pair result: inside none (apart), on the rim of some and strictly inside none (touching), strictly inside some
--- (overlapping). Of the differences of two meshes that says whether the second, moved to the place, meets or overlaps the first ("Those contours bound where a piece may lie"):
--- placement_meshes/specs. Contours are any starts and corners; of one that is not convex the tests say where the place lies by its edges, no more. Assumes nothing.
+-- Where a whole-number place lies by the contours of a pair result: inside none (apart), on the rim
+-- of some and strictly inside none (touching), strictly inside some (overlapping). Of the
+-- differences of two meshes that says whether the second, moved to the place, meets or overlaps the
+-- first ("Those contours bound where a piece may lie"): placement_meshes/specs. Contours are any
+-- starts and corners; of one that is not convex the tests say where the place lies by its edges, no
+-- more. Assumes nothing.
 use mathlib.Core.Path.{_≡_}
 use mathlib.Core.Bool.{Bool, true, false, cond}
 use mathlib.Core.List.{List, [], _∷_}
@@ -45,7 +48,8 @@ leftOrNone z e = cond (ltZ (pos 0) (side z e)) true (eqPt (e .0) (e .1))
 abbrev pub leftOf : Pt → Pt × Pt → Bool
 leftOf z e = ltZ (pos 0) (side z e)
 
--- z is within the corners' least and greatest x and y: by its edges alone a contour on one line, as two segments in line give, would cover the whole line, and an empty one everything
+-- z is within the corners' least and greatest x and y: by its edges alone a contour on one line, as
+-- two segments in line give, would cover the whole line, and an empty one everything
 unfoldable pub among : List Pt → Pt → Bool
 among l z =
     cond (some (λ c. leZ (c .x) (z .x)) l)
@@ -76,7 +80,8 @@ contactNumber Overlapping = 2
 
 -- ---- the call
 
--- 7 for starts or corners against a pair result's rules, 2 for a place or a corner not strictly between −2^30 and 2^30
+-- 7 for starts or corners against a pair result's rules, 2 for a place or a corner not strictly
+-- between −2^30 and 2^30
 unfoldable pub placeFault : List ℕ → List ℤ → Pt → ℕ
 placeFault starts corners z = firstFault ((faultRules, resultBroken starts corners) ∷ (faultRange, offRange (z .x ∷ z .y ∷ corners)) ∷ [])
 

@@ -1,6 +1,8 @@
-// Where a place lies by the contours of a pair result (`placement`): apart from all, touching, or overlapping one. It takes any starts, corners and place, refuses
-// with 7 and 2, and writes nothing; its answer is `placedOf` of specs/Placement.antt. One pass over the starts, one over the numbers, and one over the contours, each
-// left at the first edge that the place is right of. Leans on walk_read (a corner of lent numbers), table and plane.
+// Where a place lies by the contours of a pair result (`placement`): apart from all, touching, or
+// overlapping one. It takes any starts, corners and place, refuses with 7 and 2, and writes
+// nothing; its answer is `placedOf` of specs/Placement.antt. One pass over the starts, one over the
+// numbers, and one over the contours, each left at the first edge that the place is right of. Leans
+// on walk_read (a corner of lent numbers), table and plane.
 ghost use mathlib.Core.Path.{_≡_};
 ghost use mathlib.Core.Bool.{true, false, cond};
 ghost use mathlib.Core.List.{[]};
@@ -18,7 +20,8 @@ use corners::corner_at;
 use corners::corner_count;
 use plane::IntPoint;
 
-// Where a place lies: inside no contour, on the rim of one and strictly inside none, strictly inside one.
+// Where a place lies: inside no contour, on the rim of one and strictly inside none, strictly
+// inside one.
 pub enum Contact {
     Apart,
     Touching,
@@ -113,7 +116,8 @@ fn or_above(before: bool, s: i64) -> bool
     before
 }
 
-// Whether z, with side s of the edge from corner i to corner k, is left of it or the edge has no length, and so it was before.
+// Whether z, with side s of the edge from corner i to corner k, is left of it or the edge has no
+// length, and so it was before.
 fn and_left(contour: &[i32], i: usize, k: usize, before: bool, s: i64) -> bool
     requires { ⌜ EdgeAt (now contour) i k ⌝ }
     ensures { λ r.

@@ -1,4 +1,5 @@
--- The tests of a whole-number place are `Inside` and `StrictlyInside` of z/1, of any contour that turns left once round: its edges, and that no such place is past all corners to one side
+-- The tests of a whole-number place are `Inside` and `StrictlyInside` of z/1, of any contour that
+-- turns left once round: its edges, and that no such place is past all corners to one side
 -- (`among-hull`) or has no edge left of which it is. Assumes nothing.
 use mathlib.Core.Path.{_≡_, refl, sym, _∙_, ap, subst, subst₂}
 use mathlib.Core.Bool.{Bool, true, false}
@@ -127,7 +128,8 @@ module _ (l : List Pt) (r : Turning l) (z : Pt) where
     λ h. rw (on-or-left z (neighbours l) .1 h) (among-hull z l (inside-hull l r (pos 1) z (omega zarith) h)),
   )
 
-  -- where z is left of no edge, those that it is left of if they have a length have none, and no contour once round has such edges alone
+  -- where z is left of no edge, those that it is left of if they have a length have none, and no
+  -- contour once round has such edges alone
   some-left : StrictlyInside l (pos 1) z → some (leftOf z) (neighbours l) ≡ true
   some-left h = by-test (some (leftOf z) (neighbours l)) (λ p. p) (λ p. absurd (narrow (no-lengths z (neighbours l) h p)))
     where

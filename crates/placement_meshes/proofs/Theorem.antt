@@ -1,5 +1,6 @@
--- What `placement` tells of two meshes (`placement-told`). In order: a test of some contours and what holds of one; the contact by the tests; the contours of all pairs turn left once round; the call is not
--- refused. Assumes nothing.
+-- What `placement` tells of two meshes (`placement-told`). In order: a test of some contours and
+-- what holds of one; the contact by the tests; the contours of all pairs turn left once round; the
+-- call is not refused. Assumes nothing.
 use mathlib.Core.Path.{_≡_, refl, sym, _∙_, ap, ap₂, subst}
 use mathlib.Core.Bool.{Bool, true, false, cond}
 use mathlib.Core.List.{List, [], _∷_, flatten, append-nil}

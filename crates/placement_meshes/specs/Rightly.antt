@@ -1,4 +1,5 @@
--- What a place tells by the contours of all pairs of the difference of two accepted meshes (`DifferenceRightly`), and so what `placement` tells of those that an accepted call leaves
+-- What a place tells by the contours of all pairs of the difference of two accepted meshes
+-- (`DifferenceRightly`), and so what `placement` tells of those that an accepted call leaves
 -- (`PlacementTold`). Assumes nothing.
 use mathlib.Core.Path.{_≡_}
 use mathlib.Core.Bool.{true}
@@ -24,7 +25,8 @@ use Rattle.placement.specs.declared.Contact.the-variants.{Apart, Touching, Over
 use Rattle.placement.specs.declared.Placed.the-variants.{At}
 use Rattle.placement.specs.Placement.{contactBy, placedOf}
 
--- the second mesh, moved by z, meets the first: a triangle of each share a point; it overlaps it: they share a point strictly inside both
+-- the second mesh, moved by z, meets the first: a triangle of each share a point; it overlaps it:
+-- they share a point strictly inside both
 abbrev pub Meets : Mesh → Mesh → Pt → Type 0
 Meets mesh mesh′ z = SomePair (λ s t. Meet (triangleContour s) (triangleContour t) (pos 1) z) mesh mesh′
 
@@ -36,13 +38,15 @@ pub record Rightly (c : Contact) (mesh mesh′ : Mesh) (z : Pt) : Type 0 where
   pub touching : (c ≡ Touching) ↔ (Meets mesh mesh′ z × (Overlaps mesh mesh′ z → ⊥))
   pub apart : (c ≡ Apart) ↔ (Meets mesh mesh′ z → ⊥)
 
--- by the contours of all pairs of the difference of their split parts, for any limits, strategies and place
+-- by the contours of all pairs of the difference of their split parts, for any limits, strategies
+-- and place
 abbrev pub DifferenceRightly : Type 0
 DifferenceRightly =
     (how : ConvexSplitStrategy) (m : ℕ) (mesh : Mesh) (how′ : ConvexSplitStrategy) (m′ : ℕ) (mesh′ : Mesh) → firstFault (meshKinds mesh) ≡ 0 → firstFault (meshKinds mesh′) ≡ 0 →
     (z : Pt) → Rightly (contactBy z (pairsOf true (splitParts how m mesh) (splitParts how′ m′ mesh′))) mesh mesh′ z
 
--- the starts and the corners that a difference of l and r wrote on the front of lent ones, which held s and c: as many as it told
+-- the starts and the corners that a difference of l and r wrote on the front of lent ones, which
+-- held s and c: as many as it told
 abbrev pub startsLeft : Operand → Operand → List ℕ → List ℤ → List ℕ
 startsLeft l r s c = take (pairCount l r + 1) (pairsStarts true l r s c)
 

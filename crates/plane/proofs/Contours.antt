@@ -1,5 +1,6 @@
--- Laws of a contour's doubled area: from another corner (`contour-rotate`), the other way round (`contour-reverse`), translated
--- (`contour-shift`), of a triangle (`contour-triangle`), with a corner put between two neighbours (`contour-insert`). Assumes nothing.
+-- Laws of a contour's doubled area: from another corner (`contour-rotate`), the other way round
+-- (`contour-reverse`), translated (`contour-shift`), of a triangle (`contour-triangle`), with a
+-- corner put between two neighbours (`contour-insert`). Assumes nothing.
 use mathlib.Core.Path.{_≡_, refl, sym, _∙_, ap}
 use mathlib.Core.List.{List, [], _∷_, _++_, map, map-map, reverse, Permᴰ·map}
 use Prim.Native.Nat.{ℕ}

@@ -1,8 +1,9 @@
--- The direction order of document 01 ("Directions run from angle 0 up to a full turn"): a strict total order on the directions of
--- nonzero vectors (specs/Halves.antt). In order: the upper half (`Up`), where a cross at least 0 is transitive; the order as types (`Lt`, `Le`,
--- `Same`) and `angleCmp` deciding it (`angle-cases`); irreflexive, transitive, trichotomous, congruent for the same
--- direction; within a half a positive cross (`lt-in-half`); the same direction is cross 0 with a positive dot (`same-dot`).
--- Assumes nothing.
+-- The direction order of document 01 ("Directions run from angle 0 up to a full turn"): a strict
+-- total order on the directions of nonzero vectors (specs/Halves.antt). In order: the upper half
+-- (`Up`), where a cross at least 0 is transitive; the order as types (`Lt`, `Le`, `Same`) and
+-- `angleCmp` deciding it (`angle-cases`); irreflexive, transitive, trichotomous, congruent for the
+-- same direction; within a half a positive cross (`lt-in-half`); the same direction is cross 0 with
+-- a positive dot (`same-dot`). Assumes nothing.
 use mathlib.Core.Path.{_≡_, refl, sym, _∙_, ap, subst, subst₂}
 use mathlib.Core.Bool.{Bool, true, false, not, cond}
 use mathlib.Core.List.{List, [], _∷_}

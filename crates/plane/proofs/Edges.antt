@@ -1,5 +1,6 @@
--- The edges of a contour: as many as corners, from another corner, the other way round, read backwards from the same corner, turned through the
--- origin, by place; and whether two points are one (`eqPt`), which is whether the edge between them is zero (`isZero-sub`). Assumes nothing.
+-- The edges of a contour: as many as corners, from another corner, the other way round, read
+-- backwards from the same corner, turned through the origin, by place; and whether two points are
+-- one (`eqPt`), which is whether the edge between them is zero (`isZero-sub`). Assumes nothing.
 use mathlib.Core.Path.{_≡_, refl, sym, _∙_, ap, ap₂}
 use mathlib.Core.Bool.{true, false, cond}
 use mathlib.Core.List.{List, [], _∷_, _++_, map, append-assoc, reverse, reverse-cons, reverse-append}

@@ -1,5 +1,7 @@
--- Vectors added up and their directions. In order: equations of vectors; from an equation of sums to one of vectors; vectors on one line (`Line`); the upper half and sums (`up-add`,
--- `add-same`); a test with its fact (`Ahead`); where edges in ascending order lie left and right of a direction r. Assumes nothing.
+-- Vectors added up and their directions. In order: equations of vectors; from an equation of sums
+-- to one of vectors; vectors on one line (`Line`); the upper half and sums (`up-add`, `add-same`);
+-- a test with its fact (`Ahead`); where edges in ascending order lie left and right of a direction
+-- r. Assumes nothing.
 use mathlib.Core.Path.{_≡_, sym, _∙_, ap, subst}
 use mathlib.Core.Bool.{Bool, true, false}
 use mathlib.Core.List.{[], _∷_}
@@ -205,7 +207,8 @@ ahead-same {a} {b} r na nb nr s = elim (ahead-cases b r) [
 pub le-lt : {a b : Pt} → Le a b → ¬ (cross a b ≡ pos 0) → Lt a b
 le-lt {a} {b} h n = elim (angle-cases a b) [ before e l ↦ l | beside e s ↦ absurd (n (s .flat)) | after e l ↦ absurd (clash l h) ]
 
--- ---- edges in ascending order, left (e × r ≥ 0) or right (r × e ≥ 0) of r. Each has one case that is not of one half, by `up-trans`
+-- ---- edges in ascending order, left (e × r ≥ 0) or right (r × e ≥ 0) of r. Each has one case that
+-- is not of one half, by `up-trans`
 
 -- a × b above 0 and b × a at least 0 exclude each other
 not-both : {X : Type 0} (a b : Pt) → pos 0 <ℤ cross a b → pos 0 ≤ℤ cross b a → X

@@ -1,5 +1,5 @@
--- Sizes of differences and cross products of coordinates, as rules for `search` (the ruleset `sizes`), and what the tests `inRange`
--- and `onGrid` tell. Assumes nothing.
+-- Sizes of differences and cross products of coordinates, as rules for `search` (the ruleset
+-- `sizes`), and what the tests `inRange` and `onGrid` tell. Assumes nothing.
 use mathlib.Core.Path.{_≡_, refl}
 use mathlib.Core.Bool.{Bool, true, false, cond}
 use mathlib.Core.List.{List, [], _∷_}

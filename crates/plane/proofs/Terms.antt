@@ -1,5 +1,6 @@
--- The terms of specs/Plane.antt over the ring solver's expressions, for its calls: `crossE` is `cross`, and so on.
--- A use: `ring (pt ∷ pt ∷ []) (λ a b. crossE a b :≡ :neg (crossE b a)) tt`. Assumes nothing.
+-- The terms of specs/Plane.antt over the ring solver's expressions, for its calls: `crossE` is
+-- `cross`, and so on. A use: `ring (pt ∷ pt ∷ []) (λ a b. crossE a b :≡ :neg (crossE b a)) tt`.
+-- Assumes nothing.
 use lib.IntN.{pos}
 use Rattle.integers.specs.Pair.{XY}
 use Rattle.integers.proofs.Ring.{Expr, con, _:+_, _:-_, _:*_, :neg}

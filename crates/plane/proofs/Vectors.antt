@@ -1,6 +1,7 @@
--- Laws of vectors, cross and dot products and doubled areas, each by the ring solver. In order: vectors (`pt-eq`, sums); cross
--- (bilinear, antisymmetric) and dot (bilinear, symmetric); cross and dot together (`cross-rot`, `jacobi-x`, `jacobi-y`);
--- doubled areas (translation, cyclic, exchange, the turn); zero (`isZero-true`, `isZero-false`).
+-- Laws of vectors, cross and dot products and doubled areas, each by the ring solver. In order:
+-- vectors (`pt-eq`, sums); cross (bilinear, antisymmetric) and dot (bilinear, symmetric); cross and
+-- dot together (`cross-rot`, `jacobi-x`, `jacobi-y`); doubled areas (translation, cyclic, exchange,
+-- the turn); zero (`isZero-true`, `isZero-false`).
 -- Not here: the direction order (`Directions`). Assumes nothing.
 use mathlib.Core.Path.{_≡_, refl, sym, _∙_, ap}
 use mathlib.Core.Bool.{Bool, true, false, cond}

@@ -13,7 +13,7 @@ lastOf p (q ∷ l) = lastOf q l
 unfoldable pub edges : List Pt → List Pt
 edges l = map (λ e. e .1 -ᵖ e .0) (neighbours l)
 
--- The doubled area of a contour (the shoelace formula): the sum of the crosses of neighbouring corners.
--- Above 0 where it runs counter-clockwise.
+-- The doubled area of a contour (the shoelace formula): the sum of the crosses of neighbouring
+-- corners. Above 0 where it runs counter-clockwise.
 unfoldable pub contourArea : List Pt → ℤ
 contourArea l = sumℤ (map (λ e. cross (e .0) (e .1)) (neighbours l))

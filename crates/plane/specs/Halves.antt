@@ -1,4 +1,5 @@
--- The upper half of the plane (`Up`), which comes first among directions, and the vectors that have a direction (`Nz`). Assumes nothing.
+-- The upper half of the plane (`Up`), which comes first among directions, and the vectors that have
+-- a direction (`Nz`). Assumes nothing.
 use mathlib.Core.Path.{_≡_}
 use mathlib.Core.Bool.{Bool, true, false}
 use lib.IntN.{pos}

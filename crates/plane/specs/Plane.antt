@@ -59,7 +59,8 @@ eqPt a b = cond (eqZ (a .x) (b .x)) (eqZ (a .y) (b .y)) false
 unfoldable pub isZero : Pt → Bool
 isZero v = cond (eqZ (v .x) (pos 0)) (eqZ (v .y) (pos 0)) false
 
--- "Directions run from angle 0 up to a full turn: y above 0, or y = 0 with x not below 0, comes first": whether v is not among those.
+-- "Directions run from angle 0 up to a full turn: y above 0, or y = 0 with x not below 0, comes
+-- first": whether v is not among those.
 unfoldable pub lower : Pt → Bool
 lower v = cond (ltZ (v .y) (pos 0)) true (cond (ltZ (pos 0) (v .y)) false (ltZ (v .x) (pos 0)))
 

@@ -1,6 +1,7 @@
-// Points, vectors and directions of the plane: what iTriangle takes of i_float, and `angle_cmp` of int/minkowski_sum.rs.
-// Each function equals its definition in specs/Plane.antt on coordinates strictly between -2^30 and 2^30 (an inner layer: the
-// entry points above have refused all others), and says how large its result can be. Leans on integers.
+// Points, vectors and directions of the plane: what iTriangle takes of i_float, and `angle_cmp` of
+// int/minkowski_sum.rs. Each function equals its definition in specs/Plane.antt on coordinates
+// strictly between -2^30 and 2^30 (an inner layer: the entry points above have refused all others),
+// and says how large its result can be. Leans on integers.
 ghost use mathlib.Core.Path.{_≡_};
 ghost use lib.IntN.{_-ℤ_, _*ℤ_};
 ghost use Rattle.plane.specs.Plane.{inRange, onGrid, eqPt, cross, areaTwo, lower, isZero, byCross, angleCmp, _-ᵖ_};

@@ -1,5 +1,6 @@
--- Parts gathered: starts and corners of one part more (`starts-more`, `flatten-more`); one part appended (`part-appended`), none, and some after
--- others (`none-appended`, `then-appended`); room for some of them (`room-first`, `room-rest`). Assumes nothing.
+-- Parts gathered: starts and corners of one part more (`starts-more`, `flatten-more`); one part
+-- appended (`part-appended`), none, and some after others (`none-appended`, `then-appended`); room
+-- for some of them (`room-first`, `room-rest`). Assumes nothing.
 use mathlib.Core.Path.{_≡_, refl, sym, _∙_, ap, subst}
 use mathlib.Core.List.{List, [], _∷_, _++_, flatten, append-assoc, append-nil}
 use Prim.Native.Nat.{ℕ, _+_, _≤_, _<_}

@@ -1,4 +1,5 @@
--- A point on the grid, for the code (`on-grid-of`); points appended (`appended-none`, `appended-one`, `appended-more`). Assumes nothing.
+-- A point on the grid, for the code (`on-grid-of`); points appended (`appended-none`,
+-- `appended-one`, `appended-more`). Assumes nothing.
 use mathlib.Core.Path.{_≡_, refl, sym, _∙_, ap}
 use mathlib.Core.Bool.{true}
 use mathlib.Core.List.{List, [], _∷_, _++_, map, map-append, append-assoc, append-nil}

@@ -1,4 +1,5 @@
--- Parts gathered, read again: where part k begins and ends in the starts, and that its points are the part (`part-placed`). Assumes nothing.
+-- Parts gathered, read again: where part k begins and ends in the starts, and that its points are
+-- the part (`part-placed`). Assumes nothing.
 use mathlib.Core.Path.{_≡_, refl, sym, _∙_, ap}
 use mathlib.Core.List.{List, [], _∷_, _++_, map, flatten, append-nil}
 use Prim.Native.Nat.{ℕ, zero, suc, _+_, _-_, _≤_, _<_}

@@ -1,4 +1,5 @@
--- Work buffers that parts are gathered in, one after another (`Gathered`); parts appended to them (`RoomFor`, `PartsAppended`). Assumes nothing.
+-- Work buffers that parts are gathered in, one after another (`Gathered`); parts appended to them
+-- (`RoomFor`, `PartsAppended`). Assumes nothing.
 use mathlib.Core.Path.{_≡_}
 use mathlib.Core.List.{List, _++_, flatten}
 use Prim.Native.Nat.{ℕ, _+_, _≤_, _<_, _^_}

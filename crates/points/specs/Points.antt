@@ -1,4 +1,5 @@
--- The points of a work buffer, two numbers each, and points appended to the first of them. Assumes nothing.
+-- The points of a work buffer, two numbers each, and points appended to the first of them. Assumes
+-- nothing.
 use mathlib.Core.Path.{_≡_}
 use mathlib.Core.Bool.{true}
 use mathlib.Core.List.{List, [], _∷_, _++_, map}

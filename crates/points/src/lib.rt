@@ -1,6 +1,7 @@
-// Points gathered in work buffers, one part after another: a point read, a point put, a start put. What is gathered is said in specs/: Points (the
-// points of a buffer, and points appended), Gathered (parts with their starts); their laws in proofs/. Joining, splitting and pairs lean on it. It leans
-// on table (starts of parts), plane and integers.
+// Points gathered in work buffers, one part after another: a point read, a point put, a start put.
+// What is gathered is said in specs/: Points (the points of a buffer, and points appended),
+// Gathered (parts with their starts); their laws in proofs/. Joining, splitting and pairs lean on
+// it. It leans on table (starts of parts), plane and integers.
 ghost use mathlib.Core.Path.{_≡_};
 ghost use Prim.Native.Nat.{_<_, _^_};
 ghost use lib.ListN.{length, set};

@@ -1,5 +1,6 @@
--- Lists that a record holds, as the code reads them: laws of specs/Record.antt. In order: what was read (`listed`); how many words can be read, and that
--- those are all that there are (`taken-words`); rows, one more a turn. Assumes nothing.
+-- Lists that a record holds, as the code reads them: laws of specs/Record.antt. In order: what was
+-- read (`listed`); how many words can be read, and that those are all that there are
+-- (`taken-words`); rows, one more a turn. Assumes nothing.
 use mathlib.Core.Path.{_≡_, refl, sym, _∙_, ap}
 use mathlib.Core.List.{List, [], _∷_, _++_, map-append}
 use Prim.Native.Nat.{ℕ, _+_, _-_, _/_, _≤_, _<_, min}

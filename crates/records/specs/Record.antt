@@ -1,5 +1,6 @@
--- What a record of a stored sample holds: words of 32 bits, a head of eight of them first (vectors/README.md has the layouts). In order: a list that was
--- read; lists of words and of signed numbers; rows. Assumes nothing.
+-- What a record of a stored sample holds: words of 32 bits, a head of eight of them first
+-- (vectors/README.md has the layouts). In order: a list that was read; lists of words and of signed
+-- numbers; rows. Assumes nothing.
 use mathlib.Core.Path.{_≡_}
 use mathlib.Core.List.{List, map}
 use Prim.Native.Nat.{ℕ, _+_, _*_, _≤_, _<_}
@@ -9,7 +10,8 @@ use Rattle.integers.specs.Lists.{overlay, upTo}
 use Rattle.table.specs.Stored.{wordsOf, signed}
 use Rattle.mesh.specs.Rows.{rowWidth}
 
--- n counts places at the start of l. The second part follows from the first; both are what lending those places asks, as io's `Counts` has them of bytes
+-- n counts places at the start of l. The second part follows from the first; both are what lending
+-- those places asks, as io's `Counts` has them of bytes
 abbrev pub Counted : {A : Type 0} → ℕ → List A → Type 0
 Counted n l = (n ≤ length l) × (n ≡ length (take n l))
 

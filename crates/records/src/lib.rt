@@ -1,6 +1,8 @@
-// Stored samples, read: records of standard input, one after another, each as long as its first word says, and the words, lists and rows that one
-// holds, as the programs that replay samples take them. What the input holds is its own; a record that is not whole is none. Of any bytes each reader
-// answers what specs/Record.antt says, so that a program which reads by them needs no proof but for its loop. Leans on mesh, table_words and io.
+// Stored samples, read: records of standard input, one after another, each as long as its first
+// word says, and the words, lists and rows that one holds, as the programs that replay samples take
+// them. What the input holds is its own; a record that is not whole is none. Of any bytes each
+// reader answers what specs/Record.antt says, so that a program which reads by them needs no proof
+// but for its loop. Leans on mesh, table_words and io.
 ghost use mathlib.Core.Path.{_≡_};
 ghost use Prim.Native.Nat.{_≤_, _<_, min};
 ghost use lib.ListN.{length};
@@ -17,8 +19,8 @@ const NUMBERS: u32 = mesh::ROW as u32;
 // A proved loop has to end: so many records that no input has more.
 pub const MOST: u64 = 1099511627776;
 
-// Reads the next record onto the front of buf and answers how many bytes it has: 0 at the input's end, where the head says what cannot be, and where
-// the input ends within the record.
+// Reads the next record onto the front of buf and answers how many bytes it has: 0 at the input's
+// end, where the head says what cannot be, and where the input ends within the record.
 pub fn read_record(buf: &mut [u8]) -> usize
     requires { ⌜ 32 ≤ length (now buf) ⌝ }
     ensures { λ r. ⌜ Counted r (now (buf .exit)) ⌝ }
@@ -69,7 +71,8 @@ fn readable(bytes: &[u8], k: usize, n: u32, room: usize) -> usize
     least(least(n as usize, room), all - k)
 }
 
-// Reads n words from word k on, as many as the record has and `to` has places, and answers how many.
+// Reads n words from word k on, as many as the record has and `to` has places, and answers how
+// many.
 pub fn words(bytes: &[u8], k: usize, n: u32, to: &mut [u32]) -> usize
     ensures { λ r. ⌜ Listed (wordsIn (now (bytes .entry)) k (min n (length (now (to .entry))))) (now (to .entry)) r (now (to .exit)) ⌝ }
 {

@@ -1,7 +1,9 @@
-// A refusal printed (document 01: "A refusal prints `refused` and the number"), for programs whose answer is not all text. It has no contract, as nothing can be said of what is written.
-// Leans on text and input.
+// A refusal printed (document 01: "A refusal prints `refused` and the number"), for programs whose
+// answer is not all text. It has no contract, as nothing can be said of what is written. Leans on
+// text and input.
 
-// As many bytes as the longest refusal has: a word of eight, at most twenty digits, and the line's end.
+// As many bytes as the longest refusal has: a word of eight, at most twenty digits, and the line's
+// end.
 const REFUSAL: usize = 29;
 
 // Writes a refusal on standard output.

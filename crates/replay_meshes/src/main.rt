@@ -1,5 +1,6 @@
-// Replays a stored sample of joining, from standard input to its end: asks each case again and prints a line with what was answered and what the
-// lent places hold then. What it prints is its file `stdout`, which the oracle wrote with the answers of the Rust and of the judge
+// Replays a stored sample of joining, from standard input to its end: asks each case again and
+// prints a line with what was answered and what the lent places hold then. What it prints is its
+// file `stdout`, which the oracle wrote with the answers of the Rust and of the judge
 // (vectors/README.md). Leans on convex_join, records, part_lines and lines.
 use mesh::Row;
 use records::HEAD;

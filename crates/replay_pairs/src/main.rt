@@ -1,5 +1,7 @@
-// Replays a stored sample of pair jobs, from standard input to its end: prints each case's number and what the pairs program prints of its job. What it prints is its
-// file `stdout`, which the oracle wrote with the contours of the Rust and the refusals of the judge (vectors/README.md). Leans on records, lines and pairs_print.
+// Replays a stored sample of pair jobs, from standard input to its end: prints each case's number
+// and what the pairs program prints of its job. What it prints is its file `stdout`, which the
+// oracle wrote with the contours of the Rust and the refusals of the judge (vectors/README.md).
+// Leans on records, lines and pairs_print.
 use records::HEAD;
 
 // A head, and one byte more than the longest good job has.

@@ -1,5 +1,6 @@
-// Replays a stored sample of plane's functions, from standard input to its end: asks each case again and prints a line with what was answered. What
-// it prints is its file `stdout`, which the oracle wrote with the answers of the Rust and of the judge (vectors/README.md). Leans on
+// Replays a stored sample of plane's functions, from standard input to its end: asks each case
+// again and prints a line with what was answered. What it prints is its file `stdout`, which the
+// oracle wrote with the answers of the Rust and of the judge (vectors/README.md). Leans on
 // boundary_plane, records and lines.
 use boundary_plane::Told;
 

@@ -1,10 +1,12 @@
-// Replays a stored sample of splitting, from standard input to its end: asks each case again and prints a line with what was answered and what the
-// lent places hold then. What it prints is its file `stdout`, which the oracle wrote with the answers of the Rust and of the judge
+// Replays a stored sample of splitting, from standard input to its end: asks each case again and
+// prints a line with what was answered and what the lent places hold then. What it prints is its
+// file `stdout`, which the oracle wrote with the answers of the Rust and of the judge
 // (vectors/README.md). Leans on boundary_split, records, part_lines and lines.
 use mesh::Row;
 use records::HEAD;
 
-// As many triangles, lent starts and lent numbers as a record may have: one triangle more than a mesh, for fault 1.
+// As many triangles, lent starts and lent numbers as a record may have: one triangle more than a
+// mesh, for fault 1.
 const TRIANGLES: usize = mesh::MAX_TRIANGLES + 1;
 
 const STARTS: usize = 64;

@@ -1,5 +1,6 @@
-// Replays a stored sample of the calls on part tables, from standard input to its end: asks each case again and prints a line with what was answered
-// and what the lent places hold then. What it prints is its file `stdout`, which the oracle wrote with the judge's answers (vectors/README.md).
+// Replays a stored sample of the calls on part tables, from standard input to its end: asks each
+// case again and prints a line with what was answered and what the lent places hold then. What it
+// prints is its file `stdout`, which the oracle wrote with the judge's answers (vectors/README.md).
 // Leans on table_read, table_write, table_shown, records, part_lines and lines.
 use records::HEAD;
 
@@ -71,7 +72,8 @@ fn print_shown<'a>(
     io::write_all(1, b"\n");
 }
 
-// A record of one table: its starts and numbers, or the places lent for them, and then the bytes, the ones to read or the ones lent.
+// A record of one table: its starts and numbers, or the places lent for them, and then the bytes,
+// the ones to read or the ones lent.
 fn print_one(record: &mut [u8]) {
     let mut starts = [0u32; STARTS];
     let mut corners = [0i32; NUMBERS];

@@ -1,4 +1,5 @@
--- Splitting keeps doubled areas: of one contour (`split-area`), and so of an accepted mesh, for any limit and split (`split-areas`). Assumes nothing.
+-- Splitting keeps doubled areas: of one contour (`split-area`), and so of an accepted mesh, for any
+-- limit and split (`split-areas`). Assumes nothing.
 use mathlib.Core.Path.{_≡_, refl, sym, _∙_, ap}
 use mathlib.Core.Bool.{Bool, true, false, cond}
 use mathlib.Core.List.{List, [], _∷_, map, flatten}

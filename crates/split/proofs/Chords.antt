@@ -1,5 +1,5 @@
--- A contour cut along a chord: the doubled areas of the two sides add up to its own (`chord`); so those of the parts of ear clipping and of fan do
--- (`ear-areas`, `fan-areas`). Assumes nothing.
+-- A contour cut along a chord: the doubled areas of the two sides add up to its own (`chord`); so
+-- those of the parts of ear clipping and of fan do (`ear-areas`, `fan-areas`). Assumes nothing.
 use mathlib.Core.Path.{_≡_, refl, sym, _∙_, ap, ap₂}
 use mathlib.Core.List.{List, [], _∷_, _++_, map, map-append, append-assoc}
 use Prim.Native.Nat.{ℕ, zero, suc, _+_, _-_, _/_, _≤_, _<_}

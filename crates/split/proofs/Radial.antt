@@ -1,5 +1,5 @@
--- Parts about a centre: a part's doubled area is that of its radial triangles (`radial`), so the parts of the groups have the contour's
--- (`centroid-areas`). Assumes nothing.
+-- Parts about a centre: a part's doubled area is that of its radial triangles (`radial`), so the
+-- parts of the groups have the contour's (`centroid-areas`). Assumes nothing.
 use mathlib.Core.Path.{_≡_, refl, sym, _∙_, ap, ap₂}
 use mathlib.Core.Bool.{Bool, true, false, cond}
 use mathlib.Core.List.{List, [], _∷_, _++_, map, map-append}

@@ -1,5 +1,6 @@
--- The parts of a group of edges about the centre: a part takes at least one edge and no more than are left (`edgesTaken-le`), so s parts are
--- enough for s edges (`groupParts-enough`). Assumes nothing.
+-- The parts of a group of edges about the centre: a part takes at least one edge and no more than
+-- are left (`edgesTaken-le`), so s parts are enough for s edges (`groupParts-enough`). Assumes
+-- nothing.
 use mathlib.Core.Path.{_≡_, refl, sym, _∙_, ap}
 use mathlib.Core.Bool.{Bool, true, false, cond}
 use mathlib.Core.List.{List, [], _∷_}

@@ -1,5 +1,5 @@
--- n things in k groups: k groups (`length-shares`), n in all (`sum-shares`), and the number of parts that the shares give (`length-clipped`,
--- `length-fanned`). Assumes nothing.
+-- n things in k groups: k groups (`length-shares`), n in all (`sum-shares`), and the number of
+-- parts that the shares give (`length-clipped`, `length-fanned`). Assumes nothing.
 use mathlib.Core.Path.{_≡_, refl, sym, _∙_, ap}
 use mathlib.Core.Bool.{Bool, true, false, cond}
 use mathlib.Core.List.{List, [], _∷_, _++_}

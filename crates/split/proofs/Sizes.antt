@@ -1,7 +1,10 @@
--- How many: each share of n things in ceil(n / b) groups is at least 1 and at most b (`shares-bound`), so each part of a contour that is split has from 3
--- corners to the limit (`sizes` of `Few`); ear clipping and fan make just ceil((n−2)/(m−2)) parts (`split-count`); a contour of n corners gives at
--- most 2 (n − 2) parts and 6 (n − 2) corners (`split-few`), so all parts of a mesh are at most twice its triangles, with six corners for each
--- (`split-parts-few`), a part table within the limits (`split-table`); and a limit that no part is past leaves each whole (`split-whole`). Assumes an accepted mesh where it says so.
+-- How many: each share of n things in ceil(n / b) groups is at least 1 and at most b
+-- (`shares-bound`), so each part of a contour that is split has from 3 corners to the limit
+-- (`sizes` of `Few`); ear clipping and fan make just ceil((n−2)/(m−2)) parts (`split-count`); a
+-- contour of n corners gives at most 2 (n − 2) parts and 6 (n − 2) corners (`split-few`), so all
+-- parts of a mesh are at most twice its triangles, with six corners for each (`split-parts-few`), a
+-- part table within the limits (`split-table`); and a limit that no part is past leaves each whole
+-- (`split-whole`). Assumes an accepted mesh where it says so.
 use mathlib.Core.Path.{_≡_, refl, sym, _∙_, ap}
 use mathlib.Core.Bool.{Bool, true, false, cond}
 use mathlib.Core.List.{List, [], _∷_, _++_, map, flatten}
@@ -289,7 +292,8 @@ unfolding flatten splitContour
 whole-all how m [] h = refl
 whole-all how m (l ∷ ps) h = rw (le-leb (length l) m (h .0)) (ap (λ r. l ∷ r) (whole-all how m ps (h .1)))
 
--- a part has at most two corners more than the mesh has triangles, so with such a limit each is left whole
+-- a part has at most two corners more than the mesh has triangles, so with such a limit each is
+-- left whole
 pub split-whole : (how : ConvexSplitStrategy) (m : ℕ) (mesh : Mesh) → Accepted mesh → length mesh + 2 ≤ raised m → splitParts how m mesh ≡ parts mesh
 unfolding splitParts
 split-whole how m mesh ok h = whole-all how (raised m) (parts mesh) (all-map (parts mesh) (λ l k. omega (arith, k)) (parts-within mesh ok))

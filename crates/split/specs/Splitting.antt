@@ -1,4 +1,5 @@
--- Splitting (document 01, "Splitting past a limit m"): ear clipping, fan, centroid. Assumes nothing.
+-- Splitting (document 01, "Splitting past a limit m"): ear clipping, fan, centroid. Assumes
+-- nothing.
 use mathlib.Core.Path.{_≡_}
 use mathlib.Core.Bool.{Bool, true, false, cond}
 use mathlib.Core.List.{List, [], _∷_, _++_, map, flatten}
@@ -24,7 +25,8 @@ use Rattle.split.specs.declared.ConvexSplitStrategy.the-variants.{EarCli
 abbrev pub ceilDiv : ℕ → ℕ → ℕ
 ceilDiv a b = (a + (b - 1)) / b
 
--- n things in k groups, "the first ones one .. larger where the division leaves a rest": group i and those after it, j in all
+-- n things in k groups, "the first ones one .. larger where the division leaves a rest": group i
+-- and those after it, j in all
 unfoldable pub sharesFrom : ℕ → ℕ → ℕ → ℕ → List ℕ
 sharesFrom n k i zero = []
 sharesFrom n k i (suc j) = (n / k + cond (ltb i (n % k)) 1 0) ∷ sharesFrom n k (suc i) j
@@ -36,9 +38,11 @@ shares n k = sharesFrom n k 0 k
 abbrev pub triangleShares : ℕ → ℕ → List ℕ
 triangleShares n m = shares (n - 2) (ceilDiv (n - 2) (m - 2))
 
--- ---- ear clipping: "each part starts at the last corner of the one before, and the clipped corners are passed over"
+-- ---- ear clipping: "each part starts at the last corner of the one before, and the clipped
+-- corners are passed over"
 
--- l are the corners not yet clipped, from where the next part starts; a part of s triangles has s + 2 corners, and the s between its ends are clipped
+-- l are the corners not yet clipped, from where the next part starts; a part of s triangles has s +
+-- 2 corners, and the s between its ends are clipped
 unfoldable pub clipped : List ℕ → List Pt → List (List Pt)
 clipped [] l = []
 clipped (s ∷ ss) l = take (s + 2) l ∷ clipped ss (drop (s + 1) l ++ take 1 l)
@@ -93,20 +97,22 @@ centreServes g l = cond (ltZ (pos 3074457345618258602) (contourArea l)) false (l
 
 -- ---- centroid
 
--- how many edges a part takes past its first, of at most r: "a group ends early when the centre, its first corner and the next end make no
--- positive turn"; l are the ends that come next
+-- how many edges a part takes past its first, of at most r: "a group ends early when the centre,
+-- its first corner and the next end make no positive turn"; l are the ends that come next
 unfoldable pub taking : Pt → Pt → ℕ → List Pt → ℕ
 taking g a zero l = 0
 taking g a (suc r) [] = 0
 taking g a (suc r) (c ∷ l) = cond (ltZ (pos 0) (areaTwo g a c)) (suc (taking g a r l)) 0
 
--- how many of a group's s edges its next part takes. l are the corners from where the part starts: its first edge, from the first corner of l to the second,
--- is always taken; each one after it, up to s in all, is taken while g, the first corner and that edge's end make a positive turn, and the part ends at the
--- first that does not
+-- how many of a group's s edges its next part takes. l are the corners from where the part starts:
+-- its first edge, from the first corner of l to the second, is always taken; each one after it, up
+-- to s in all, is taken while g, the first corner and that edge's end make a positive turn, and the
+-- part ends at the first that does not
 abbrev pub edgesTaken : Pt → ℕ → List Pt → ℕ
 edgesTaken g s l = suc (taking g (getD l 0 O) (s - 1) (drop 2 l))
 
--- the parts of a group of s edges, which start at the corners l; n is how many parts it has at the most
+-- the parts of a group of s edges, which start at the corners l; n is how many parts it has at the
+-- most
 unfoldable pub groupParts : ℕ → Pt → ℕ → List Pt → List (List Pt)
 groupParts zero g s l = []
 groupParts (suc n) g s l = cond (eqb s 0) [] ((g ∷ take (edgesTaken g s l + 1) l) ∷ groupParts n g (s - edgesTaken g s l) (drop (edgesTaken g s l) l))
@@ -116,7 +122,8 @@ unfoldable pub sectors : List ℕ → Pt → List Pt → List (List Pt)
 sectors [] g l = []
 sectors (s ∷ ss) g l = groupParts s g s l ++ sectors ss g (drop s l)
 
--- "There are ceil(n/(m−2)) target groups of edges, balanced as above"; the first corner stands once more at the end
+-- "There are ceil(n/(m−2)) target groups of edges, balanced as above"; the first corner stands once
+-- more at the end
 abbrev pub centroidParts : ℕ → Pt → Pt → List Pt → List (List Pt)
 centroidParts m g c l = sectors (shares (length l) (ceilDiv (length l) (m - 2))) g (l ++ (c ∷ []))
 

@@ -1,4 +1,5 @@
-// Splitting parts past a corner limit: advanced/convex.rs, second half, and geom/centroid.rs. The definitions are in specs/. Leans on convex.
+// Splitting parts past a corner limit: advanced/convex.rs, second half, and geom/centroid.rs. The
+// definitions are in specs/. Leans on convex.
 ghost use mathlib.Core.Path.{_≡_};
 ghost use Rattle.split.specs.Splitting.{raised};
 

@@ -1,5 +1,6 @@
--- The sums over a contour seen from its first corner: the edges at that corner add nothing, so the wedges are enough (`sum-fan`); the sums so far (`Sofar`) at
--- the start, after a turn, at the end; that there is room for one wedge more (`sofar-room`). Assumes nothing.
+-- The sums over a contour seen from its first corner: the edges at that corner add nothing, so the
+-- wedges are enough (`sum-fan`); the sums so far (`Sofar`) at the start, after a turn, at the end;
+-- that there is room for one wedge more (`sofar-room`). Assumes nothing.
 use mathlib.Core.Path.{_≡_, refl, sym, _∙_, ap, ap₂, subst}
 use mathlib.Core.Bool.{true, false}
 use mathlib.Core.List.{List, [], _∷_, _++_, map, map-append}

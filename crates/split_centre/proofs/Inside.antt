@@ -1,5 +1,5 @@
--- To the left of each edge, edge by edge: at the start all are to be tested (`inside-start`), one in turn (`inside-turn`), the closing one last
--- (`inside-end`). Assumes nothing.
+-- To the left of each edge, edge by edge: at the start all are to be tested (`inside-start`), one
+-- in turn (`inside-turn`), the closing one last (`inside-end`). Assumes nothing.
 use mathlib.Core.Path.{_≡_, refl, sym, _∙_, ap}
 use mathlib.Core.Bool.{Bool, true, false, cond}
 use mathlib.Core.List.{List, [], _∷_, _++_}

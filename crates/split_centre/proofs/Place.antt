@@ -1,4 +1,5 @@
--- What the division and the move to the centre ask of a contour's sums (`Placed`), by coordinate. Assumes nothing.
+-- What the division and the move to the centre ask of a contour's sums (`Placed`), by coordinate.
+-- Assumes nothing.
 use mathlib.Core.Path.{_≡_, refl, sym, subst}
 use mathlib.Core.Bool.{true}
 use mathlib.Core.List.{List, [], _∷_}

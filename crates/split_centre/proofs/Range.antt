@@ -1,6 +1,8 @@
--- Where the centre lies. In order: the moment of edges between bounds is between twice the bounds by the doubled area (`moment-least`, `moment-most`), which
--- is at least 0 (`area-least`); seen from another point the doubled area is the same (`area-seen`); how large a moment is (`moment-size`); where the
--- first corner's offset to the centre lies (`offset-between`); the centre is within any bounds of the corners (`centre-least`, `centre-most`, by coordinate
+-- Where the centre lies. In order: the moment of edges between bounds is between twice the bounds
+-- by the doubled area (`moment-least`, `moment-most`), which is at least 0 (`area-least`); seen
+-- from another point the doubled area is the same (`area-seen`); how large a moment is
+-- (`moment-size`); where the first corner's offset to the centre lies (`offset-between`); the
+-- centre is within any bounds of the corners (`centre-least`, `centre-most`, by coordinate
 -- `centre-within`) and on the grid (`centre-on-grid`). Assumes nothing.
 use mathlib.Core.Path.{_≡_, refl}
 use mathlib.Core.Bool.{true}
@@ -154,7 +156,8 @@ less-both a b s h = omega (zarith, sub-parts a s, sub-parts b s)
 
 -- ---- a coordinate of the centre
 
--- f is a coordinate, c the first corner, A the doubled area and M the moment of the edges seen from it
+-- f is a coordinate, c the first corner, A the doubled area and M the moment of the edges seen from
+-- it
 module _ (f : Pt → ℤ) (minus : (a b : Pt) → f (a -ᵖ b) ≡ f a -ℤ f b) (small : (p : Pt) → onGrid p ≡ true → Coordinate (f p)) (c : Pt) (l : List Pt) (h : Summable (c ∷ l)) where
   abbrev seen : List (Pt × Pt)
   seen = neighbours (seenFrom c (c ∷ l))

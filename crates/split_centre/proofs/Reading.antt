@@ -1,4 +1,5 @@
--- A lent contour read: its corners are on the grid (`grid-of`), and the corner at an index is the list's (`corner-read`, `vector-read`). Assumes nothing.
+-- A lent contour read: its corners are on the grid (`grid-of`), and the corner at an index is the
+-- list's (`corner-read`, `vector-read`). Assumes nothing.
 use mathlib.Core.Path.{_≡_, refl, sym, _∙_, ap₂}
 use mathlib.Core.Bool.{true}
 use mathlib.Core.List.{List, [], _∷_, map}

@@ -1,5 +1,6 @@
--- Rounding to nearest: of naturals (`nearest-most`, `nearest-least`), of the negative (`rounded-neg`), of a magnitude with a sign (`rounded-signed`), and that it stays between whole numbers that the
--- quotient lies between (`rounded-most`, `rounded-least`). Assumes nothing.
+-- Rounding to nearest: of naturals (`nearest-most`, `nearest-least`), of the negative
+-- (`rounded-neg`), of a magnitude with a sign (`rounded-signed`), and that it stays between whole
+-- numbers that the quotient lies between (`rounded-most`, `rounded-least`). Assumes nothing.
 use mathlib.Core.Path.{_≡_, refl, sym, _∙_, ap, subst}
 use mathlib.Core.Bool.{Bool, true, false}
 use Prim.Native.Nat.{ℕ, zero, suc, _+_, _*_, _≤_, _<_}

@@ -1,4 +1,5 @@
--- A contour's centre as the code answers it (document 01, "Splitting past a limit m": centroid), and what its sums ask of a contour. Assumes nothing.
+-- A contour's centre as the code answers it (document 01, "Splitting past a limit m": centroid),
+-- and what its sums ask of a contour. Assumes nothing.
 use mathlib.Core.Path.{_≡_}
 use mathlib.Core.Bool.{true, cond}
 use mathlib.Core.List.{List}
@@ -21,7 +22,8 @@ use Rattle.split_centre.specs.declared.Centre.the-variants.{At, Unserved
 
 -- ---- what the sums ask
 
--- Corners on the grid, as many as a part can have, no edge that runs clockwise seen from the first corner, and a doubled area above 0 that fits 64 bits.
+-- Corners on the grid, as many as a part can have, no edge that runs clockwise seen from the first
+-- corner, and a doubled area above 0 that fits 64 bits.
 pub record Summable (l : List Pt) : Type 0 where
   pub grid : All (λ p. onGrid p ≡ true) l
   pub size : length l ≤ maxContour

@@ -1,6 +1,8 @@
-// The area centroid of a contour, rounded to the grid, and whether it serves as the centre of a split: geom/centroid.rs and its use in
-// advanced/convex.rs. `centre_of` answers what `centreFound` says of a contour whose sums fit (`Summable`, specs/Centre.antt); that the divisions are in
-// range and the centre is on the grid is proved, where the Rust tests it. Leans on wide_divide, wide, points (a corner of a buffer) and plane.
+// The area centroid of a contour, rounded to the grid, and whether it serves as the centre of a
+// split: geom/centroid.rs and its use in advanced/convex.rs. `centre_of` answers what `centreFound`
+// says of a contour whose sums fit (`Summable`, specs/Centre.antt); that the divisions are in range
+// and the centre is on the grid is proved, where the Rust tests it. Leans on wide_divide, wide,
+// points (a corner of a buffer) and plane.
 ghost use mathlib.Core.Path.{_≡_};
 ghost use mathlib.Core.List.{map};
 ghost use mathlib.Core.Bool.{true};
@@ -26,14 +28,16 @@ pub enum Centre {
     Unserved,
 }
 
-// Sums over a contour's edges a b, seen from its first corner: of a × b, and of (a + b) (a × b) by coordinate.
+// Sums over a contour's edges a b, seen from its first corner: of a × b, and of (a + b) (a × b) by
+// coordinate.
 pub struct Sums {
     pub area: i64,
     pub x: SignedProduct,
     pub y: SignedProduct,
 }
 
-// The greatest doubled area that three times fits 63 bits (document 01: "or the doubled area exceeds 3,074,457,345,618,258,602").
+// The greatest doubled area that three times fits 63 bits (document 01: "or the doubled area
+// exceeds 3,074,457,345,618,258,602").
 pub const MAX_CENTROID_AREA: i64 = 3074457345618258602;
 
 // area + cross.
@@ -67,7 +71,8 @@ fn add_edge(s: Sums, a: IntVector, b: IntVector) -> Sums
     }
 }
 
-// The sums of a contour. The edges at the first corner add nothing, so its wedges alone are gone through.
+// The sums of a contour. The edges at the first corner add nothing, so its wedges alone are gone
+// through.
 fn sums_of(contour: &[[i32; 2]]) -> Sums
     requires { ⌜ Summable (map cornerOf (now contour)) × (3 ≤ length (now contour)) ⌝ }
     ensures { λ r. ⌜ Summed (map cornerOf (now (contour .entry))) r ⌝ }
@@ -122,7 +127,8 @@ fn tripled(area: i64) -> u64
     3 * (area as u64)
 }
 
-// The area centroid, to nearest from the first corner, where three times the doubled area fits 63 bits.
+// The area centroid, to nearest from the first corner, where three times the doubled area fits 63
+// bits.
 pub fn polygon_centroid(contour: &[[i32; 2]]) -> Centre
     requires { ⌜ Summable (map cornerOf (now contour)) × (3 ≤ length (now contour)) ⌝ }
     ensures { λ r. ⌜ r ≡ centroidFound (map cornerOf (now (contour .entry))) ⌝ }

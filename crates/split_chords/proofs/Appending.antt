@@ -1,5 +1,7 @@
--- A point copied after others (`row-appended`), a run of corners one longer (`length-run`, `run-turn`); a part ended (`room-point`, `room-run`, `room-end`, `part-ended`); parts
--- appended in turn (`Partway`: `partway-start`, `partway-room`, `partway-turn`, `partway-end`). Assumes nothing.
+-- A point copied after others (`row-appended`), a run of corners one longer (`length-run`,
+-- `run-turn`); a part ended (`room-point`, `room-run`, `room-end`, `part-ended`); parts appended in
+-- turn (`Partway`: `partway-start`, `partway-room`, `partway-turn`, `partway-end`). Assumes
+-- nothing.
 use mathlib.Core.Path.{_≡_, refl, sym, _∙_, ap, subst}
 use mathlib.Core.List.{List, [], _∷_, _++_, map, map-append, flatten, append-assoc, append-nil}
 use Prim.Native.Nat.{ℕ, _+_, _≤_, _<_, _^_}

@@ -1,4 +1,5 @@
--- The parts of a fan in turn (`Fanning`: `fanning-start`, `fanning-room`, `fanning-turn`, `fanning-end`). Assumes nothing.
+-- The parts of a fan in turn (`Fanning`: `fanning-start`, `fanning-room`, `fanning-turn`,
+-- `fanning-end`). Assumes nothing.
 use mathlib.Core.Path.{_≡_, sym, _∙_, ap}
 use mathlib.Core.Bool.{cond}
 use mathlib.Core.List.{List, [], _∷_, _++_}

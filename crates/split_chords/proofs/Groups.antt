@@ -1,4 +1,6 @@
--- The sizes of n things in k groups, one group a turn (`shares-next`, `sum-next`, `shares-none`, `shares-all`), their size (`share-small`), and how many there are (`groups-some`). Assumes nothing.
+-- The sizes of n things in k groups, one group a turn (`shares-next`, `sum-next`, `shares-none`,
+-- `shares-all`), their size (`share-small`), and how many there are (`groups-some`). Assumes
+-- nothing.
 use mathlib.Core.Path.{_≡_, sym, _∙_, ap}
 use mathlib.Core.Bool.{cond}
 use mathlib.Core.List.{[], _∷_}

@@ -1,6 +1,7 @@
-// A contour past the limit split by chords (advanced/convex.rs, `append_fan_parts`): the parts of `fanParts` of split/specs/Splitting.antt, appended to
-// those gathered. Here too is what each split uses: runs of corners appended, a part ended, the sizes of balanced groups. Leans on points
-// and split's definitions.
+// A contour past the limit split by chords (advanced/convex.rs, `append_fan_parts`): the parts of
+// `fanParts` of split/specs/Splitting.antt, appended to those gathered. Here too is what each split
+// uses: runs of corners appended, a part ended, the sizes of balanced groups. Leans on points and
+// split's definitions.
 ghost use mathlib.Core.Path.{_≡_};
 ghost use mathlib.Core.Bool.{cond};
 ghost use mathlib.Core.List.{_∷_, []};

@@ -1,5 +1,6 @@
--- One contour's parts: the contour whole is one run of its corners (`whole-run`); which split its length and the strategy give (`split-whole`, `split-past`);
--- about its centre where that serves, else its fan (`centre-at`, `centre-unserved`). Assumes nothing.
+-- One contour's parts: the contour whole is one run of its corners (`whole-run`); which split its
+-- length and the strategy give (`split-whole`, `split-past`); about its centre where that serves,
+-- else its fan (`centre-at`, `centre-unserved`). Assumes nothing.
 use mathlib.Core.Path.{_≡_, refl, sym, _∙_, ap, subst}
 use mathlib.Core.Bool.{Bool, true, false, cond}
 use mathlib.Core.List.{List, [], _∷_}

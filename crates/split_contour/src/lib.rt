@@ -1,5 +1,7 @@
-// One contour split, or left whole where it is within the limit (advanced/convex.rs, the choice in `convex_polygons`, and `append_centroid_parts`): the parts of
-// `splitContour` of split/specs/Splitting.antt, appended to those gathered. Leans on split_chords, split_ears, split_sectors, split_centre and points.
+// One contour split, or left whole where it is within the limit (advanced/convex.rs, the choice in
+// `convex_polygons`, and `append_centroid_parts`): the parts of `splitContour` of
+// split/specs/Splitting.antt, appended to those gathered. Leans on split_chords, split_ears,
+// split_sectors, split_centre and points.
 ghost use mathlib.Core.List.{_∷_, []};
 ghost use Prim.Native.Nat.{_<_, _≤_};
 ghost use lib.ListN.{length};
@@ -11,7 +13,8 @@ use points::Tally;
 use split::ConvexSplitStrategy;
 use split_centre::Centre;
 
-// The parts of a contour about its centre, or its fan where the centre does not serve, are appended.
+// The parts of a contour about its centre, or its fan where the centre does not serve, are
+// appended.
 fn append_centroid_parts(
     contour: &[[i32; 2]],
     limit: usize,

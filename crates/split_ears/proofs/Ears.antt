@@ -1,4 +1,5 @@
--- The ears in turn (`Clipping`: `clipping-start`, `clipping-room`, `clipping-turn`, `clipping-end`). Assumes nothing.
+-- The ears in turn (`Clipping`: `clipping-start`, `clipping-room`, `clipping-turn`,
+-- `clipping-end`). Assumes nothing.
 use mathlib.Core.Path.{_≡_, sym, _∙_, ap, ap₂}
 use mathlib.Core.Bool.{cond}
 use mathlib.Core.List.{List, [], _∷_, _++_, map, map-append}

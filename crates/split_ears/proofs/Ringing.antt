@@ -1,5 +1,7 @@
--- The ring as it is filled (`filled-turn`, `filled-end`), steps round it, and one set (`passed-over`, `length-passed`); corners appended round it (`after-none`, `after-turn`); the list of corners not yet clipped that it holds
--- (`Ringed`: `ringed-start`, `ringed-ear`, `ringed-turn`). Assumes nothing.
+-- The ring as it is filled (`filled-turn`, `filled-end`), steps round it, and one set
+-- (`passed-over`, `length-passed`); corners appended round it (`after-none`, `after-turn`); the
+-- list of corners not yet clipped that it holds (`Ringed`: `ringed-start`, `ringed-ear`,
+-- `ringed-turn`). Assumes nothing.
 use mathlib.Core.Path.{_≡_, refl, sym, _∙_, ap, subst}
 use mathlib.Core.Bool.{cond}
 use mathlib.Core.List.{List, [], _∷_, _++_, map, map-append}

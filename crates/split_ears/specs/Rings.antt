@@ -1,5 +1,5 @@
--- A ring of next corners: entry i is the corner after corner i, of those not yet clipped (advanced/convex.rs, "Bypass clipped vertices in a ring").
--- Assumes nothing.
+-- A ring of next corners: entry i is the corner after corner i, of those not yet clipped
+-- (advanced/convex.rs, "Bypass clipped vertices in a ring"). Assumes nothing.
 use mathlib.Core.Path.{_≡_}
 use mathlib.Core.List.{List, map}
 use Prim.Native.Nat.{ℕ, zero, suc, _+_, _-_, _≤_, _<_}

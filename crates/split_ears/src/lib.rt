@@ -1,6 +1,7 @@
-// A contour past the limit split by ear clipping (advanced/convex.rs, `append_ear_clipping_parts`): the parts of `earParts` of
-// split/specs/Splitting.antt, appended to those gathered. The corners not yet clipped stand in a ring (specs/Rings.antt), which only `next_of` and
-// `set_next` touch. Leans on split_chords and points.
+// A contour past the limit split by ear clipping (advanced/convex.rs, `append_ear_clipping_parts`):
+// the parts of `earParts` of split/specs/Splitting.antt, appended to those gathered. The corners
+// not yet clipped stand in a ring (specs/Rings.antt), which only `next_of` and `set_next` touch.
+// Leans on split_chords and points.
 ghost use mathlib.Core.Path.{_≡_};
 ghost use mathlib.Core.List.{_∷_, []};
 ghost use Prim.Native.Nat.{_+_, _<_, _≤_};
@@ -43,7 +44,8 @@ fn fill_ring(ring: &mut [u32], n: usize)
     set_next(ring, last, 0);
 }
 
-// The n corners after corner start, round the ring, are put after the first count points; answers the last of them.
+// The n corners after corner start, round the ring, are put after the first count points; answers
+// the last of them.
 fn append_after(
     contour: &[[i32; 2]],
     ring: &[u32],

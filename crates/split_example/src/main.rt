@@ -1,6 +1,7 @@
-// The example of splitting in docs/USE.md: document 01's square past a limit of three corners by each split; the unit square by centroid, whose rounded
-// centre is a corner, so that the fan is used; and a refusal, for want of a place for the last start. What it prints is its file `stdout`. Leans
-// on split_parts and part_lines.
+// The example of splitting in docs/USE.md: document 01's square past a limit of three corners by
+// each split; the unit square by centroid, whose rounded centre is a corner, so that the fan is
+// used; and a refusal, for want of a place for the last start. What it prints is its file `stdout`.
+// Leans on split_parts and part_lines.
 use mesh::Row;
 use split::ConvexSplitStrategy;
 

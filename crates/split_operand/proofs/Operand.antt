@@ -1,5 +1,6 @@
--- The split parts of an accepted mesh are an operand without faults of its own (`split-is-operand`), and two such operands are refused for their result's
--- bounds or for want of parts alone (`split-pairs`). Assumes nothing.
+-- The split parts of an accepted mesh are an operand without faults of its own
+-- (`split-is-operand`), and two such operands are refused for their result's bounds or for want of
+-- parts alone (`split-pairs`). Assumes nothing.
 use mathlib.Core.Path.{_≡_, refl, sym, _∙_, ap, subst}
 use mathlib.Core.Bool.{Bool, true, false}
 use mathlib.Core.List.{List, [], _∷_, _++_, flatten}

@@ -1,4 +1,5 @@
--- No running total of a polygon's winding leaves 64 bits where its doubled area fits (`winding-stays`): no term is below 0. Assumes nothing.
+-- No running total of a polygon's winding leaves 64 bits where its doubled area fits
+-- (`winding-stays`): no term is below 0. Assumes nothing.
 use mathlib.Core.Path.{_≡_, refl, sym, subst}
 use mathlib.Core.Bool.{Bool, true, false}
 use mathlib.Core.List.{List, [], _∷_, _++_}

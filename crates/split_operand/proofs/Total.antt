@@ -1,4 +1,5 @@
--- The listing's total of the split parts is the mesh's doubled area (`listing-total`): each part's is above 0, so its size is itself. Assumes nothing.
+-- The listing's total of the split parts is the mesh's doubled area (`listing-total`): each part's
+-- is above 0, so its size is itself. Assumes nothing.
 use mathlib.Core.Path.{_≡_, refl, _∙_}
 use mathlib.Core.List.{List, [], _∷_, map}
 use Prim.Native.Nat.{ℕ, _+_, _^_, _<_}

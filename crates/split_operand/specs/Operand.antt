@@ -30,7 +30,8 @@ SplitIsOperand =
     (how : ConvexSplitStrategy) (m : ℕ) (mesh : Mesh) (b : IntRect) → firstFault (meshKinds mesh) ≡ 0 → offRange (boundsList b) ≡ false → boundsBroken b (flatten (splitParts how m mesh)) ≡ false →
     Unfaulted (splitOperand how m mesh b)
 
--- so of two such operands only the result's bounds (10) and an operand without parts (20) are refused
+-- so of two such operands only the result's bounds (10) and an operand without parts (20) are
+-- refused
 abbrev pub SplitPairs : Type 0
 SplitPairs =
     (reflected : Bool) (l r : Operand) → Unfaulted l → Unfaulted r →

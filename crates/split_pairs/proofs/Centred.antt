@@ -1,5 +1,6 @@
--- A polygon cut about a centre to the left of each of its edges falls into polygons (`centroid-polygons`). In order: the way round the contour, seen from
--- the centre (`Around`); the corners of a part ascend about the centre (`sweep`); one part; the groups. Assumes nothing.
+-- A polygon cut about a centre to the left of each of its edges falls into polygons
+-- (`centroid-polygons`). In order: the way round the contour, seen from the centre (`Around`); the
+-- corners of a part ascend about the centre (`sweep`); one part; the groups. Assumes nothing.
 use mathlib.Core.Path.{_≡_, sym, subst}
 use mathlib.Core.Bool.{true}
 use mathlib.Core.List.{List, [], _∷_, _++_, append-assoc}

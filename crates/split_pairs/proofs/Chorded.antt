@@ -1,4 +1,5 @@
--- Ear clipping and fan cut a polygon into polygons (`ear-polygons`, `fan-polygons`). In order: the shares; ear clipping; fan. Assumes nothing.
+-- Ear clipping and fan cut a polygon into polygons (`ear-polygons`, `fan-polygons`). In order: the
+-- shares; ear clipping; fan. Assumes nothing.
 use mathlib.Core.Path.{_≡_, sym, subst}
 use mathlib.Core.List.{List, [], _∷_, _++_}
 use Prim.Native.Nat.{ℕ, suc, _+_, _-_, _≤_, _<_}
@@ -17,7 +18,8 @@ use Rattle.split.proofs.Sizes.{ceil-pos, shares-bound}
 
 -- ---- the shares
 
--- n corners, three or more, for a limit of at least 3: a triangle or more in each share, n − 2 in all
+-- n corners, three or more, for a limit of at least 3: a triangle or more in each share, n − 2 in
+-- all
 pub triangle-shares : (n m : ℕ) → 3 ≤ n → 3 ≤ m → All (λ s. 0 < s) (triangleShares n m) × (sumℕ (triangleShares n m) + 2 ≡ n)
 triangle-shares n m h k = (
   all-map (triangleShares n m) (λ s b. omega (arith, b .0)) (shares-bound (n - 2) (m - 2) (omega arith) (omega arith)),

@@ -1,4 +1,5 @@
--- Every corner of a split part is a corner of the contour split, or its centre: what holds of these holds of it (`split-corners`). Assumes nothing.
+-- Every corner of a split part is a corner of the contour split, or its centre: what holds of these
+-- holds of it (`split-corners`). Assumes nothing.
 use mathlib.Core.List.{List, [], _∷_, _++_}
 use Prim.Native.Nat.{ℕ, zero, suc, _+_, _-_}
 use lib.Dec.{eqb, leb}

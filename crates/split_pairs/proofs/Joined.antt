@@ -1,5 +1,6 @@
--- The parts of an accepted mesh before a split: on the grid, short, no edge clockwise seen from the first corner, a doubled area above 0 that fits
--- 64 bits (`parts-summable`). In order: sums of terms at least 0; one part; all. Assumes nothing.
+-- The parts of an accepted mesh before a split: on the grid, short, no edge clockwise seen from the
+-- first corner, a doubled area above 0 that fits 64 bits (`parts-summable`). In order: sums of
+-- terms at least 0; one part; all. Assumes nothing.
 use mathlib.Core.Path.{_≡_, sym, subst}
 use mathlib.Core.Bool.{true}
 use mathlib.Core.List.{List, [], _∷_, map}

@@ -1,5 +1,6 @@
--- The statements of specs/Premise: a split part is a polygon (`split-polygons`), so it meets demand 3's premise (`split-meets-premise`), and any two have
--- what that says (`split-reach`); its corners are on the grid (`split-on-grid`). Assumes nothing.
+-- The statements of specs/Premise: a split part is a polygon (`split-polygons`), so it meets demand
+-- 3's premise (`split-meets-premise`), and any two have what that says (`split-reach`); its corners
+-- are on the grid (`split-on-grid`). Assumes nothing.
 use mathlib.Core.Path.{_≡_}
 use mathlib.Core.Bool.{true}
 use mathlib.Core.List.{List, [], _∷_, map}

@@ -1,4 +1,5 @@
--- The parts of an accepted mesh, before a split and after it, for any limit and strategy. Assumes nothing.
+-- The parts of an accepted mesh, before a split and after it, for any limit and strategy. Assumes
+-- nothing.
 use mathlib.Core.Path.{_≡_}
 use mathlib.Core.Bool.{Bool, true, false}
 use mathlib.Core.List.{List}
@@ -31,7 +32,8 @@ pub record PartMeets (l : List Pt) : Type 0 where
 abbrev pub SplitMeetsPremise : Type 0
 SplitMeetsPremise = (how : ConvexSplitStrategy) (m : ℕ) (mesh : Mesh) → firstFault (meshKinds mesh) ≡ 0 → All PartMeets (splitParts how m mesh)
 
--- so any split part of one accepted mesh and any of another have demand 3, as a sum and as a difference
+-- so any split part of one accepted mesh and any of another have demand 3, as a sum and as a
+-- difference
 abbrev pub SplitReach : Type 0
 SplitReach =
     (reflected : Bool) (how : ConvexSplitStrategy) (m : ℕ) (mesh : Mesh) (how' : ConvexSplitStrategy) (m' : ℕ) (mesh' : Mesh) → firstFault (meshKinds mesh) ≡ 0 → firstFault (meshKinds mesh') ≡ 0 →

@@ -1,5 +1,6 @@
--- Calls that answer alike: where no part can have more corners than the limit, splitting is joining (`left-whole`, of an accepted mesh), and limits that are raised to
--- one number split alike (`same-limit`). Assumes an accepted mesh where it says so.
+-- Calls that answer alike: where no part can have more corners than the limit, splitting is joining
+-- (`left-whole`, of an accepted mesh), and limits that are raised to one number split alike
+-- (`same-limit`). Assumes an accepted mesh where it says so.
 use mathlib.Core.Path.{_≡_, sym, ap, subst}
 use mathlib.Core.List.{List, _++_, map, flatten}
 use Prim.Native.Nat.{ℕ, _+_, _≤_}

@@ -1,7 +1,9 @@
--- Joined parts split one after another: the parts of equal contours (`at-part`); the parts of the first k contours, one more a turn (`each-more`, `room-at`), and none at first (`first-gathered`); the parts gathered are
--- those that the buffers hold (`parts-in`), so joined parts can be split (`splittable`), into at most twice as many as there are triangles, with six corners
--- for each (`few-in`); there is room for all of them (`room-all`, `holds-all`), and they are the mesh's (`gathered-in`). Assumes
--- an accepted mesh where it says so.
+-- Joined parts split one after another: the parts of equal contours (`at-part`); the parts of the
+-- first k contours, one more a turn (`each-more`, `room-at`), and none at first (`first-gathered`);
+-- the parts gathered are those that the buffers hold (`parts-in`), so joined parts can be split
+-- (`splittable`), into at most twice as many as there are triangles, with six corners for each
+-- (`few-in`); there is room for all of them (`room-all`, `holds-all`), and they are the mesh's
+-- (`gathered-in`). Assumes an accepted mesh where it says so.
 use mathlib.Core.Path.{_≡_, refl, sym, _∙_, ap, subst}
 use mathlib.Core.List.{List, [], _∷_, _++_, map, flatten, map-append, append-nil}
 use Prim.Native.Nat.{ℕ, zero, suc, _+_, _*_, _≤_, _<_, _^_}

@@ -27,7 +27,8 @@ pub record Splittable (starts : List ℕ) (points : List (List ℤ)) (t : Tally)
 abbrev pub splitEach : ConvexSplitStrategy → ℕ → List (List Pt) → List (List Pt)
 splitEach how m ps = flatten (map (splitContour how m) ps)
 
--- work arrays of these lengths hold the parts of any mesh of n triangles, joined and split, and every place has a number of 32 bits
+-- work arrays of these lengths hold the parts of any mesh of n triangles, joined and split, and
+-- every place has a number of 32 bits
 pub record WorkRoom (n begins joined splitBegins points : ℕ) : Type 0 where
   pub for-begins : n < begins
   pub for-joined : 3 * n ≤ joined

@@ -1,7 +1,10 @@
-// Joining with parts past a corner limit split (advanced/convex.rs): `to_convex_polygons_with_max_vertices`, with no `requires`. Its answer and both lent
-// buffers equal `splitCounts`, `splitStarts` and `splitCorners` of split/specs/Splitting.antt. Where a mesh is tiny and no part can have more corners than the
-// limit, that is joining. Else the joined parts are gathered, each is split into further buffers, and all are handed out once there is room. The work arrays come
-// in four sizes by the mesh's, so that a small mesh does not wait for the filling of large ones. Leans on convex_join, convex_regions, split_contour and convex_gather.
+// Joining with parts past a corner limit split (advanced/convex.rs):
+// `to_convex_polygons_with_max_vertices`, with no `requires`. Its answer and both lent buffers
+// equal `splitCounts`, `splitStarts` and `splitCorners` of split/specs/Splitting.antt. Where a mesh
+// is tiny and no part can have more corners than the limit, that is joining. Else the joined parts
+// are gathered, each is split into further buffers, and all are handed out once there is room. The
+// work arrays come in four sizes by the mesh's, so that a small mesh does not wait for the filling
+// of large ones. Leans on convex_join, convex_regions, split_contour and convex_gather.
 ghost use mathlib.Core.Path.{_≡_};
 ghost use Prim.Native.Nat.{_+_, _<_, _≤_};
 ghost use lib.ListN.{length, getD};
@@ -73,7 +76,8 @@ fn split_all(
     t
 }
 
-// The parts of an accepted mesh, by way of lent work arrays that hold those of any mesh of so many triangles.
+// The parts of an accepted mesh, by way of lent work arrays that hold those of any mesh of so many
+// triangles.
 fn split_within(
     mesh: &[Row],
     limit: u32,
@@ -234,9 +238,11 @@ fn split_more(
     split_large(mesh, limit, strategy, starts, corners)
 }
 
-// The convex parts of a mesh, those past `limit` corners split by `strategy`: starts and corners (x, y in turn) on the front of the lent buffers. A refusal
-// (1, 2, 3, 4, 5, 6, 11, 22 or 21) gives zero counts and changes nothing. `split_more` has two callers here so that it stays a function of its own: with its arrays
-// in this frame, the stack is touched page by page, 86 KB of it, before one triangle is looked at.
+// The convex parts of a mesh, those past `limit` corners split by `strategy`: starts and corners
+// (x, y in turn) on the front of the lent buffers. A refusal (1, 2, 3, 4, 5, 6, 11, 22 or 21) gives
+// zero counts and changes nothing. `split_more` has two callers here so that it stays a function of
+// its own: with its arrays in this frame, the stack is touched page by page, 86 KB of it, before
+// one triangle is looked at.
 pub fn to_convex_polygons_with_max_vertices(
     mesh: &[Row],
     limit: u32,

@@ -1,4 +1,5 @@
--- Every contour of the pairs of split parts is exact (`every-contour-exact`): the parts meet demand 3's premise, and the buffers hold their pairs. Assumes nothing.
+-- Every contour of the pairs of split parts is exact (`every-contour-exact`): the parts meet demand
+-- 3's premise, and the buffers hold their pairs. Assumes nothing.
 use mathlib.Core.Path.{sym, _∙_, ap, ap₂, subst}
 use mathlib.Core.Bool.{Bool}
 use mathlib.Core.List.{List, []}

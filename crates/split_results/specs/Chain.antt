@@ -1,4 +1,5 @@
--- The chain from two accepted meshes to the contours of their sum or difference; proved in proofs/. Assumes nothing.
+-- The chain from two accepted meshes to the contours of their sum or difference; proved in proofs/.
+-- Assumes nothing.
 use mathlib.Core.Path.{_≡_}
 use mathlib.Core.Bool.{Bool, false}
 use mathlib.Core.List.{List, []}
@@ -16,7 +17,8 @@ use Rattle.minkowski.specs.Pairs.{pairsFault}
 use Rattle.minkowski_pairs.specs.Results.{resultContours, EmittedWhole}
 use Rattle.split_operand.specs.Operand.{splitOperand}
 
--- K is the exact sum or difference of A and B: all that demand 3 says of it, and a sum is de Berg et al.'s
+-- K is the exact sum or difference of A and B: all that demand 3 says of it, and a sum is de Berg
+-- et al.'s
 pub record Exact (reflected : Bool) (A B K : List Pt) : Type 0 where
   pub whole : EmittedWhole reflected A B K
   pub berg : reflected ≡ false → K ≡ deBerg A B

@@ -1,5 +1,5 @@
--- A contour with its first corner once more at the end: its corners (`closed-near`, `closed-last`), and arcs of it (`length-arc`) appended
--- (`near-appended`, `far-appended`). Assumes nothing.
+-- A contour with its first corner once more at the end: its corners (`closed-near`, `closed-last`),
+-- and arcs of it (`length-arc`) appended (`near-appended`, `far-appended`). Assumes nothing.
 use mathlib.Core.Path.{_≡_, sym, _∙_, ap, subst}
 use mathlib.Core.List.{List, [], _∷_, _++_}
 use Prim.Native.Nat.{ℕ, _+_, _-_, _≤_, _<_}

@@ -1,5 +1,7 @@
--- The parts about a centre in turn: a part's edges one by one (`taking-start`, `taking-more`, `taking-stop`, `taking-none`), the parts of a group
--- (`group-turn`, `group-none`), the groups (`Sectoring`: `sectoring-start`, `sectoring-room`, `sectoring-turn`, `sectoring-end`). Assumes nothing.
+-- The parts about a centre in turn: a part's edges one by one (`taking-start`, `taking-more`,
+-- `taking-stop`, `taking-none`), the parts of a group (`group-turn`, `group-none`), the groups
+-- (`Sectoring`: `sectoring-start`, `sectoring-room`, `sectoring-turn`, `sectoring-end`). Assumes
+-- nothing.
 use mathlib.Core.Path.{_≡_, sym, _∙_, ap, ap₂}
 use mathlib.Core.Bool.{true, false, cond}
 use mathlib.Core.List.{List, [], _∷_, _++_}

@@ -1,6 +1,7 @@
-// A contour past the limit split about a centre (advanced/convex.rs, the loop of `append_centroid_parts`): the parts of `centroidParts` of
-// split/specs/Splitting.antt, appended to those gathered. Which centre, and whether it serves, is not said here. Leans on split_chords, points,
-// convex_ring and plane.
+// A contour past the limit split about a centre (advanced/convex.rs, the loop of
+// `append_centroid_parts`): the parts of `centroidParts` of split/specs/Splitting.antt, appended to
+// those gathered. Which centre, and whether it serves, is not said here. Leans on split_chords,
+// points, convex_ring and plane.
 ghost use mathlib.Core.Path.{_≡_};
 ghost use mathlib.Core.List.{_∷_, []};
 ghost use Prim.Native.Nat.{_+_, _-_, _<_, _≤_};
@@ -36,7 +37,8 @@ fn turns_left(centre: IntPoint, a: IntPoint, b: IntPoint) -> bool
     plane::area_two(centre, a, b) > 0
 }
 
-// The corner where the part that starts at corner start ends: at the target, or before the first corner that makes no positive turn.
+// The corner where the part that starts at corner start ends: at the target, or before the first
+// corner that makes no positive turn.
 fn sector_end(contour: &[[i32; 2]], centre: IntPoint, start: usize, target: usize) -> usize
     requires { ⌜ (start < target) × (target ≤ length (now contour)) × Grid (now contour) × OnGrid centre ⌝ }
     ensures { λ r. ⌜ r ≡ start + edgesTaken (point centre) (target - start) (drop start (closedOf (now (contour .entry)))) ⌝ }
@@ -54,7 +56,8 @@ fn sector_end(contour: &[[i32; 2]], centre: IntPoint, start: usize, target: usiz
     end
 }
 
-// The n corners from corner i on, round the contour, are put after the first count points; answers the new count.
+// The n corners from corner i on, round the contour, are put after the first count points; answers
+// the new count.
 fn append_arc(
     contour: &[[i32; 2]],
     i: usize,

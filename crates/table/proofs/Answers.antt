@@ -1,5 +1,6 @@
--- What a call that writes a table answers and leaves, by its fault: laws of `countsOf` and `written` of `specs/Table.antt`.
--- A refusal (`refused-counts`, `refused-buffer`), then success; what stands there reads back (`contours-left`). Assumes nothing.
+-- What a call that writes a table answers and leaves, by its fault: laws of `countsOf` and
+-- `written` of `specs/Table.antt`. A refusal (`refused-counts`, `refused-buffer`), then success;
+-- what stands there reads back (`contours-left`). Assumes nothing.
 use mathlib.Core.Path.{_≡_, sym, _∙_, ap, ap₂}
 use mathlib.Core.List.{List, [], _∷_, flatten}
 use Prim.Native.Nat.{ℕ, suc, _+_, _*_}

@@ -1,7 +1,8 @@
 -- The rules of a part table: what `tableBroken` tells where it is false, and of which tables it is.
--- In order: one start after another (`Step`); the starts as a loop goes through them; what holds of a table that is not broken (`Sound`, `sound`); its parts give it back
--- (`starts-parts`, `corners-parts`) and are within the limits (`sound-limits`); the table of parts within the limits is not broken
--- (`limits-sound`), and its parts are they (`parts-table`). Assumes nothing.
+-- In order: one start after another (`Step`); the starts as a loop goes through them; what holds of
+-- a table that is not broken (`Sound`, `sound`); its parts give it back (`starts-parts`,
+-- `corners-parts`) and are within the limits (`sound-limits`); the table of parts within the limits
+-- is not broken (`limits-sound`), and its parts are they (`parts-table`). Assumes nothing.
 use mathlib.Core.Path.{_≡_, refl, sym, _∙_, ap, subst}
 use mathlib.Core.Bool.{Bool, true, false, not, cond}
 use mathlib.Core.List.{List, [], _∷_, _++_, flatten}

@@ -1,6 +1,7 @@
 -- The part shown: laws of `shownFault`, `partNumbers` and `shownPart` of `specs/Shown.antt`.
--- In order: the fault by the tests that code makes; what no fault tells (`Shows`); where part k lies in the numbers (`Placed`); a part of
--- a slice as the machine takes it; the part shown is part k of the operand (`part-is`), in range where all numbers are (`part-ranged`). Assumes nothing.
+-- In order: the fault by the tests that code makes; what no fault tells (`Shows`); where part k
+-- lies in the numbers (`Placed`); a part of a slice as the machine takes it; the part shown is part
+-- k of the operand (`part-is`), in range where all numbers are (`part-ranged`). Assumes nothing.
 use mathlib.Core.Path.{_≡_, refl, sym, _∙_, ap}
 use mathlib.Core.Bool.{Bool, true, false, cond}
 use mathlib.Core.List.{List, [], _∷_}

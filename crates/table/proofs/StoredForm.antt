@@ -1,7 +1,8 @@
 -- The stored form: laws of the definitions of `specs/Stored.antt`.
--- In order: a list of words taken apart as a table's; bytes of the right length (`sized`, and how many starts and numbers they hold); the
--- faults by the tests that code makes; a table's bytes read (`starts-of-stored`, `corners-of-stored`, `read-fault-of-stored`); bytes that
--- are accepted, written (`stored-of-read`). Assumes nothing.
+-- In order: a list of words taken apart as a table's; bytes of the right length (`sized`, and how
+-- many starts and numbers they hold); the faults by the tests that code makes; a table's bytes read
+-- (`starts-of-stored`, `corners-of-stored`, `read-fault-of-stored`); bytes that are accepted,
+-- written (`stored-of-read`). Assumes nothing.
 use mathlib.Core.Path.{_≡_, _∙_, ap}
 use mathlib.Core.Bool.{true, false}
 use mathlib.Core.List.{List, [], _∷_, _++_, map, flatten}

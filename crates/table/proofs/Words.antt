@@ -1,5 +1,6 @@
--- Words of 32 bits as bytes, the least first: laws of `bytesOf`, `wordOf`, `wordsOf`, `wordBytes`, `signed` and `unsigned` of
--- `specs/Stored.antt`. In order: one word; lengths; round trips; word k (`words-at`); sizes; signed numbers. Assumes nothing.
+-- Words of 32 bits as bytes, the least first: laws of `bytesOf`, `wordOf`, `wordsOf`, `wordBytes`,
+-- `signed` and `unsigned` of `specs/Stored.antt`. In order: one word; lengths; round trips; word k
+-- (`words-at`); sizes; signed numbers. Assumes nothing.
 use mathlib.Core.Path.{_≡_, refl, sym, _∙_, ap}
 use mathlib.Core.List.{List, [], _∷_, _++_, map, flatten, append-assoc}
 use Prim.Native.Nat.{ℕ, zero, suc, _+_, _*_, _/_, _%_, _<_, _≤_}

@@ -1,5 +1,5 @@
--- The part shown (document 01): "The desk asks for part k of the left or the right operand and gets those corners themselves, not a copy."
--- Assumes nothing.
+-- The part shown (document 01): "The desk asks for part k of the left or the right operand and gets
+-- those corners themselves, not a copy." Assumes nothing.
 use mathlib.Core.Bool.{Bool, cond}
 use mathlib.Core.List.{List, [], _∷_}
 use Prim.Native.Nat.{ℕ, suc, _*_}

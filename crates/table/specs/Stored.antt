@@ -1,5 +1,5 @@
--- The stored form (document 01): "Stored, a table is part count, corner count, starts, corners, each 32 bits, little-endian; another length gives 7."
--- Assumes nothing.
+-- The stored form (document 01): "Stored, a table is part count, corner count, starts, corners,
+-- each 32 bits, little-endian; another length gives 7." Assumes nothing.
 use mathlib.Core.Bool.{Bool, true, not, cond}
 use mathlib.Core.List.{List, [], _∷_, _++_, map, flatten}
 use Prim.Native.Nat.{ℕ, _+_, _*_, _-_, _/_, _%_}

@@ -1,5 +1,5 @@
--- The part table (document 01, "Tables the desks exchange"): "a list of starts and a list of corners (x, y in turn)", its rules, limits and
--- bounds; parts to table and back. Assumes nothing.
+-- The part table (document 01, "Tables the desks exchange"): "a list of starts and a list of
+-- corners (x, y in turn)", its rules, limits and bounds; parts to table and back. Assumes nothing.
 use mathlib.Core.Path.{_≡_}
 use mathlib.Core.Bool.{Bool, true, false, not, cond}
 use mathlib.Core.List.{List, [], _∷_, flatten}
@@ -74,7 +74,8 @@ tableBroken starts corners =
     (cond (ltb maxParts (partCount starts)) true (cond (ltb maxCorners (length corners / 2)) true (startsBroken maxContour (length corners / 2) starts)))
     true
 
--- the same without the limits, which "don't bind" a pair result: no contour has more corners than there are
+-- the same without the limits, which "don't bind" a pair result: no contour has more corners than
+-- there are
 unfoldable pub resultBroken : List ℕ → List ℤ → Bool
 resultBroken starts corners = cond (eqb (length corners % 2) 0) (startsBroken (length corners / 2) (length corners / 2) starts) true
 
@@ -97,7 +98,8 @@ boundsBroken b l = cond (ltZ (b .«max_x») (b .«min_x»)) true (cond (ltZ (b .
 
 -- ---- a call that writes the table of some parts into lent starts and corners
 
--- "22: fewer places for starts than the answer has", "21: fewer places for corners (two numbers each) than the answer has"
+-- "22: fewer places for starts than the answer has", "21: fewer places for corners (two numbers
+-- each) than the answer has"
 abbrev pub roomKinds : List (List Pt) → ℕ → ℕ → List Kind
 roomKinds ps starts corners = (faultStartRoom, ltb starts (length (startsOf ps))) ∷ (faultCornerRoom, ltb (corners / 2) (length (flatten ps))) ∷ []
 
@@ -109,7 +111,8 @@ countsOf f ps = cond (eqb f 0) (record { fault = 0; parts = length ps; corners =
 abbrev pub written : {A : Type 0} → ℕ → List A → List A → List A
 written f answer old = cond (eqb f 0) (overlay answer old) old
 
--- what such a call with the fault number f answers, and leaves in the lent starts and corners, which held s and c
+-- what such a call with the fault number f answers, and leaves in the lent starts and corners,
+-- which held s and c
 pub record Answered (f : ℕ) (ps : List (List Pt)) (s : List ℕ) (c : List ℤ) (r : Counts) (s′ : List ℕ) (c′ : List ℤ) : Type 0 where
   pub counts : r ≡ countsOf f ps
   pub starts : s′ ≡ written f (startsOf ps) s

@@ -1,7 +1,9 @@
-// The part table that the desks exchange: starts and corners, their rules and limits, bounds. The definitions are in specs/: Table (the
-// lists), Stored (the bytes), Shown (part k of an operand); their laws in proofs/ (proofs/Lib.antt is the index). The functions here
-// answer whether a table breaks a rule, each as its definition says, of any lent slices; the faults' order is their callers'. The crates
-// table_read, table_write and table_shown, and pairs, lean on it. It leans on corners, plane and integers.
+// The part table that the desks exchange: starts and corners, their rules and limits, bounds. The
+// definitions are in specs/: Table (the lists), Stored (the bytes), Shown (part k of an operand);
+// their laws in proofs/ (proofs/Lib.antt is the index). The functions here answer whether a table
+// breaks a rule, each as its definition says, of any lent slices; the faults' order is their
+// callers'. The crates table_read, table_write and table_shown, and pairs, lean on it. It leans on
+// corners, plane and integers.
 ghost use mathlib.Core.Path.{_≡_};
 ghost use mathlib.Core.Bool.{true, cond};
 ghost use Prim.Native.Nat.{_+_};
@@ -20,7 +22,8 @@ pub const MAX_CORNERS: usize = 8192;
 
 pub const MAX_CONTOUR: usize = 1026;
 
-// What a call that writes a table answers: the fault number, 0 for none, and how many parts and corners were written, 0 where it refused.
+// What a call that writes a table answers: the fault number, 0 for none, and how many parts and
+// corners were written, 0 where it refused.
 #[repr(C)]
 pub struct Counts {
     pub fault: u32,
@@ -46,7 +49,8 @@ pub fn step_broken(limit: usize, last: usize, next: usize) -> bool
     next - last > limit
 }
 
-// Whether the starts break a rule beside `count` corners: none, not from 0, one that falls, a contour of more than `limit` corners, not up to the count.
+// Whether the starts break a rule beside `count` corners: none, not from 0, one that falls, a
+// contour of more than `limit` corners, not up to the count.
 pub fn starts_broken(limit: usize, count: usize, starts: &[u32]) -> bool
     ensures { λ r. ⌜ r ≡ startsBroken limit count (now (starts .entry)) ⌝ }
 {
@@ -86,7 +90,8 @@ pub fn rules_broken(starts: &[u32], corners: &[i32]) -> bool
     starts_broken(MAX_CONTOUR, count, starts)
 }
 
-// Whether starts and corners break the rules of a pair result (fault 7), which the limits don't bind.
+// Whether starts and corners break the rules of a pair result (fault 7), which the limits don't
+// bind.
 pub fn result_broken(starts: &[u32], corners: &[i32]) -> bool
     ensures { λ r. ⌜ r ≡ resultBroken (now (starts .entry)) (now (corners .entry)) ⌝ }
 {
@@ -113,7 +118,8 @@ pub fn within_bounds(bounds: IntRect, p: IntPoint) -> bool
     p.y <= bounds.max_y
 }
 
-// Whether a least bound is above a greatest, or some corner lies outside (fault 9). A last x without its y is no corner.
+// Whether a least bound is above a greatest, or some corner lies outside (fault 9). A last x
+// without its y is no corner.
 pub fn bounds_broken(bounds: IntRect, corners: &[i32]) -> bool
     ensures { λ r. ⌜ r ≡ boundsBroken bounds (pointsOf (now (corners .entry))) ⌝ }
 {

@@ -1,5 +1,6 @@
-// The example of part tables in docs/USE.md: stores a table of two parts, prints its bytes, reads it back, and has it refused once a start
-// falls. What it prints is its file `stdout`. Leans on table_read, table_write and lines.
+// The example of part tables in docs/USE.md: stores a table of two parts, prints its bytes, reads
+// it back, and has it refused once a start falls. What it prints is its file `stdout`. Leans on
+// table_read, table_write and lines.
 
 // Writes a byte in hexadecimal.
 fn print_byte(b: u8) {
@@ -29,7 +30,8 @@ fn print_table(bytes: &[u8]) {
     lines::print(b", corners ", counts.corners as u64, b"\n");
 }
 
-// The two parts of document 01's dart. Byte 12 is the lowest of start 1: at 7 the start after it, 6, falls.
+// The two parts of document 01's dart. Byte 12 is the lowest of start 1: at 7 the start after it,
+// 6, falls.
 fn main() {
     let starts = [0u32, 3, 6];
     let corners = [0i32, 4, 0, 0, 4, 0, 0, 4, 4, 0, 10, -2];

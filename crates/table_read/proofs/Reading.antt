@@ -1,5 +1,5 @@
--- Bytes as the code reads them, word by word. In order: the length; start i; number i judged; the fault, by the tests that
--- the code makes; the room; the answer. Assumes nothing.
+-- Bytes as the code reads them, word by word. In order: the length; start i; number i judged; the
+-- fault, by the tests that the code makes; the room; the answer. Assumes nothing.
 use mathlib.Core.Path.{_≡_, sym, _∙_, ap}
 use mathlib.Core.Bool.{Bool, true, false, not, cond}
 use mathlib.Core.List.{List, _∷_, map}

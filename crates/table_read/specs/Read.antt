@@ -1,5 +1,5 @@
--- What reading bytes into lent starts and corners answers, and what the lent buffers hold as it returns; faults and layout are table's
--- `specs/Stored.antt`. Assumes nothing.
+-- What reading bytes into lent starts and corners answers, and what the lent buffers hold as it
+-- returns; faults and layout are table's `specs/Stored.antt`. Assumes nothing.
 use mathlib.Core.List.{List}
 use Prim.Native.Nat.{ℕ}
 use lib.ListN.{length}

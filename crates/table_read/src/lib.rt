@@ -1,7 +1,8 @@
-// A part table read from its stored form (document 01: "part count, corner count, starts, corners, each 32 bits, little-endian"):
-// `read_table`, from bytes into lent starts and corners. It takes any bytes; the answer and each lent buffer as it returns equal the
-// definitions of specs/Read.antt: a refusal changes nothing, and on success places past the answer keep what they held. table_write is
-// the way back. Leans on table (the rules), table_words (words of bytes).
+// A part table read from its stored form (document 01: "part count, corner count, starts, corners,
+// each 32 bits, little-endian"): `read_table`, from bytes into lent starts and corners. It takes
+// any bytes; the answer and each lent buffer as it returns equal the definitions of
+// specs/Read.antt: a refusal changes nothing, and on success places past the answer keep what they
+// held. table_write is the way back. Leans on table (the rules), table_words (words of bytes).
 ghost use mathlib.Core.Path.{_≡_};
 ghost use mathlib.Core.Bool.{false};
 ghost use mathlib.Core.List.{map};
@@ -15,7 +16,8 @@ use table_words::HEADER;
 use table_words::WORD;
 use table_words::word_at;
 
-// Whether the bytes are not as many as their two counts say. The counts are below 2^32, so their size in bytes is below 2^36.
+// Whether the bytes are not as many as their two counts say. The counts are below 2^32, so their
+// size in bytes is below 2^36.
 fn length_broken(bytes: &[u8]) -> bool
     ensures { λ r. ⌜ r ≡ lengthBroken (now (bytes .entry)) ⌝ }
 {
@@ -66,7 +68,8 @@ fn stored_broken(bytes: &[u8]) -> bool
     stored_starts_broken(bytes, parts, count)
 }
 
-// Whether some number of the bytes, from word `from` on, is not strictly between -2^30 and 2^30 (fault 2).
+// Whether some number of the bytes, from word `from` on, is not strictly between -2^30 and 2^30
+// (fault 2).
 fn stored_off_range(bytes: &[u8], from: usize) -> bool
     ensures { λ r. ⌜ r ≡ offRange (map signed (drop from (wordsOf (now (bytes .entry))))) ⌝ }
 {
@@ -82,7 +85,8 @@ fn stored_off_range(bytes: &[u8], from: usize) -> bool
     false
 }
 
-// The fault of reading the bytes into so many places for starts and for corners' numbers; 0 for none.
+// The fault of reading the bytes into so many places for starts and for corners' numbers; 0 for
+// none.
 fn read_fault(bytes: &[u8], starts: usize, corners: usize) -> u32
     ensures { λ r. ⌜ r ≡ readFault (now (bytes .entry)) starts corners ⌝ }
 {
@@ -103,7 +107,8 @@ fn read_fault(bytes: &[u8], starts: usize, corners: usize) -> u32
     0
 }
 
-// Reads a stored table into the lent starts and corners. Refuses with 7, 2, 22, 21, in this order, before the first store.
+// Reads a stored table into the lent starts and corners. Refuses with 7, 2, 22, 21, in this order,
+// before the first store.
 pub fn read_table(bytes: &[u8], starts: &mut [u32], corners: &mut [i32]) -> Counts
     ensures told { λ r. ⌜ r ≡ countsRead (now (bytes .entry)) (now (starts .entry)) (now (corners .entry)) ⌝ }
     ensures starts { λ r. ⌜ now (starts .exit) ≡ startsRead (now (bytes .entry)) (now (starts .entry)) (now (corners .entry)) ⌝ }

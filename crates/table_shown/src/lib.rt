@@ -1,7 +1,9 @@
-// The part shown (document 01: "The desk asks for part k of the left or the right operand and gets those corners themselves, not a copy"):
-// `show_part` returns a part of one of the two lent corner slices, at their lifetime, and tells the fault number, 0 for none, in a lent
-// number. It takes any input: the part and the number equal the definitions of table's specs/Shown.antt, and where the part lies that of
-// specs/Place.antt, in the asked operand's own corners. A refusal shows an empty part, at the left corners. Leans on table and corners.
+// The part shown (document 01: "The desk asks for part k of the left or the right operand and gets
+// those corners themselves, not a copy"): `show_part` returns a part of one of the two lent corner
+// slices, at their lifetime, and tells the fault number, 0 for none, in a lent number. It takes any
+// input: the part and the number equal the definitions of table's specs/Shown.antt, and where the
+// part lies that of specs/Place.antt, in the asked operand's own corners. A refusal shows an empty
+// part, at the left corners. Leans on table and corners.
 ghost use mathlib.Core.Path.{_≡_};
 ghost use mathlib.Core.Bool.{false};
 ghost use Prim.Native.Nat.{_<_};
@@ -9,7 +11,8 @@ ghost use Rattle.table.specs.Table.{tableBroken, partCount};
 ghost use Rattle.table.specs.Shown.{shownFault, shownPart, partNumbers};
 ghost use Rattle.table_shown.specs.Place.{partPlace, shownPlace};
 
-// The fault of asking for part k of the left or the right table; 0 for none. Both tables are judged, also the one not asked for.
+// The fault of asking for part k of the left or the right table; 0 for none. Both tables are
+// judged, also the one not asked for.
 fn shown_fault(
     left_starts: &[u32],
     left_corners: &[i32],
@@ -51,7 +54,8 @@ pub fn part_of<'a>(starts: &[u32], corners: &'a [i32], k: usize) -> &'a [i32]
     corners::part(corners, from, to)
 }
 
-// Part k of the right table, or of the left one, and the fault number in `fault`. Refuses with 7, 12, in this order.
+// Part k of the right table, or of the left one, and the fault number in `fault`. Refuses with 7,
+// 12, in this order.
 pub fn show_part<'a>(
     left_starts: &[u32],
     left_corners: &'a [i32],

@@ -1,6 +1,7 @@
--- The round trips, of what the two calls answer and leave (`specs/RoundTrip.antt`): reading what was written gives the table back
--- (`read-back`), and what is accepted in reading, written again, gives the same bytes (`written-again`). Places past the answer, in the
--- lent bytes, starts and corners, keep what they held. Assumes nothing.
+-- The round trips, of what the two calls answer and leave (`specs/RoundTrip.antt`): reading what
+-- was written gives the table back (`read-back`), and what is accepted in reading, written again,
+-- gives the same bytes (`written-again`). Places past the answer, in the lent bytes, starts and
+-- corners, keep what they held. Assumes nothing.
 use mathlib.Core.Path.{_≡_, sym, _∙_, ap}
 use mathlib.Core.List.{List, flatten}
 use Prim.Native.Nat.{ℕ, _+_, _*_, _-_, _/_, _≤_}

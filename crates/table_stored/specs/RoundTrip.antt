@@ -1,5 +1,5 @@
--- The round trips as statements: what reading leaves of a table that was written, and what writing leaves of bytes that were read.
--- Assumes nothing.
+-- The round trips as statements: what reading leaves of a table that was written, and what writing
+-- leaves of bytes that were read. Assumes nothing.
 use mathlib.Core.Path.{_≡_}
 use mathlib.Core.List.{List}
 use Prim.Native.Nat.{ℕ, _+_, _*_, _/_}

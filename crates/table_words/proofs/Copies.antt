@@ -1,5 +1,5 @@
--- Words copied from bytes on the front of a lent buffer: where word i stands. A word or a number more is `copy-turn`, `copy-map-turn` of integers/proofs/Overlay.antt.
--- Assumes nothing.
+-- Words copied from bytes on the front of a lent buffer: where word i stands. A word or a number
+-- more is `copy-turn`, `copy-map-turn` of integers/proofs/Overlay.antt. Assumes nothing.
 use mathlib.Core.Path.{_≡_, sym, _∙_, ap}
 use mathlib.Core.List.{List}
 use Prim.Native.Nat.{ℕ, _+_}

@@ -1,5 +1,6 @@
 -- Words written into lent bytes: laws of `putWords` of `specs/Place.antt`.
--- In order: four stores are one word; length; one word more; words after words; from the front on. Assumes nothing.
+-- In order: four stores are one word; length; one word more; words after words; from the front on.
+-- Assumes nothing.
 use mathlib.Core.Path.{_≡_, refl, sym, _∙_, ap}
 use mathlib.Core.List.{List, [], _∷_, _++_, flatten, append-assoc, append-nil}
 use Prim.Native.Nat.{ℕ, suc, _+_, _*_, _/_, _%_, _≤_}

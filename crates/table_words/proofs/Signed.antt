@@ -1,4 +1,5 @@
--- A word read as a signed number: from half on it counts down from -1 at the last word. Assumes nothing.
+-- A word read as a signed number: from half on it counts down from -1 at the last word. Assumes
+-- nothing.
 use mathlib.Core.Path.{_≡_, ap}
 use Prim.Native.Nat.{ℕ, suc, _-_, _^_, _≤_}
 use borrow.Author.Tests.{le-ltb}

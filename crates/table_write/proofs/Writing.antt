@@ -1,5 +1,5 @@
--- A table's words as the code writes them. In order: a word more; the whole (`put-table`); the fault, by the tests that the code makes;
--- the answer.
+-- A table's words as the code writes them. In order: a word more; the whole (`put-table`); the
+-- fault, by the tests that the code makes; the answer.
 -- Assumes nothing.
 use mathlib.Core.Path.{_≡_, sym, _∙_, ap}
 use mathlib.Core.Bool.{true, false}

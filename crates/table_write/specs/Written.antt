@@ -1,5 +1,5 @@
--- What writing a table into lent bytes answers, and what the bytes hold as it returns; faults and layout are table's `specs/Stored.antt`.
--- Assumes nothing.
+-- What writing a table into lent bytes answers, and what the bytes hold as it returns; faults and
+-- layout are table's `specs/Stored.antt`. Assumes nothing.
 use mathlib.Core.Bool.{cond}
 use mathlib.Core.List.{List}
 use Prim.Native.Nat.{ℕ}

@@ -1,7 +1,8 @@
-// A part table written in its stored form (document 01: "part count, corner count, starts, corners, each 32 bits, little-endian"):
-// `write_table`, from a table into lent bytes. It takes any starts and corners; the answer and the lent bytes as it returns equal the
-// definitions of specs/Written.antt: a refusal changes nothing, and on success bytes past the answer keep what they held. table_read is
-// the way back. Leans on table (the rules), table_words (words of bytes).
+// A part table written in its stored form (document 01: "part count, corner count, starts, corners,
+// each 32 bits, little-endian"): `write_table`, from a table into lent bytes. It takes any starts
+// and corners; the answer and the lent bytes as it returns equal the definitions of
+// specs/Written.antt: a refusal changes nothing, and on success bytes past the answer keep what
+// they held. table_read is the way back. Leans on table (the rules), table_words (words of bytes).
 ghost use mathlib.Core.Path.{_≡_};
 ghost use mathlib.Core.List.{map};
 ghost use Prim.Native.Nat.{_+_, _*_, _≤_};
@@ -14,7 +15,8 @@ use table_words::HEADER;
 use table_words::WORD;
 use table_words::put_word;
 
-// What `write_table` answers: the fault number, 0 for none, and how many bytes were written, 0 where it refused.
+// What `write_table` answers: the fault number, 0 for none, and how many bytes were written, 0
+// where it refused.
 pub struct Stored {
     pub fault: u32,
     pub length: usize,
@@ -61,7 +63,8 @@ pub fn write_corners(corners: &[i32], from: usize, bytes: &mut [u8])
     }
 }
 
-// Writes a table on the front of the lent bytes. Refuses with 7, 2, 21, in this order, before the first store.
+// Writes a table on the front of the lent bytes. Refuses with 7, 2, 21, in this order, before the
+// first store.
 pub fn write_table(starts: &[u32], corners: &[i32], bytes: &mut [u8]) -> Stored
     ensures told { λ r. ⌜ r ≡ answerWritten (now (starts .entry)) (now (corners .entry)) (now (bytes .entry)) ⌝ }
     ensures bytes { λ r. ⌜ now (bytes .exit) ≡ bytesWritten (now (starts .entry)) (now (corners .entry)) (now (bytes .entry)) ⌝ }

@@ -1,4 +1,5 @@
--- The bounds of a table's corners hold them (`bounds-hold`). In order: the least and the greatest of words; the points of numbers; the table. Assumes nothing.
+-- The bounds of a table's corners hold them (`bounds-hold`). In order: the least and the greatest
+-- of words; the points of numbers; the table. Assumes nothing.
 use mathlib.Core.Path.{_≡_, refl, sym, _∙_, ap}
 use mathlib.Core.Bool.{Bool, true, false, cond}
 use mathlib.Core.List.{List, [], _∷_, map}

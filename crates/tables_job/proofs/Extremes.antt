@@ -1,4 +1,5 @@
--- The greatest or the least of words: of two, by the test that code makes; one word more. Assumes nothing.
+-- The greatest or the least of words: of two, by the test that code makes; one word more. Assumes
+-- nothing.
 use mathlib.Core.Path.{_≡_, sym, _∙_, ap}
 use mathlib.Core.Bool.{Bool, true, false, cond}
 use mathlib.Core.List.{List}

@@ -1,5 +1,6 @@
--- The job of two stored tables as code makes it. In order: the length by the counts; the fault by the tests that code makes, and what no fault tells (`Good`); the operands
--- that are written, one after another (`job-put`); the answer. Assumes nothing.
+-- The job of two stored tables as code makes it. In order: the length by the counts; the fault by
+-- the tests that code makes, and what no fault tells (`Good`); the operands that are written, one
+-- after another (`job-put`); the answer. Assumes nothing.
 use mathlib.Core.Path.{_≡_, sym, _∙_, ap, subst}
 use mathlib.Core.Bool.{true, false, not}
 use mathlib.Core.List.{List, [], _∷_, _++_, append-assoc}

@@ -1,4 +1,5 @@
--- An operand as code puts it: four bounds, and the table behind them (`operand-put`); a table's fault by the tests that code makes. Assumes nothing.
+-- An operand as code puts it: four bounds, and the table behind them (`operand-put`); a table's
+-- fault by the tests that code makes. Assumes nothing.
 use mathlib.Core.Path.{_≡_, sym, _∙_, ap}
 use mathlib.Core.Bool.{true, false, cond}
 use mathlib.Core.List.{List, [], _∷_}

@@ -1,4 +1,6 @@
--- The job of two stored tables read back. In order: a table and bounds behind some words (`table-behind`, `bounds-behind`); the bounds are words; the job's pieces; the job (`job-read-back`). Assumes nothing.
+-- The job of two stored tables read back. In order: a table and bounds behind some words
+-- (`table-behind`, `bounds-behind`); the bounds are words; the job's pieces; the job
+-- (`job-read-back`). Assumes nothing.
 use mathlib.Core.Path.{_≡_, refl, sym, _∙_, ap, ap₂}
 use mathlib.Core.Bool.{Bool, true, false, cond}
 use mathlib.Core.List.{List, [], _∷_, _++_, append-assoc, append-nil}

@@ -1,5 +1,7 @@
--- What a job of two stored tables is, read as the pairs program reads it: the operation, and either table with the bounds of its corners (`JobReadBack`). The bounds hold the corners (`BoundsHold`), and the
--- tables' rules were judged before, so 7 and 9 cannot come: 2, 8, 10 and 20 can. Proved in proofs/. Assumes nothing.
+-- What a job of two stored tables is, read as the pairs program reads it: the operation, and either
+-- table with the bounds of its corners (`JobReadBack`). The bounds hold the corners (`BoundsHold`),
+-- and the tables' rules were judged before, so 7 and 9 cannot come: 2, 8, 10 and 20 can. Proved in
+-- proofs/. Assumes nothing.
 use mathlib.Core.Path.{_≡_}
 use mathlib.Core.Bool.{Bool, true, false}
 use mathlib.Core.List.{List, [], _∷_}

@@ -1,5 +1,7 @@
--- A pair job of two stored tables: the bytes are one u32 (0 sum, 1 difference), a left stored table and a right one, each as long as its counts say, and nothing behind them. The
--- job has as bounds the least and greatest x and y of each table's corners, 0 for a table without corners. Its bytes, its faults, and what a call leaves of both. Assumes nothing.
+-- A pair job of two stored tables: the bytes are one u32 (0 sum, 1 difference), a left stored table
+-- and a right one, each as long as its counts say, and nothing behind them. The job has as bounds
+-- the least and greatest x and y of each table's corners, 0 for a table without corners. Its bytes,
+-- its faults, and what a call leaves of both. Assumes nothing.
 use mathlib.Core.Bool.{Bool, true, false, not, cond}
 use mathlib.Core.List.{List, [], _∷_, _++_}
 use Prim.Native.Nat.{ℕ, zero, suc, _+_, _*_, _≤_}
@@ -51,7 +53,8 @@ tablesLengthBroken bytes = not (eqb (length bytes) (4 * (rightTable bytes + tabl
 abbrev pub brokenAt : List ℕ → ℕ → Bool
 brokenAt bytes k = cond (countsBroken bytes k) true (tableBroken (startsAt bytes k) (cornersAt bytes k))
 
--- 13 for fewer than 4 bytes or another operation; 7 for a length against the counts, counts past the limits, or a table against its rules
+-- 13 for fewer than 4 bytes or another operation; 7 for a length against the counts, counts past
+-- the limits, or a table against its rules
 unfoldable pub tablesFault : List ℕ → ℕ
 tablesFault bytes =
     firstFault (
@@ -61,7 +64,8 @@ tablesFault bytes =
 
 -- ---- what a call answers and leaves
 
--- "A refusal returns the number and zero counts, changes no buffer"; "On success places past the answer keep what they held."
+-- "A refusal returns the number and zero counts, changes no buffer"; "On success places past the
+-- answer keep what they held."
 abbrev pub madeOf : List ℕ → Made
 madeOf bytes = record { fault = tablesFault bytes; size = cond (eqb (tablesFault bytes) 0) (length (jobOf bytes)) 0 }
 

@@ -1,6 +1,8 @@
-// A pair job made of two stored tables: `make_job` takes any bytes, an operation and two stored tables, and writes the pair job of them, with as bounds the least and greatest x and y
-// of each table's corners. It refuses by number what is no operation with two good tables. What it answers and leaves in the lent bytes are equations with
-// specs/Tables.antt. Leans on pairs_job, pairs_rules, table_words and text.
+// A pair job made of two stored tables: `make_job` takes any bytes, an operation and two stored
+// tables, and writes the pair job of them, with as bounds the least and greatest x and y of each
+// table's corners. It refuses by number what is no operation with two good tables. What it answers
+// and leaves in the lent bytes are equations with specs/Tables.antt. Leans on pairs_job,
+// pairs_rules, table_words and text.
 ghost use mathlib.Core.Path.{_≡_};
 ghost use Prim.Native.Nat.{_+_, _*_, _<_, _≤_};
 ghost use lib.ListN.{length};
@@ -17,7 +19,8 @@ use table_words::word_at;
 // The word that the left table begins at.
 const LEFT: usize = 1;
 
-// What `make_job` answers: the fault number, 0 for none, and how many bytes were written, 0 where it refused.
+// What `make_job` answers: the fault number, 0 for none, and how many bytes were written, 0 where
+// it refused.
 pub struct Made {
     pub fault: u32,
     pub size: usize,
@@ -58,7 +61,8 @@ fn extreme(bytes: &[u8], greatest: bool, from: usize, count: usize) -> u32
     word
 }
 
-// Writes the bounds of `count` corners that stand from word `from` on, at word `at` of the lent bytes.
+// Writes the bounds of `count` corners that stand from word `from` on, at word `at` of the lent
+// bytes.
 fn put_bounds(bytes: &[u8], from: usize, count: usize, out: &mut [u8], at: usize)
     requires { ⌜ (4 * (from + 2 * count) ≤ length (now bytes)) × (4 * (at + 4) ≤ length (now out)) ⌝ }
     ensures { λ _. ⌜ now (out .exit) ≡ putWords at (boundsWords (now (bytes .entry)) from count) (now (out .entry)) ⌝ }
@@ -72,7 +76,8 @@ fn put_bounds(bytes: &[u8], from: usize, count: usize, out: &mut [u8], at: usize
     table_write::write_words(&words, at, out);
 }
 
-// Writes the bounds and the table at word k as an operand, at word `at` of the lent bytes on; answers the place after it.
+// Writes the bounds and the table at word k as an operand, at word `at` of the lent bytes on;
+// answers the place after it.
 fn put_operand(bytes: &[u8], k: usize, out: &mut [u8], at: usize) -> usize
     requires { ⌜ Writable (now bytes) k (now out) at ⌝ }
     ensures { λ r. ⌜ PutText (operandBytes (now (bytes .entry)) k) (4 * at) (now (out .entry)) (now (out .exit)) r ⌝ }
@@ -149,8 +154,9 @@ fn tables_fault(bytes: &[u8]) -> u32
     0
 }
 
-// Writes the pair job of two stored tables on the front of the lent bytes. Refuses with 13, 7, in this order, before the first store. The last clause says again, in io's words,
-// that the bytes stand within the lent ones, for a caller that lends them on.
+// Writes the pair job of two stored tables on the front of the lent bytes. Refuses with 13, 7, in
+// this order, before the first store. The last clause says again, in io's words, that the bytes
+// stand within the lent ones, for a caller that lends them on.
 pub fn make_job(bytes: &[u8], out: &mut [u8; LONGEST]) -> Made
     ensures told { λ r. ⌜ r ≡ madeOf (now (bytes .entry)) ⌝ }
     ensures bytes { λ r. ⌜ now (out .exit) ≡ bytesMade (now (bytes .entry)) (now (out .entry)) ⌝ }

@@ -1,5 +1,6 @@
--- The text of corners. In order: none, one more before the others, two lists; corner k, which code reads as p: there is room for it
--- (`corner-room`), and it is put after those before it (`corner-put`). Assumes nothing.
+-- The text of corners. In order: none, one more before the others, two lists; corner k, which code
+-- reads as p: there is room for it (`corner-room`), and it is put after those before it
+-- (`corner-put`). Assumes nothing.
 use mathlib.Core.Path.{_≡_, refl, sym, _∙_, ap}
 use mathlib.Core.List.{List, [], _∷_, _++_, flatten, append-assoc, append-nil}
 use Prim.Native.Nat.{ℕ, suc, _+_, _≤_, _<_}

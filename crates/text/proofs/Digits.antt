@@ -1,5 +1,5 @@
--- A number below 10^k has no more than k digits (`digits-enough`), so 20 are enough for every number below 2^63 (`decimal-enough`).
--- Assumes nothing.
+-- A number below 10^k has no more than k digits (`digits-enough`), so 20 are enough for every
+-- number below 2^63 (`decimal-enough`). Assumes nothing.
 use mathlib.Core.Path.{_≡_, refl, sym, _∙_, ap}
 use mathlib.Core.Bool.{Bool, true, false, cond}
 use mathlib.Core.List.{List, [], _∷_}

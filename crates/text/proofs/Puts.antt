@@ -1,6 +1,8 @@
--- Text put at a place of lent bytes. In order: one byte a turn (`put-start`, `put-turn`, `put-end`); the length is kept (`put-length`), so the bytes up to the place told are there (`put-within`), another writing of the
--- same text (`put-as`), the room left for what comes after (`put-room`); nothing put (`put-none`), text on the front (`put-whole`), one text after
--- another (`put-after`). Assumes nothing.
+-- Text put at a place of lent bytes. In order: one byte a turn (`put-start`, `put-turn`,
+-- `put-end`); the length is kept (`put-length`), so the bytes up to the place told are there
+-- (`put-within`), another writing of the same text (`put-as`), the room left for what comes after
+-- (`put-room`); nothing put (`put-none`), text on the front (`put-whole`), one text after another
+-- (`put-after`). Assumes nothing.
 use mathlib.Core.Path.{_≡_, refl, sym, _∙_, ap}
 use mathlib.Core.List.{List, [], _∷_, _++_, append-assoc, append-nil}
 use Prim.Native.Nat.{ℕ, _+_, _≤_, _<_}

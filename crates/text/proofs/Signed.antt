@@ -1,5 +1,6 @@
--- Signed numbers and corners as text, as code puts them: a number z that code reads back as u. In order: below 0 and not (`signed-below`, `signed-above`);
--- a corner's length (`corner-length`) and its three pieces (`corner-pieces`). Assumes nothing.
+-- Signed numbers and corners as text, as code puts them: a number z that code reads back as u. In
+-- order: below 0 and not (`signed-below`, `signed-above`); a corner's length (`corner-length`) and
+-- its three pieces (`corner-pieces`). Assumes nothing.
 use mathlib.Core.Path.{_≡_, refl, sym, _∙_, ap, ap₂}
 use mathlib.Core.Bool.{true, false}
 use mathlib.Core.List.{List, [], _∷_, _++_}

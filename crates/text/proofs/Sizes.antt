@@ -1,5 +1,6 @@
--- How long numbers and corners are as text. In order: a number (`decimal-size`, and `decimal-below` where it is below a power of ten), a signed one of 32
--- bits (`signed-size`), a corner (`corner-size`) and corners (`corners-size`). Assumes nothing.
+-- How long numbers and corners are as text. In order: a number (`decimal-size`, and `decimal-below`
+-- where it is below a power of ten), a signed one of 32 bits (`signed-size`), a corner
+-- (`corner-size`) and corners (`corners-size`). Assumes nothing.
 use mathlib.Core.Path.{_≡_, refl, sym, _∙_, ap}
 use mathlib.Core.Bool.{true, false, cond}
 use mathlib.Core.List.{List, [], _∷_, _++_}

@@ -1,4 +1,5 @@
--- What the digits of a number denote ("a law over `digits`, not only that its fuel suffices"). Proved in proofs/Denotes.antt. Assumes nothing.
+-- What the digits of a number denote ("a law over `digits`, not only that its fuel suffices").
+-- Proved in proofs/Denotes.antt. Assumes nothing.
 use mathlib.Core.Path.{_≡_}
 use mathlib.Core.List.{List, [], _∷_}
 use Prim.Native.Nat.{ℕ, _+_, _-_, _*_, _^_, _≤_, _<_}
@@ -18,7 +19,8 @@ valueOf t = valueFrom 0 t
 abbrev pub IsDigit : ℕ → Type 0
 IsDigit b = (48 ≤ b) × (b ≤ 57)
 
--- t is n in base ten: there is a digit, and the first is 0 only where it is the only one (so n is below 10 there)
+-- t is n in base ten: there is a digit, and the first is 0 only where it is the only one (so n is
+-- below 10 there)
 pub record Denotes (n : ℕ) (t : List ℕ) : Type 0 where
   pub value : valueOf t ≡ n
   pub digit : All IsDigit t

@@ -1,4 +1,5 @@
--- Numbers and corners as text, the words that the programs' listings share (document 01, "The file and its listing"). Assumes nothing.
+-- Numbers and corners as text, the words that the programs' listings share (document 01, "The file
+-- and its listing"). Assumes nothing.
 use mathlib.Core.Bool.{cond}
 use mathlib.Core.List.{List, [], _∷_, _++_, map, flatten}
 use Prim.Native.Nat.{ℕ, zero, suc, _+_, _/_, _%_}

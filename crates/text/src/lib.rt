@@ -1,6 +1,7 @@
-// Numbers and corners as text (specs/Text.antt), put at a place of lent bytes: each `put_..` tells the place after its text and leaves every other byte
-// as it was (`PutText`, specs/Put.antt); the caller has shown that there is room. That the digits denote the number is specs/Denotes.antt. Leans on the
-// kit's io for digits, and on corners, plane and integers.
+// Numbers and corners as text (specs/Text.antt), put at a place of lent bytes: each `put_..` tells
+// the place after its text and leaves every other byte as it was (`PutText`, specs/Put.antt); the
+// caller has shown that there is room. That the digits denote the number is specs/Denotes.antt.
+// Leans on the kit's io for digits, and on corners, plane and integers.
 ghost use mathlib.Core.Path.{_≡_};
 ghost use mathlib.Core.List.{_++_};
 ghost use Prim.Native.Nat.{_+_, _≤_};

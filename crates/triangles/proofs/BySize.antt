@@ -1,4 +1,5 @@
--- An entry point over a lent slice of triangle structs, by the mesh's size: what its code does at one size, whatever the size, the locals' places and what is called over the rows.
+-- An entry point over a lent slice of triangle structs, by the mesh's size: what its code does at
+-- one size, whatever the size, the locals' places and what is called over the rows.
 --     Known           what is known of the calls
 --     lies            a local is found where the environment has it, and read there
 --     tests           n <= size: one arm where it holds, the rest of the code where it does not
@@ -41,7 +42,8 @@ use Rattle.triangles.proofs.rows_small.Symbol.{name as #rows-small}
 use Rattle.triangles.proofs.rows_large.Symbol.{name as #rows-large}
 use Rattle.triangles.proofs.RowsCall.{Big, big, sl, Rows, big-lawful, lent, Own, Token, to-rows, goes-rows, RowsSaid, rows-said}
 
--- what is known of the calls: the three that read the rows, and the three that the rows are handed to
+-- what is known of the calls: the three that read the rows, and the three that the rows are handed
+-- to
 pub record Known {M : Type 1} (𝓤 : URA M) (H : Heap 𝓤) (A : Atoms 𝓤) (𝓣 : Tables 𝓤 H) (Rest : ℕ → Contract 𝓤) (#tiny #small #large : Name) : Type 2 where
   pub read-tiny : Triple 𝓤 (𝓣 .C #rows-tiny) (Rows 𝓤 H A tiny)
   pub rest-tiny : Triple 𝓤 (𝓣 .C #tiny) (Rest tiny)

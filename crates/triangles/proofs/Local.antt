@@ -1,4 +1,5 @@
--- A local array that was written whole is read and written by the element, and then read whole (`Denote/ArrayMemory.antt`), of elements whose relation tells their one machine value.
+-- A local array that was written whole is read and written by the element, and then read whole
+-- (`Denote/ArrayMemory.antt`), of elements whose relation tells their one machine value.
 --     apart        the array's cell, and what it owns  ⊢  ⌜its length⌝ ∗ the row of its elements
 --     gathered     and back, at some machine value
 -- Assumes `Given`.

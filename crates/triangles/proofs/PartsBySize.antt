@@ -1,5 +1,7 @@
--- An entry point that answers the parts of a lent slice of triangle structs, into lent starts and corners: by the mesh's size it reads the rows into a local array and hands them on, with starts and corners; past the
--- last size it refuses. Said over the function that the rows are handed to, and over what the parts are; `triangles_join` has the one entry point.
+-- An entry point that answers the parts of a lent slice of triangle structs, into lent starts and
+-- corners: by the mesh's size it reads the rows into a local array and hands them on, with starts
+-- and corners; past the last size it refuses. Said over the function that the rows are handed to,
+-- and over what the parts are; `triangles_join` has the one entry point.
 --     OfSize, OfAll   the locals of one size, and those of all sizes
 --     Before          what is had between the tests
 --     Frees           what is left to show once an answer is returned
@@ -76,7 +78,8 @@ OwnCorners κ y = MutSlice (named 2) κ i32 .own y (held y ∷ [])
 abbrev pub Tokens₂ : {M : Type 1} (𝓤 : URA M) → Lft → Lft → Share → Share → Item 𝓤
 Tokens₂ 𝓤 κ₁ κ₂ q₁ q₂ = ‵ (flft κ₁ q₁) ⊛ (‵ (flft κ₂ q₂) ⊛ ‵ ftrue)
 
--- the locals of the first size change places with those of the second, and with those of the third: five things stand before them, and six between them and the others
+-- the locals of the first size change places with those of the second, and with those of the third:
+-- five things stand before them, and six between them and the others
 abbrev second : List ℕ
 second = 0 ∷ 1 ∷ 2 ∷ 3 ∷ 4 ∷ 16 ∷ 17 ∷ 18 ∷ 19 ∷ 20 ∷ 10 ∷ 11 ∷ 12 ∷ 13 ∷ 14 ∷ 15 ∷ []
 
@@ -98,7 +101,8 @@ module _ {M : Type 1} (𝓤 : URA M) (H : Heap 𝓤) (En : Env 𝓤 H) where
     pub at-to-corners : Lies 𝓤 H En to-corners ref
     pub at-corners : Lies 𝓤 H En corners slice
 
-  -- of every size: starts, corners, the mesh's length and the test (the answer is local 0, the mesh local 1)
+  -- of every size: starts, corners, the mesh's length and the test (the answer is local 0, the mesh
+  -- local 1)
   pub record OfAll : Type 0 where
     pub starts : ℕ
     pub corners : ℕ
@@ -180,8 +184,9 @@ module _ {M : Type 1} (𝓤 : URA M) (H : Heap 𝓤) (A : Atoms 𝓤) (W : Given
       peeks ! N.the-row (Is N.the-row) (shows 𝓤 H A N.the-row) r (w ∷ []) (λ is. land ! (lies ! (o .at-answer) (stop !)) (init ! 15 refl (LL.lawful N.the-type N′.the-laws 𝓤 H A W .typed r _ is .0)) $
       returns-within ! Kf back (lies-read En 0 (o .at-answer) (look ! 15 refl)) $ forget ! 11 refl $ forget ! 12 refl $ forget ! 13 refl $ forget ! 14 refl $ forget ! 15 refl $ freeing r w f g lf lg so)
 
-  -- the function that the rows are handed to: its contract, what it is handed, what it says of the rows, and its operands, of the places of the rows, of starts and of corners;
-  -- what it asks is had, its operands are read, and it tells what starts and corners hold at last
+  -- the function that the rows are handed to: its contract, what it is handed, what it says of the
+  -- rows, and its operands, of the places of the rows, of starts and of corners; what it asks is
+  -- had, its operands are read, and it tells what starts and corners hold at last
   pub record Callee : Type 2 where
     pub Rest : ℕ → Contract 𝓤
     pub to : (size : ℕ) → List (List ℤ) → Val → Rest size .Ghost
@@ -204,12 +209,17 @@ module _ {M : Type 1} (𝓤 : URA M) (H : Heap 𝓤) (A : Atoms 𝓤) (W : Given
     at-size size l l₂ l₃ read rest bound ends above =
         move ! (10 ∷ 11 ∷ []) $ tests 𝓤 H A W 𝓣 En size (o .at-count) (o .at-test) bound
         (λ few Q back. move ! (2 ∷ 3 ∷ 11 ∷ 14 ∷ []) $
-        -- [mesh's token; what mesh owns; the array; mesh; the test; its length; the others' tokens; what starts and corners own; …]
+        -- [mesh's token; what mesh owns; the array; mesh; the test; its length; the others' tokens;
+        -- what starts and corners own; …]
         reads-rows 𝓤 H A W 𝓣 En κ q s size (o .at-mesh) (l .at-rows) read few (λ z u ez.
-        -- [what the rows own; the token; what mesh owns; the array; mesh; the test; its length; the others' tokens; what starts and corners own; corners' two; starts' two; corners; starts; …]
+        -- [what the rows own; the token; what mesh owns; the array; mesh; the test; its length; the
+        -- others' tokens; what starts and corners own; corners' two; starts' two; corners; starts;
+        -- …]
         move ! (12 ∷ 13 ∷ 15 ∷ []) $ lends 𝓤 H A W 𝓣 En x num fits-x (o .at-starts) (l .at-to-starts) (l .at-starts) (
         move ! (13 ∷ 14 ∷ 15 ∷ []) $ lends 𝓤 H A W 𝓣 En y num fits-y (o .at-corners) (l .at-to-corners) (l .at-corners) (
-        -- [corners lent on, and by what; corners; starts the same; what the rows own; the token; what mesh owns; the array; mesh; the test; its length; the others' tokens; what starts and corners own; …]
+        -- [corners lent on, and by what; corners; starts the same; what the rows own; the token;
+        -- what mesh owns; the array; mesh; the test; its length; the others' tokens; what starts
+        -- and corners own; …]
         move ! (13 ∷ 14 ∷ 15 ∷ 6 ∷ []) $ group ! 4 $ use1 W (raw (c .Rest size .pre (c .to size z u))) (c .asks size z u few) $
         calls-at ! (fmOf 𝓤 H (W .laws) 𝓣) (c .Rest size) rest (c .to size z u) (c .opds l l₂ l₃ z u) (λ w.
         use1 W (later (some (λ (r : Counts). (tok₂ ⊛ ‵ (N.the-row .own r (w ∷ []))) ⊛ raw (c .Said size z r)))) (c .tells size z u w) $ await ! tt $ pick ! (λ r. split ! $ move ! (1 ∷ []) $
@@ -224,7 +234,8 @@ module _ {M : Type 1} (𝓤 : URA M) (H : Heap 𝓤) (A : Atoms 𝓤) (W : Given
         → Ends l Γ → Sq W (Before l Γ) (runs (𝓣 .C) (𝓣 .Λ) En refusing (atRet En Kf))
     past l Γ known refused ends =
         refuses 𝓤 H A W mem run 1 tt 𝓣 En known (λ r u er.
-        -- [what the answer owns; mesh's token; what mesh owns; the others' tokens; what starts owns; what corners owns; …]
+        -- [what the answer owns; mesh's token; what mesh owns; the others' tokens; what starts
+        -- owns; what corners owns; …]
         move ! (4 ∷ []) $ use1 W (‵ (finally u32 (x .name) (x .now))) (unwritten 𝓤 H A W (named 1) κ₁ u32 x) $ move ! (5 ∷ []) $ use1 W (‵ (finally i32 (y .name) (y .now))) (unwritten 𝓤 H A W (named 2) κ₂ i32 y) $
         move ! (3 ∷ []) $ split ! $ move ! (0 ∷ 6 ∷ []) $ join ! $ move ! (1 ∷ []) $ forgo ! $ move ! (3 ∷ 0 ∷ 4 ∷ 2 ∷ 1 ∷ []) $ ends r u (x .now) (y .now) refl refl (refused r er) _ refl)
 

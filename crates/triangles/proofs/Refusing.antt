@@ -1,4 +1,5 @@
--- `convex_gather::refusal` called, with any number, by a function whose walk is by hand: it asks nothing but the number, and answers it with zero counts.
+-- `convex_gather::refusal` called, with any number, by a function whose walk is by hand: it asks
+-- nothing but the number, and answers it with zero counts.
 --     Refuse          its contract
 --     refuses         its call, the answer yet to be stored
 -- Assumes `Given`.

@@ -1,4 +1,5 @@
--- What a function that reads a mesh's rows into an array of so many asks and tells, whatever the size, and its call by a function that holds the slice and its token.
+-- What a function that reads a mesh's rows into an array of so many asks and tells, whatever the
+-- size, and its call by a function that holds the slice and its token.
 --     Rows            the contract of `rows_tiny`, `rows_small` and `rows_large`, at their size
 --     goes-rows       the token and what the slice owns, of a mesh that fits  ⊢  what the call asks ∗ what the slice owns
 --     rows-said       what the call tells

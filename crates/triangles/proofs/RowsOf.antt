@@ -1,6 +1,10 @@
--- A function that reads a mesh's rows into an array of so many meets its contract, whatever the size: a walk of its MIR, by hand, with a loop whose turn calls `triangle_at` and `row_of` and stores the row into the
--- local array, which lies apart, as a row of elements, from before the loop to its end (Local.antt). The loop's invariant is indexed by Reading.antt's `Read`. `rows_tiny`, `rows_small` and `rows_large` are such
--- functions: only the array's type and the name of the function that makes it differ, so their code, contract and proof are this file's at their size. Assumes nothing.
+-- A function that reads a mesh's rows into an array of so many meets its contract, whatever the
+-- size: a walk of its MIR, by hand, with a loop whose turn calls `triangle_at` and `row_of` and
+-- stores the row into the local array, which lies apart, as a row of elements, from before the loop
+-- to its end (Local.antt). The loop's invariant is indexed by Reading.antt's `Read`. `rows_tiny`,
+-- `rows_small` and `rows_large` are such functions: only the array's type and the name of the
+-- function that makes it differ, so their code, contract and proof are this file's at their size.
+-- Assumes nothing.
 use mathlib.Core.Path.{_≡_, refl, sym, ap, _∙_, subst}
 use mathlib.Core.Bool.{Bool, true, false}
 use Prim.Native.Nat.{ℕ, _+_, _-_, _≤_, _<_, _^_}
@@ -234,7 +238,8 @@ module _ (size : ℕ) (#blank : Name) where
           calls-at ! (fmOf 𝓤 H (W .laws) 𝓣) (Get 𝓤 H A mem run) known-get (to-get (a .i)) (and-then ! (load ! (from ! (stop !)) (look ! 20 refl)) (and-then ! (load ! (from ! (stop !)) (look ! 17 refl)) (no-more !))) (λ u.
           use1 W (later (some (λ (r : IntTriangle). (tok ⊛ ‵ (T.the-row .own r (u ∷ []))) ⊛ raw (ensured 𝓤 H A get.ended (get.clauses 𝓤 H A mem run) (κ, tt) (s, (a .i, tt)) tt r)))) (id⊢ 𝓤 _) $ await ! tt $ pick ! (λ r.
           split ! $ move ! (1 ∷ []) $ use1 W (raw (fact 𝓤 (r ≡ getD ys (a .i) noStruct))) (get-said (a .i) r) $ heard ! (r ≡ getD ys (a .i) noStruct) (λ er. split ! $ move ! (1 ∷ []) $
-          -- [what r owns; the token; what mesh owns; the rows; _10; …; _9; …; _8; …; _7; …; _6; …; _5; …; _4; …; _3; …; _2's end; _1; …; _0; …]
+          -- [what r owns; the token; what mesh owns; the rows; _10; …; _9; …; _8; …; _7; …; _6; …;
+          -- _5; …; _4; …; _3; …; _2's end; _1; …; _0; …]
           peeks ! T.the-row (Is T.the-row) (shows 𝓤 H A T.the-row) r (u ∷ []) (λ is.
           land ! (from ! (stop !)) (init ! 16 refl (LL.lawful T.the-type T′.the-laws 𝓤 H A W .typed r _ is .0)) $
           use1 W (raw (Step 𝓤 H A mem run .pre (to-step r u))) (goes-step r u) $
@@ -248,7 +253,8 @@ module _ (size : ℕ) (#blank : Name) where
           assigns ! (bin ! (load ! (from ! (stop !)) (look ! 6 refl)) (load ! (from ! (stop !)) (look ! 12 refl)) tt) (from ! (stop !)) (init ! 4 refl (tt, tt)) $
           rewrite ! 4 (λ (o : ℕ). ‵ (fat fullShare tyPtr l₁₀ 0 (vptr l₂ o))) (sym (place-is rowBytes 0 (a .i))) refl $
           move ! (3 ∷ []) $ elem-out ! R (Is R) (shows 𝓤 H A R) vals tells fullShare (a .rows) (a .i) [] l₂ 0 in-rows (λ _.
-          -- [rows[k]; what it owns; the others; what the new row owns; the token; what mesh owns; _10; …; _9; …; _8; …]
+          -- [rows[k]; what it owns; the others; what the new row owns; the token; what mesh owns;
+          -- _10; …; _9; …; _8; …]
           assigns ! (of-opd ! (load ! (from ! (stop !)) (look ! 10 refl))) (from ! (hop ! (look ! 6 refl) (stop !))) (store-raw ! 0 refl (R-lawful .typed t _ is′ .0)) $
           move ! (1 ∷ []) $ forgo ! $ move ! (0 ∷ 2 ∷ 1 ∷ []) $ elem-put ! R fullShare (a .rows) (a .i) t (u′ ∷ []) l₂ 0 in-rows $
           assigns-last ! (bin ! (load ! (from ! (stop !)) (look ! 17 refl)) (lit ! tt) (record { fits = omega (arith, less, fits-len) })) (from ! (stop !)) (store ! 17 refl (tt, record { fits = omega (arith, less, fits-len) })) $

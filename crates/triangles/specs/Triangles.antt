@@ -18,7 +18,8 @@ noStruct = record { vertices = []; neighbors = [] }
 abbrev pub corner : IntTriangle → ℕ → Pt
 corner t i = point (getD (t .vertices) i (record { x = pos 0; y = pos 0 }))
 
--- the triangle that a struct is: "each record with three points and three neighbours" (document 01, "Tables the desks exchange")
+-- the triangle that a struct is: "each record with three points and three neighbours" (document 01,
+-- "Tables the desks exchange")
 unfoldable pub structTriangle : IntTriangle → Triangle
 structTriangle t = record {
   v0 = corner t 0;

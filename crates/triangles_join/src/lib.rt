@@ -1,6 +1,8 @@
-// Joining over a lent slice of triangle structs: `to_convex_polygons`, with no `requires`, reads the rows into a local array of the mesh's size class (triangles)
-// and goes on as over rows, so what it answers is said by the same definitions. It is proved by a walk of its MIR, by hand, and exported to C for the runs beside
-// the Rust alone. Leans on triangles, convex_join and convex_gather.
+// Joining over a lent slice of triangle structs: `to_convex_polygons`, with no `requires`, reads
+// the rows into a local array of the mesh's size class (triangles) and goes on as over rows, so
+// what it answers is said by the same definitions. It is proved by a walk of its MIR, by hand, and
+// exported to C for the runs beside the Rust alone. Leans on triangles, convex_join and
+// convex_gather.
 ghost use mathlib.Core.Path.{_≡_};
 ghost use Prim.Native.Nat.{_≤_};
 ghost use lib.ListN.{length, take};
@@ -53,8 +55,9 @@ fn join_large(
     join_front(&rows, n, starts, corners)
 }
 
-// The convex parts of a mesh, joined from its triangles: starts and corners (x, y in turn) on the front of the lent buffers. A refusal (1, 2, 3, 4, 5,
-// 6, 11, 22 or 21) gives zero counts and changes nothing.
+// The convex parts of a mesh, joined from its triangles: starts and corners (x, y in turn) on the
+// front of the lent buffers. A refusal (1, 2, 3, 4, 5, 6, 11, 22 or 21) gives zero counts and
+// changes nothing.
 #[no_mangle]
 pub extern "C" fn to_convex_polygons(
     mesh: &[IntTriangle],

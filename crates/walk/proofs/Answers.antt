@@ -1,6 +1,8 @@
--- The calls on walks: each answer's number is its fault number (`begun-number`, `pointed-number`, `stepped-number`, `next-number`), a refusal
--- hands the walk back as it came (`stepped-back`, `next-back`), and an accepted step leaves a walk whose place is again a corner of its
--- contour (`step-placed`; `accepted`, `index-inside`, `next-inside`, `advance-placed`), as a walk begun does (`begin-placed`). Assumes nothing.
+-- The calls on walks: each answer's number is its fault number (`begun-number`, `pointed-number`,
+-- `stepped-number`, `next-number`), a refusal hands the walk back as it came (`stepped-back`,
+-- `next-back`), and an accepted step leaves a walk whose place is again a corner of its contour
+-- (`step-placed`; `accepted`, `index-inside`, `next-inside`, `advance-placed`), as a walk begun
+-- does (`begin-placed`). Assumes nothing.
 use mathlib.Core.Path.{_≡_, refl, sym, _∙_}
 use mathlib.Core.Bool.{Bool, true, false, cond, true≢false}
 use mathlib.Core.List.{List}

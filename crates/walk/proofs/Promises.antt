@@ -1,5 +1,6 @@
--- The defined answers keep the promises of specs/Contracts.antt: a walk begun (`begun-by`), its point, its edge, its advance, a step
--- (`pointed-by`, `edged-by`, `advanced-by`, `stepped-by`), a pair begun (`paired-by`). Assumes nothing.
+-- The defined answers keep the promises of specs/Contracts.antt: a walk begun (`begun-by`), its
+-- point, its edge, its advance, a step (`pointed-by`, `edged-by`, `advanced-by`, `stepped-by`), a
+-- pair begun (`paired-by`). Assumes nothing.
 use mathlib.Core.Path.{_≡_, refl, sym, _∙_, ap}
 use mathlib.Core.Bool.{Bool, true, false, cond, true≢false}
 use mathlib.Core.List.{List}

@@ -1,5 +1,6 @@
--- What a walk begun, its point, a walk stepped and a pair stepped answer, refusals first (document 01, "Faults that come from the state").
--- Contours are lists of numbers, x, y in turn, as they are lent. Assumes nothing.
+-- What a walk begun, its point, a walk stepped and a pair stepped answer, refusals first (document
+-- 01, "Faults that come from the state"). Contours are lists of numbers, x, y in turn, as they are
+-- lent. Assumes nothing.
 use mathlib.Core.Bool.{Bool, true, false, not, cond}
 use mathlib.Core.List.{List, [], _∷_}
 use Prim.Native.Nat.{ℕ, _/_, _%_}
@@ -39,7 +40,8 @@ use Rattle.walk.specs.declared.Next.the-variants as next
 unfoldable pub lengthBroken : List ℤ → Bool
 lengthBroken l = cond (eqb (length l % 2) 0) (ltb maxContour (length l / 2)) true
 
--- "whose place or either segment end isn't a corner of its contour", of n corners; the ends count where it walks a segment
+-- "whose place or either segment end isn't a corner of its contour", of n corners; the ends count
+-- where it walks a segment
 unfoldable pub misplaced : ℕ → Place → Bool
 misplaced n w = cond (leb n (w .index)) true (cond (w .segment) (cond (leb n (w .start)) true (leb n (w .end))) false)
 
@@ -115,7 +117,8 @@ unfoldable pub pairedOf : Bool → List ℤ → List ℤ → Paired
 pairedOf reflected l r =
     cond (eqb (pairBeginFault reflected l r) 0) (paired.At (startOf reflected (pointsOf l) (pointsOf r))) (paired.Refused (pairBeginFault reflected l r))
 
--- ---- "A pair's step: 7, 23, 2 likewise over both walks, but 23 only for a place or segment end .. and 2 for any corner", left before right
+-- ---- "A pair's step: 7, 23, 2 likewise over both walks, but 23 only for a place or segment end ..
+-- and 2 for any corner", left before right
 
 unfoldable pub pairStepFault : List ℤ → List ℤ → ConvexSum → ℕ
 pairStepFault l r s =

@@ -1,7 +1,8 @@
--- What each call on walks promises of its answer: that it is the defined one, its number and its values as document 01 has them ("Where an
--- answer is an enum, a definition gives this paper's number and values for each case of the enum"), and what holds of what the papers
--- leave free: a begun walk's ends where it is no segment, and where a segment's walk that stands at neither end steps.
--- Assumes nothing.
+-- What each call on walks promises of its answer: that it is the defined one, its number and its
+-- values as document 01 has them ("Where an answer is an enum, a definition gives this paper's
+-- number and values for each case of the enum"), and what holds of what the papers leave free: a
+-- begun walk's ends where it is no segment, and where a segment's walk that stands at neither end
+-- steps. Assumes nothing.
 use mathlib.Core.Path.{_≡_}
 use mathlib.Core.Bool.{Bool, true, false, cond}
 use mathlib.Core.List.{List, [], _∷_}
@@ -60,7 +61,8 @@ pub record EdgedBy (l : List ℤ) (w : Place) (r : Edged) : Type 0 where
   pub edge : edgedEdge r ≡ ifSound (stepFault l w) (edgeOf (pointsOf l) w)
   pub free : Strays (length (pointsOf l)) w
 
--- whatever place is handed in: an accepted one moves along the contour, a step fewer left, and a refused one comes back
+-- whatever place is handed in: an accepted one moves along the contour, a step fewer left, and a
+-- refused one comes back
 pub record MovedBy (l : List ℤ) (w t : Place) : Type 0 where
   pub place : t ≡ cond (eqb (stepFault l w) 0) (advance (length (pointsOf l)) w) w
   pub stays : stepFault l w ≡ 0 → misplaced (length (pointsOf l)) t ≡ false
@@ -106,7 +108,8 @@ abbrev pub emittedPlaces : Emitted → ConvexSum
 emittedPlaces (corner p t) = t
 emittedPlaces (end t) = t
 
--- whatever places are handed in: both walks stay on their contours, fewer steps left at each corner; the end is told where both have run out
+-- whatever places are handed in: both walks stay on their contours, fewer steps left at each
+-- corner; the end is told where both have run out
 pub record NextBy (l r : List ℤ) (s : ConvexSum) (a : Next) : Type 0 where
   pub answer : a ≡ pairSteppedOf l r s
   pub number : nextNumber a ≡ pairStepFault l r s

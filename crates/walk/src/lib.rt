@@ -1,5 +1,5 @@
-// One walk and one pair's step, as calls that refuse by number: int/minkowski_sum.rs. The types that they answer with, and in specs/ what each
-// answers. Leans on pair and table.
+// One walk and one pair's step, as calls that refuse by number: int/minkowski_sum.rs. The types
+// that they answer with, and in specs/ what each answers. Leans on pair and table.
 use pair::ConvexSum;
 use pair::Place;
 use plane::IntPoint;
@@ -29,7 +29,8 @@ pub enum Advanced {
     Refused(u32, Place),
 }
 
-// A walk stepped: the edge that it took and where it stands, or the fault number and the walk as it came.
+// A walk stepped: the edge that it took and where it stands, or the fault number and the walk as it
+// came.
 pub enum Stepped {
     Edge(IntVector, Place),
     Refused(u32, Place),
@@ -41,7 +42,8 @@ pub enum Paired {
     Refused(u32),
 }
 
-// A pair stepped: a corner and where both walks stand, the end and where both stand, or the fault number and both walks as they came.
+// A pair stepped: a corner and where both walks stand, the end and where both stand, or the fault
+// number and both walks as they came.
 pub enum Next {
     Corner(IntPoint, ConvexSum),
     End(ConvexSum),

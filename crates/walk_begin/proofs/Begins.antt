@@ -1,5 +1,6 @@
--- A walk begun, by its faults: 7, 2, 8, 20 each where those before it do not hold, and its place where none does; what the
--- code's winding tells of these (`start-below`, `leaves-by`, `total-by`, `place-is`). Assumes nothing.
+-- A walk begun, by its faults: 7, 2, 8, 20 each where those before it do not hold, and its place
+-- where none does; what the code's winding tells of these (`start-below`, `leaves-by`, `total-by`,
+-- `place-is`). Assumes nothing.
 use mathlib.Core.Path.{_≡_, refl, sym, _∙_, ap}
 use mathlib.Core.Bool.{Bool, true, false}
 use mathlib.Core.List.{List, [], _∷_}

@@ -1,6 +1,7 @@
-// A walk begun (`begin`, the Rust's `Walk::new`): its start, its winding, its first place. It takes any contour and refuses with 7, 2, 8, 20, in
-// this order. `begin_checked` is the same of a contour whose length and range are judged already. Leans on walk_winding, walk_extremes,
-// walk_read, table (the range).
+// A walk begun (`begin`, the Rust's `Walk::new`): its start, its winding, its first place. It takes
+// any contour and refuses with 7, 2, 8, 20, in this order. `begin_checked` is the same of a contour
+// whose length and range are judged already. Leans on walk_winding, walk_extremes, walk_read, table
+// (the range).
 ghost use mathlib.Core.Path.{_≡_};
 ghost use mathlib.Core.Bool.{true, false};
 ghost use Prim.Native.Nat.{_<_};

@@ -1,5 +1,6 @@
-// The example of a pair in docs/USE.md: document 01's K minus K, (0,0) (2,0) (0,2) less itself, stepped to its end, and then a step refused, for a place
-// that is no corner (23). What it prints is its file `stdout`. Leans on walk_pair, walk_next and lines.
+// The example of a pair in docs/USE.md: document 01's K minus K, (0,0) (2,0) (0,2) less itself,
+// stepped to its end, and then a step refused, for a place that is no corner (23). What it prints
+// is its file `stdout`. Leans on walk_pair, walk_next and lines.
 ghost use mathlib.Core.Path.{_≡_};
 ghost use mathlib.Core.Bool.{true};
 ghost use Prim.Native.Nat.{_<_};
@@ -23,7 +24,8 @@ fn print_corner(p: IntPoint) {
     io::write_all(1, b"\n");
 }
 
-// Steps the pair once and writes what the call told. A corner takes a step, so that a pair comes to its end.
+// Steps the pair once and writes what the call told. A corner takes a step, so that a pair comes to
+// its end.
 fn print_next(left: &[i32], right: &[i32], at: ConvexSum) -> Progress
     ensures { λ r. ⌜ (r .on ≡ true → stepsLeft (r .at) < stepsLeft at) ⌝ }
 {

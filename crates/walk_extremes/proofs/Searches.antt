@@ -1,5 +1,6 @@
--- The searches of pair's specs/Walk.antt, from their first corner (`least-begins`, `greatest-begins`), one corner on (`least-turn`,
--- `greatest-turn`), and with none left (`least-ends`, `greatest-ends`). Assumes nothing.
+-- The searches of pair's specs/Walk.antt, from their first corner (`least-begins`,
+-- `greatest-begins`), one corner on (`least-turn`, `greatest-turn`), and with none left
+-- (`least-ends`, `greatest-ends`). Assumes nothing.
 use mathlib.Core.Path.{_≡_, refl, sym, _∙_, ap}
 use mathlib.Core.Bool.{Bool, true, false, cond}
 use mathlib.Core.List.{List, [], _∷_}

@@ -1,6 +1,7 @@
-// Where a walk starts (document 01): "at the lowest corner, then leftmost, first of equals; a reflected walk at the highest, then rightmost,
-// last of equals", and the other extreme, where a segment ends. Each place equals its definition in pair's specs/Walk.antt, for any
-// contour. Leans on walk_read.
+// Where a walk starts (document 01): "at the lowest corner, then leftmost, first of equals; a
+// reflected walk at the highest, then rightmost, last of equals", and the other extreme, where a
+// segment ends. Each place equals its definition in pair's specs/Walk.antt, for any contour. Leans
+// on walk_read.
 ghost use mathlib.Core.Path.{_≡_};
 ghost use mathlib.Core.Bool.{cond};
 ghost use Prim.Native.Nat.{_<_};

@@ -1,5 +1,7 @@
--- A function over a walk that takes it apart and calls a covered function on the contour and the place meets its contract, whatever the call answers: a walk of its MIR, by hand. `point` and `edge` are such functions: the
--- answer's type and the callee's name differ, and all that is known of the callee is that it meets its contract. Assumes nothing.
+-- A function over a walk that takes it apart and calls a covered function on the contour and the
+-- place meets its contract, whatever the call answers: a walk of its MIR, by hand. `point` and
+-- `edge` are such functions: the answer's type and the callee's name differ, and all that is known
+-- of the callee is that it meets its contract. Assumes nothing.
 use mathlib.Core.Path.{_≡_, refl}
 use mathlib.Core.List.{List, [], _∷_}
 use lib.Dec.{T as Holds}
@@ -45,7 +47,8 @@ use Rattle.walk_held.specs.declared.Walk.{Walk}
 use Rattle.walk_held.proofs.Walk as T
 use Rattle.walk_held.proofs.Walk.Laws as T′
 
--- the answer's type with its MIR type, the callee's name, and what both promise of a contour, a place and the answer
+-- the answer's type with its MIR type, the callee's name, and what both promise of a contour, a
+-- place and the answer
 module _ (R : RattleType) (mir : Ty) (typed : (r : R .Denot) (u : Val) → Is R r (u ∷ []) → Holds (hasTy mir u) × WT u) (#callee : Name) (Answers : List ℤ → Place → R .Denot → Type 0) where
   -- the struct's type, over the signature's lifetimes
   abbrev B : Lfts 1 → RattleType

@@ -28,7 +28,8 @@ pub record BegunWalk (lent : RefT (List ℤ)) (reflected : Bool) (fault : ℕ) (
   pub contour : r .contour ≡ lent
   pub begins : BegunPlace (now lent) reflected fault (r .place)
 
--- the walk w advanced, with the number that is told: over the same contour, the very slice; a refused one stands where it stood (`MovedBy`)
+-- the walk w advanced, with the number that is told: over the same contour, the very slice; a
+-- refused one stands where it stood (`MovedBy`)
 pub record AdvancedWalk (w : Walk) (fault : ℕ) (r : Walk) : Type 0 where
   pub contour : r .contour ≡ w .contour
   pub number : fault ≡ stepFault (now (w .contour)) (w .place)

@@ -1,8 +1,11 @@
-// A walk that holds its contour (document 01: "Walk holds a contour slice, index, direction and remaining steps; thin point, edge and advance over
-// covered functions"). Each call takes the struct apart and hands its contour and its place to the covered function that answers: it takes any walk,
-// also one that a caller made up, and refuses as walk_step does. `begin` and `advance` return the walk and tell the fault number, 0 for none, in a
-// lent number; a refused step returns it as it came. The four are proved by walks of their MIR, by hand; `begun` and `advanced`, which compute the places, are not,
-// and are exported to C for the runs beside the Rust alone. Leans on walk_step and walk_begin.
+// A walk that holds its contour (document 01: "Walk holds a contour slice, index, direction and
+// remaining steps; thin point, edge and advance over covered functions"). Each call takes the
+// struct apart and hands its contour and its place to the covered function that answers: it takes
+// any walk, also one that a caller made up, and refuses as walk_step does. `begin` and `advance`
+// return the walk and tell the fault number, 0 for none, in a lent number; a refused step returns
+// it as it came. The four are proved by walks of their MIR, by hand; `begun` and `advanced`, which
+// compute the places, are not, and are exported to C for the runs beside the Rust alone. Leans on
+// walk_step and walk_begin.
 ghost use mathlib.Core.Path.{_≡_};
 ghost use Rattle.walk.specs.Calls.{stepFault};
 ghost use Rattle.walk.specs.Contracts.{PointedBy, EdgedBy, MovedBy};
@@ -46,7 +49,8 @@ pub extern "C" fn begun(contour: &[i32], reflected: bool, fault: &mut u32) -> Pl
     }
 }
 
-// A walk begun on a contour, and the fault number in `fault`. Refuses with 7, 2, 8, 20, in this order; a refused walk has no step.
+// A walk begun on a contour, and the fault number in `fault`. Refuses with 7, 2, 8, 20, in this
+// order; a refused walk has no step.
 pub fn begin<'a>(contour: &'a [i32], reflected: bool, fault: &mut u32) -> Walk<'a>
     ensures { λ r. ⌜ BegunWalk (contour .entry) reflected (now (fault .exit)) r ⌝ }
 {
@@ -71,7 +75,8 @@ pub fn edge<'a>(w: Walk<'a>) -> Edged
     walk_step::edge(w.contour, w.place)
 }
 
-// Where a walk stands one step on, or as it came where it is refused, and the fault number in `fault`.
+// Where a walk stands one step on, or as it came where it is refused, and the fault number in
+// `fault`.
 #[no_mangle]
 pub extern "C" fn advanced(contour: &[i32], place: Place, fault: &mut u32) -> Place
     ensures { λ r. ⌜ (now (fault .exit) ≡ stepFault (now (contour .entry)) place) × MovedBy (now (contour .entry)) place r ⌝ }
@@ -89,7 +94,8 @@ pub extern "C" fn advanced(contour: &[i32], place: Place, fault: &mut u32) -> Pl
     }
 }
 
-// The walk one step on, over the same contour, and the fault number in `fault`. Refuses with 7, 23, 2, in this order; a refused walk comes back as it came.
+// The walk one step on, over the same contour, and the fault number in `fault`. Refuses with 7, 23,
+// 2, in this order; a refused walk comes back as it came.
 pub fn advance<'a>(w: Walk<'a>, fault: &mut u32) -> Walk<'a>
     ensures { λ r. ⌜ AdvancedWalk (w .entry) (now (fault .exit)) r ⌝ }
 {

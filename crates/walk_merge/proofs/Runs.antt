@@ -1,6 +1,8 @@
--- The steps of one edge: which edges belong to it (`fresh-belongs`, `zero-belongs`, `by-direction`), the direction after one (`took-headed`,
--- `took-fresh`), a run that stops or goes on (`run-none`, `run-first`, `run-second`), and one turn of the code's loop (`stopped-on`,
--- `went-on`, `took-first`, `left-first`), where both walks stay judged (`first-judged`, `second-judged`). Assumes nothing.
+-- The steps of one edge: which edges belong to it (`fresh-belongs`, `zero-belongs`,
+-- `by-direction`), the direction after one (`took-headed`, `took-fresh`), a run that stops or goes
+-- on (`run-none`, `run-first`, `run-second`), and one turn of the code's loop (`stopped-on`,
+-- `went-on`, `took-first`, `left-first`), where both walks stay judged (`first-judged`,
+-- `second-judged`). Assumes nothing.
 use mathlib.Core.Path.{_≡_, refl, sym, _∙_, ap, subst}
 use mathlib.Core.Bool.{Bool, true, false, not, cond}
 use mathlib.Core.List.{List}

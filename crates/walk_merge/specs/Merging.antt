@@ -1,5 +1,5 @@
--- One edge of a pair as the code holds it, read as pair's specs/Pair.antt has it: its direction and the steps so far.
--- Assumes nothing.
+-- One edge of a pair as the code holds it, read as pair's specs/Pair.antt has it: its direction and
+-- the steps so far. Assumes nothing.
 use mathlib.Core.Path.{_≡_}
 use mathlib.Core.Bool.{Bool, true, cond}
 use mathlib.Core.List.{List}

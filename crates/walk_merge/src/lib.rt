@@ -1,5 +1,6 @@
-// One edge of a pair: the steps of two walks while their edges belong to it (document 01: "Equal directions merge into one edge"; the loop of the
-// Rust's `next`). The walks and contours are judged already (`Judged` of walk_pick); `run` equals its definition in pair's specs/Pair.antt.
+// One edge of a pair: the steps of two walks while their edges belong to it (document 01: "Equal
+// directions merge into one edge"; the loop of the Rust's `next`). The walks and contours are
+// judged already (`Judged` of walk_pick); `run` equals its definition in pair's specs/Pair.antt.
 // Leans on walk_pick, walk_move, walk_read, plane.
 ghost use mathlib.Core.Path.{_≡_};
 ghost use mathlib.Core.Bool.{true, false};
@@ -18,7 +19,8 @@ use plane::Ordering;
 use walk_move::advance_of;
 use walk_pick::Step;
 
-// The steps of one edge: whether they go on, the direction of the edge, if it is begun, and where both walks stand.
+// The steps of one edge: whether they go on, the direction of the edge, if it is begun, and where
+// both walks stand.
 pub struct Going {
     pub on: bool,
     pub headed: bool,
@@ -45,7 +47,8 @@ fn belongs(headed: bool, heading: IntVector, e: IntVector) -> bool
     }
 }
 
-// An edge that belongs is taken: the walks stand at t, and the edge begun has its direction, unless it is zero.
+// An edge that belongs is taken: the walks stand at t, and the edge begun has its direction, unless
+// it is zero.
 fn take(g: Going, e: IntVector, t: ConvexSum) -> Going
     requires { ⌜ Short (g .heading) × Short e ⌝ }
     ensures { λ r. ⌜ Took g (vector e) t r ⌝ }

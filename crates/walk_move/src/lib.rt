@@ -1,5 +1,6 @@
-// One walk's point, edge and next place, of a place that is judged already (document 01: "hands out point, edge and the next place"; "A reflected
-// walk negates points and edges"). Leans on walk_read and plane.
+// One walk's point, edge and next place, of a place that is judged already (document 01: "hands out
+// point, edge and the next place"; "A reflected walk negates points and edges"). Leans on walk_read
+// and plane.
 ghost use mathlib.Core.Path.{_≡_};
 ghost use mathlib.Core.Bool.{false};
 ghost use Prim.Native.Nat.{_<_, _≤_};

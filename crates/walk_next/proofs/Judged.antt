@@ -1,5 +1,5 @@
--- A pair's step of walks that are judged: no fault (`no-fault`), the defined answer (`answered`), and after a corner both walks are judged again, with
--- fewer steps left (`gave`). Assumes nothing.
+-- A pair's step of walks that are judged: no fault (`no-fault`), the defined answer (`answered`),
+-- and after a corner both walks are judged again, with fewer steps left (`gave`). Assumes nothing.
 use mathlib.Core.Path.{_≡_, refl, sym, _∙_, ap, subst}
 use mathlib.Core.Bool.{false}
 use mathlib.Core.List.{List, [], _∷_}

@@ -1,5 +1,5 @@
--- What the steps of one edge leave: both walks on their contours (`run-placed`), and both run out where no edge was begun (`run-out`).
--- Assumes nothing.
+-- What the steps of one edge leave: both walks on their contours (`run-placed`), and both run out
+-- where no edge was begun (`run-out`). Assumes nothing.
 use mathlib.Core.Path.{_≡_, refl, sym, _∙_, ap, subst}
 use mathlib.Core.Bool.{true, false, cond}
 use mathlib.Core.List.{List, _∷_}

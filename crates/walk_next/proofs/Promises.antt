@@ -1,6 +1,7 @@
--- A pair's step keeps its promises (`next-by`): its answer by fault (`next-refused`, `next-given`), what an accepted one was judged by (`judged-by`),
--- the faults one by one (`fault-left-7` and the
--- others), a corner and the end from the code's steps (`corner-given`, `end-given`). Assumes nothing.
+-- A pair's step keeps its promises (`next-by`): its answer by fault (`next-refused`, `next-given`),
+-- what an accepted one was judged by (`judged-by`), the faults one by one (`fault-left-7` and the
+-- others), a corner and the end from the code's steps (`corner-given`, `end-given`). Assumes
+-- nothing.
 use mathlib.Core.Path.{_≡_, refl, sym, _∙_, ap, subst}
 use mathlib.Core.Bool.{Bool, true, false, cond}
 use mathlib.Core.List.{List, [], _∷_}

@@ -1,6 +1,8 @@
-// A pair of walks stepped (the Rust's `ConvexSum::next`): `next` hands out one corner or tells the end. It takes any contours and any places, also
-// ones that a caller made up, and refuses by number, each kind left before right: 7, 23, 2; refused walks come back as they came. `emit` is
-// `next` of input that is judged already. Leans on walk_merge, walk_move, walk_read, table (the range).
+// A pair of walks stepped (the Rust's `ConvexSum::next`): `next` hands out one corner or tells the
+// end. It takes any contours and any places, also ones that a caller made up, and refuses by
+// number, each kind left before right: 7, 23, 2; refused walks come back as they came. `emit` is
+// `next` of input that is judged already. Leans on walk_merge, walk_move, walk_read, table (the
+// range).
 ghost use mathlib.Core.Path.{_≡_};
 ghost use Rattle.plane.specs.Plane.{_+ᵖ_};
 ghost use Rattle.plane.specs.Machine.{point, OnGrid};

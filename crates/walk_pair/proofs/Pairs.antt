@@ -1,5 +1,6 @@
--- A pair begun, by its faults: 7 and 2 of either walk (`left-7`, `right-7`, `left-2`, `right-2`), and past those by the two walks begun (`pair-at`,
--- `pair-first`, `pair-second`, `pair-both`). Assumes nothing.
+-- A pair begun, by its faults: 7 and 2 of either walk (`left-7`, `right-7`, `left-2`, `right-2`),
+-- and past those by the two walks begun (`pair-at`, `pair-first`, `pair-second`, `pair-both`).
+-- Assumes nothing.
 use mathlib.Core.Path.{_≡_, refl, sym, _∙_, ap}
 use mathlib.Core.Bool.{Bool, true, false, cond}
 use mathlib.Core.List.{List, [], _∷_}

@@ -1,5 +1,6 @@
-// A pair of walks begun: `new` for a sum, `difference` with the second walk reflected (the Rust's `ConvexSum`). They take any contours and refuse
-// with 7, 2, 8, 20, in this order, each left before right. Leans on walk_begin, walk_read, table (the range).
+// A pair of walks begun: `new` for a sum, `difference` with the second walk reflected (the Rust's
+// `ConvexSum`). They take any contours and refuse with 7, 2, 8, 20, in this order, each left before
+// right. Leans on walk_begin, walk_read, table (the range).
 ghost use mathlib.Core.Path.{_≡_};
 ghost use mathlib.Core.Bool.{true, false};
 ghost use Rattle.corners.specs.Corners.{offRange};

@@ -1,5 +1,6 @@
--- The statement of specs/HandedOut.antt (`all-handed-out`). In order: the calls from any judged walks hand out what the pair emits (`hands-emit`), and no
--- other list (`handed-once`); a pair begun is judged (`begun-judged`) and emits its contour (`begun-contour`). Assumes nothing.
+-- The statement of specs/HandedOut.antt (`all-handed-out`). In order: the calls from any judged
+-- walks hand out what the pair emits (`hands-emit`), and no other list (`handed-once`); a pair
+-- begun is judged (`begun-judged`) and emits its contour (`begun-contour`). Assumes nothing.
 use mathlib.Core.Path.{_≡_, refl, sym, _∙_, ap, subst}
 use mathlib.Core.Bool.{Bool, false}
 use mathlib.Core.List.{List, [], _∷_}

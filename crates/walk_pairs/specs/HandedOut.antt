@@ -1,5 +1,6 @@
--- What calling a pair's step from two walks begun hands out, as one statement: the pair's contour and nothing else, and where both contours go
--- once round a convex area above zero, the farthest reach (demand 3). It is proved in proofs/. Assumes nothing.
+-- What calling a pair's step from two walks begun hands out, as one statement: the pair's contour
+-- and nothing else, and where both contours go once round a convex area above zero, the farthest
+-- reach (demand 3). It is proved in proofs/. Assumes nothing.
 use mathlib.Core.Path.{_≡_}
 use mathlib.Core.Bool.{Bool, true, false}
 use mathlib.Core.List.{List, [], _∷_}

@@ -1,6 +1,7 @@
--- Which walk steps: the lesser edge by the code's tests (`zero-first`, `zero-second`, `not-after`, `after`), the walk by its steps left (`neither`,
--- `only-second`, `only-first`, `both`), and that a walk which steps has a step left (`first-left`, `second-left`); what an edge's reading
--- asks, of a walk that is judged (`edge-ready`). Assumes nothing.
+-- Which walk steps: the lesser edge by the code's tests (`zero-first`, `zero-second`, `not-after`,
+-- `after`), the walk by its steps left (`neither`, `only-second`, `only-first`, `both`), and that a
+-- walk which steps has a step left (`first-left`, `second-left`); what an edge's reading asks, of a
+-- walk that is judged (`edge-ready`). Assumes nothing.
 use mathlib.Core.Path.{_≡_, sym, _∙_, ap, subst}
 use mathlib.Core.Bool.{Bool, true, false, cond}
 use mathlib.Core.List.{List}

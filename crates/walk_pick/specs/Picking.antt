@@ -1,4 +1,5 @@
--- Which walk of a pair steps, as the code holds it, read as pair's specs/Pair.antt has it. Assumes nothing.
+-- Which walk of a pair steps, as the code holds it, read as pair's specs/Pair.antt has it. Assumes
+-- nothing.
 use mathlib.Core.Path.{_≡_}
 use mathlib.Core.Bool.{false}
 use mathlib.Core.List.{List}

@@ -1,6 +1,7 @@
-// Which walk of a pair steps next, and its edge (document 01: "The lesser edge steps; the first operand steps on equality. A zero edge steps without
-// effect and before any comparison, the first operand's first"; the Rust's `next_step`). The walks and contours are judged already
-// (`Judged` of specs/Picking.antt). Leans on walk_move and plane.
+// Which walk of a pair steps next, and its edge (document 01: "The lesser edge steps; the first
+// operand steps on equality. A zero edge steps without effect and before any comparison, the first
+// operand's first"; the Rust's `next_step`). The walks and contours are judged already (`Judged` of
+// specs/Picking.antt). Leans on walk_move and plane.
 ghost use mathlib.Core.Path.{_≡_};
 ghost use Rattle.plane.specs.Machine.{vector, Short};
 ghost use Rattle.corners.specs.Corners.{pointsOf};

@@ -1,5 +1,5 @@
--- Corners on the grid: none is off where no number is (`off-nowhere`), and what a corner that is not off is for the code (`not-off`, `grid-at`).
--- Assumes nothing.
+-- Corners on the grid: none is off where no number is (`off-nowhere`), and what a corner that is
+-- not off is for the code (`not-off`, `grid-at`). Assumes nothing.
 use mathlib.Core.Path.{_≡_, _∙_, ap}
 use mathlib.Core.Bool.{false, not}
 use mathlib.Core.List.{List}

@@ -1,6 +1,7 @@
-// A lent contour and a walk's place on it, read: whether the length is broken (fault 7), whether a place is no corner (fault 23), whether a
-// corner is off the grid (fault 2), and the next place. Its corners are read through crate corners. Leans on pair, walk and table
-// (definitions), corners and plane.
+// A lent contour and a walk's place on it, read: whether the length is broken (fault 7), whether a
+// place is no corner (fault 23), whether a corner is off the grid (fault 2), and the next place.
+// Its corners are read through crate corners. Leans on pair, walk and table (definitions), corners
+// and plane.
 ghost use mathlib.Core.Path.{_≡_};
 ghost use mathlib.Core.Bool.{false};
 ghost use Prim.Native.Nat.{_<_, _≤_};
@@ -31,7 +32,8 @@ pub fn length_broken(contour: &[i32]) -> bool
     corners::corner_count(contour) > MAX_CONTOUR
 }
 
-// Whether a walk's place, or either end where it walks a segment, is no corner of a contour of n corners.
+// Whether a walk's place, or either end where it walks a segment, is no corner of a contour of n
+// corners.
 pub fn misplaced(n: usize, w: Place) -> bool
     ensures { λ r. ⌜ r ≡ misplaced n w ⌝ }
 {

@@ -1,4 +1,5 @@
--- The calls' answers, by the fault that the code has found: refused, or the values. Assumes nothing.
+-- The calls' answers, by the fault that the code has found: refused, or the values. Assumes
+-- nothing.
 use mathlib.Core.Path.{_≡_, sym, _∙_, ap}
 use mathlib.Core.Bool.{false}
 use mathlib.Core.List.{List}

@@ -1,4 +1,5 @@
--- The faults of a walk's point and of its step, each where those before it do not hold. Assumes nothing.
+-- The faults of a walk's point and of its step, each where those before it do not hold. Assumes
+-- nothing.
 use mathlib.Core.Path.{_≡_, sym, _∙_}
 use mathlib.Core.Bool.{Bool, true, false}
 use mathlib.Core.List.{List}

@@ -1,3 +1,4 @@
--- Laws that belong to no one function: the faults of a walk's calls, one by one, and the answers by them.
+-- Laws that belong to no one function: the faults of a walk's calls, one by one, and the answers by
+-- them.
 pub mod Faults
 pub mod Answers

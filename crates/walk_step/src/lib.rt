@@ -1,6 +1,7 @@
-// The calls on one walk (the Rust's `Walk`): `point`, `edge`, `advance`, and `next`, which hands out the edge and the next place at once. Each takes
-// any contour and any place, also one that a caller made up, and refuses by number: 7, 23, 2, in this order; a refused walk comes back as
-// it came. A lent contour is never changed. Leans on walk_move and walk_read.
+// The calls on one walk (the Rust's `Walk`): `point`, `edge`, `advance`, and `next`, which hands
+// out the edge and the next place at once. Each takes any contour and any place, also one that a
+// caller made up, and refuses by number: 7, 23, 2, in this order; a refused walk comes back as it
+// came. A lent contour is never changed. Leans on walk_move and walk_read.
 ghost use mathlib.Core.Path.{_≡_};
 ghost use Rattle.walk.specs.Calls.{pointFault, stepFault};
 ghost use Rattle.walk.specs.Contracts.{PointedBy, EdgedBy, AdvancedBy, SteppedBy};

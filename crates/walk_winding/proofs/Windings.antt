@@ -1,5 +1,6 @@
--- The winding, term by term: a term by its places (`term-is`), the total so far (`wound-turn`, `wound-leaves`, `wound-ends`), and what the whole
--- tells: that it leaves, or the winding (`wound-total`, `wound-left`). Assumes nothing.
+-- The winding, term by term: a term by its places (`term-is`), the total so far (`wound-turn`,
+-- `wound-leaves`, `wound-ends`), and what the whole tells: that it leaves, or the winding
+-- (`wound-total`, `wound-left`). Assumes nothing.
 use mathlib.Core.Path.{_≡_, refl, sym, _∙_, ap}
 use mathlib.Core.Bool.{true, false, cond}
 use mathlib.Core.List.{List, [], _∷_, map}

@@ -1,5 +1,6 @@
--- The winding as the code forms it: place by place round the contour, its running total watched (document 01, fault 8: "a winding's running
--- total, as the walk forms it, leaves signed 64 bits"). Assumes nothing.
+-- The winding as the code forms it: place by place round the contour, its running total watched
+-- (document 01, fault 8: "a winding's running total, as the walk forms it, leaves signed 64 bits").
+-- Assumes nothing.
 use mathlib.Core.Bool.{cond}
 use mathlib.Core.List.{List, [], _∷_}
 use Prim.Native.Nat.{ℕ, _-_}

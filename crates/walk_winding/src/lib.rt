@@ -1,5 +1,6 @@
-// The winding of a contour seen from a corner, in table order, with its running total watched: it is tested before each addition, so nothing wraps
-// (document 01, fault 8). Leans on walk_read and plane.
+// The winding of a contour seen from a corner, in table order, with its running total watched: it
+// is tested before each addition, so nothing wraps (document 01, fault 8). Leans on walk_read and
+// plane.
 ghost use mathlib.Core.Path.{_≡_};
 ghost use mathlib.Core.Bool.{false};
 ghost use Prim.Native.Nat.{_+_, _<_};
@@ -46,7 +47,8 @@ fn round_to(n: usize, i: usize) -> usize
     i - n
 }
 
-// Term k of the winding seen from corner s: the cross of corners s + k and s + k + 1, round the contour.
+// Term k of the winding seen from corner s: the cross of corners s + k and s + k + 1, round the
+// contour.
 fn term_at(contour: &[i32], s: usize, k: usize) -> i64
     requires { ⌜ (offRange (now contour) ≡ false) × (s < length (pointsOf (now contour))) × (k < length (pointsOf (now contour))) ⌝ }
     ensures { λ r. ⌜ (r ≡ getD (windingTerms s (pointsOf (now (contour .entry)))) k (pos 0)) × CrossSize r ⌝ }

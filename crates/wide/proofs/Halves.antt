@@ -1,4 +1,5 @@
--- A word by half a word: the products of its halves (`half-product`), and that their sum is the product (`halves`). Assumes nothing.
+-- A word by half a word: the products of its halves (`half-product`), and that their sum is the
+-- product (`halves`). Assumes nothing.
 use mathlib.Core.Path.{_≡_, _∙_, ap}
 use Prim.Native.Nat.{ℕ, _+_, _*_, _/_, _%_, _≤_, _<_}
 use native.Mathlib.Omega.{arith}

@@ -1,4 +1,5 @@
--- Two words against two words: which is less (`less-low`, `less-high`), and what is left of one without the other. Assumes nothing.
+-- Two words against two words: which is less (`less-low`, `less-high`), and what is left of one
+-- without the other. Assumes nothing.
 use mathlib.Core.Path.{_≡_, sym, _∙_}
 use Prim.Native.Nat.{ℕ, _+_, _-_, _^_, _≤_, _<_}
 use native.Mathlib.Omega.{arith}

@@ -1,4 +1,5 @@
--- A sign with a magnitude: its size, and how large its high word can be; the product of two numbers, and sums of numbers of one sign and of two. Assumes nothing.
+-- A sign with a magnitude: its size, and how large its high word can be; the product of two
+-- numbers, and sums of numbers of one sign and of two. Assumes nothing.
 use mathlib.Core.Path.{_≡_, refl, sym}
 use mathlib.Core.Bool.{Bool, true, false, not}
 use Prim.Native.Nat.{ℕ, _+_, _*_, _^_, _<_}

@@ -1,4 +1,5 @@
--- Numbers of two 64-bit words (document 01, "Splitting past a limit m": "The centroid sums need two 64-bit words"). Assumes nothing.
+-- Numbers of two 64-bit words (document 01, "Splitting past a limit m": "The centroid sums need two
+-- 64-bit words"). Assumes nothing.
 use mathlib.Core.Bool.{Bool, cond}
 use Prim.Native.Nat.{ℕ, _+_, _*_, _^_}
 use lib.IntN.{ℤ, pos, negℤ}

@@ -1,5 +1,6 @@
-// Numbers of two 64-bit words, for sums of products that one word does not hold: i_float's `SignedProduct`. A product with its sign (`multiply`) and a
-// sum (`add`), each equal to that of the numbers in ℤ (specs/Words.antt). Leans on integers.
+// Numbers of two 64-bit words, for sums of products that one word does not hold: i_float's
+// `SignedProduct`. A product with its sign (`multiply`) and a sum (`add`), each equal to that of
+// the numbers in ℤ (specs/Words.antt). Leans on integers.
 ghost use mathlib.Core.Path.{_≡_};
 ghost use mathlib.Core.Bool.{not};
 ghost use Prim.Native.Nat.{_+_, _*_, _^_, _≤_, _<_};
@@ -45,7 +46,8 @@ pub fn absolute(z: i64) -> u64
     (-z) as u64
 }
 
-// (ah, al) + (bh, bl): the low words are added so that they wrap, and the carry goes to the high word.
+// (ah, al) + (bh, bl): the low words are added so that they wrap, and the carry goes to the high
+// word.
 pub fn add_magnitudes(ah: u64, al: u64, bh: u64, bl: u64) -> Words
     requires { ⌜ ah + bh + 1 < 2 ^ 64 ⌝ }
     ensures { λ r. ⌜ magnitude r ≡ twoWords ah al + twoWords bh bl ⌝ }

@@ -1,5 +1,6 @@
--- A digit of a quotient guessed from the upper half of the divisor (`Guess`): the first guess, a guess that is too large made one less, and a guess that is
--- right. v₁ is v's upper half and v₀ its lower one. Assumes nothing.
+-- A digit of a quotient guessed from the upper half of the divisor (`Guess`): the first guess, a
+-- guess that is too large made one less, and a guess that is right. v₁ is v's upper half and v₀ its
+-- lower one. Assumes nothing.
 use mathlib.Core.Path.{_≡_, sym, _∙_, ap, subst}
 use Prim.Native.Nat.{ℕ, zero, suc, _+_, _*_, _-_, _/_, _%_, _^_, _≤_, _<_}
 use native.Mathlib.Omega.{arith}

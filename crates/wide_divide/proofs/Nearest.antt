@@ -1,4 +1,5 @@
--- A quotient to nearest from a quotient and a remainder: one more where the remainder is at least half the divisor. Assumes nothing.
+-- A quotient to nearest from a quotient and a remainder: one more where the remainder is at least
+-- half the divisor. Assumes nothing.
 use mathlib.Core.Path.{_≡_, sym}
 use Prim.Native.Nat.{ℕ, _+_, _*_, _-_, _≤_, _<_}
 use native.Mathlib.Omega.{arith}

@@ -1,5 +1,6 @@
--- A dividend and a divisor doubled s times, P = 2^s: the words that code shifts (`top-below`, `scaled`), and the quotient and remainder that come of them
--- (`unscaled`); how often a number is doubled until its top bit is set (`normal-of`). Assumes nothing.
+-- A dividend and a divisor doubled s times, P = 2^s: the words that code shifts (`top-below`,
+-- `scaled`), and the quotient and remainder that come of them (`unscaled`); how often a number is
+-- doubled until its top bit is set (`normal-of`). Assumes nothing.
 use mathlib.Core.Path.{_≡_, sym, _∙_, ap, subst}
 use Prim.Native.Nat.{ℕ, suc, _+_, _*_, _-_, _/_, _%_, _^_, _≤_, _<_}
 use native.Mathlib.Omega.{arith}

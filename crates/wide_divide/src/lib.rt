@@ -1,5 +1,6 @@
-// A number of two words divided by one word: whole, with what is left (`divide`), and rounded to nearest (`divide_with_rounding`). Each is the quotient
-// of the numbers in ℕ (specs/Quotients.antt). Leans on wide.
+// A number of two words divided by one word: whole, with what is left (`divide`), and rounded to
+// nearest (`divide_with_rounding`). Each is the quotient of the numbers in ℕ
+// (specs/Quotients.antt). Leans on wide.
 ghost use mathlib.Core.Path.{_≡_};
 ghost use Prim.Native.Nat.{_+_, _*_, _^_, _≤_, _<_};
 ghost use Rattle.wide.specs.Words.{twoWords};
@@ -12,8 +13,8 @@ pub struct Quotient {
     pub remainder: u64,
 }
 
-// A digit of 32 bits: u * 2^32 + x by v, whose top bit is set. The first guess, by v's upper half alone, is at most two too large (Knuth, The Art of
-// Computer Programming 2, 4.3.1, theorem B).
+// A digit of 32 bits: u * 2^32 + x by v, whose top bit is set. The first guess, by v's upper half
+// alone, is at most two too large (Knuth, The Art of Computer Programming 2, 4.3.1, theorem B).
 fn divide_digit(u: u64, x: u64, v: u64) -> Quotient
     requires { ⌜ (2 ^ 63 ≤ v) × (u < v) × (x < 2 ^ 32) ⌝ }
     ensures { λ r. ⌜ Divided (u * 2 ^ 32 + x) v r × (r .quotient < 2 ^ 32) ⌝ }
@@ -62,8 +63,9 @@ fn doublings(d: u64) -> u32
     u64::leading_zeros(d)
 }
 
-// (high, low) by d, where high is below d, so that the quotient fits a word. One division where high is 0; otherwise both are doubled until d's top bit is
-// set, which leaves the quotient as it is.
+// (high, low) by d, where high is below d, so that the quotient fits a word. One division where
+// high is 0; otherwise both are doubled until d's top bit is set, which leaves the quotient as it
+// is.
 pub fn divide(high: u64, low: u64, d: u64) -> Quotient
     requires { ⌜ high < d ⌝ }
     ensures { λ r. ⌜ Divided (twoWords high low) d r ⌝ }

@@ -1,4 +1,5 @@
--- `area_listing::listing` meets its contract: a file's refusal, or the listing of its parts; any answer fits. Assumes nothing.
+-- `area_listing::listing` meets its contract: a file's refusal, or the listing of its parts; any
+-- answer fits. Assumes nothing.
 use mathlib.Core.Path.{sym}
 use native.Mathlib.Omega.{arith}
 use lib.Seq.{length-take-le}

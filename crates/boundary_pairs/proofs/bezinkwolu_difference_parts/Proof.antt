@@ -1,4 +1,5 @@
--- `boundary_pairs::bezinkwolu_difference_parts` meets its contract: `difference_parts`, its answer laid out for C. Assumes nothing.
+-- `boundary_pairs::bezinkwolu_difference_parts` meets its contract: `difference_parts`, its answer
+-- laid out for C. Assumes nothing.
 use mathlib.Core.Bool.{true}
 use borrow.Author.Needs.{needs}
 use Rattle.boundary_pairs.proofs.Answer.{as-told}

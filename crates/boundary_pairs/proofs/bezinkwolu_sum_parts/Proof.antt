@@ -1,4 +1,5 @@
--- `boundary_pairs::bezinkwolu_sum_parts` meets its contract: `sum_parts`, its answer laid out for C. Assumes nothing.
+-- `boundary_pairs::bezinkwolu_sum_parts` meets its contract: `sum_parts`, its answer laid out for
+-- C. Assumes nothing.
 use mathlib.Core.Bool.{false}
 use borrow.Author.Needs.{needs}
 use Rattle.boundary_pairs.proofs.Answer.{as-told}

@@ -1,4 +1,5 @@
--- `boundary_place::bezinkwolu_placement` meets its contract: each case of the answer, laid out. Assumes nothing.
+-- `boundary_place::bezinkwolu_placement` meets its contract: each case of the answer, laid out.
+-- Assumes nothing.
 use mathlib.Core.Path.{sym, _∙_, ap}
 use borrow.Author.Needs.{needs}
 use Rattle.integers.proofs.Bits.{kept}

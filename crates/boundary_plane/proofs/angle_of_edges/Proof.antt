@@ -1,4 +1,5 @@
--- `boundary_plane::angle_of_edges` meets its contract: the order of two differences as a number, or the refusal. Assumes nothing.
+-- `boundary_plane::angle_of_edges` meets its contract: the order of two differences as a number, or
+-- the refusal. Assumes nothing.
 use mathlib.Core.Path.{_∙_, ap}
 use borrow.Author.Needs.{needs}
 use mir.Syntax.{w64}

@@ -1,4 +1,5 @@
--- `boundary_plane::area_of_triangle` meets its contract: the doubled area, or the refusal. Assumes nothing.
+-- `boundary_plane::area_of_triangle` meets its contract: the doubled area, or the refusal. Assumes
+-- nothing.
 use mathlib.Core.Path.{_∙_}
 use borrow.Author.Needs.{needs}
 use mir.Syntax.{w64}

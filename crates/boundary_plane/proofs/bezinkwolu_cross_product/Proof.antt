@@ -1,4 +1,5 @@
--- `boundary_plane::bezinkwolu_cross_product` meets its contract: `cross_of_edges` of points that hold the numbers. Assumes nothing.
+-- `boundary_plane::bezinkwolu_cross_product` meets its contract: `cross_of_edges` of points that
+-- hold the numbers. Assumes nothing.
 use mathlib.Core.Path.{_∙_}
 use borrow.Author.Needs.{needs}
 use Rattle.boundary_plane.specs.Told.{toldCross}

@@ -1,4 +1,5 @@
--- `boundary_plane::cross_of_edges` meets its contract: the cross product of two differences, or the refusal. Assumes nothing.
+-- `boundary_plane::cross_of_edges` meets its contract: the cross product of two differences, or the
+-- refusal. Assumes nothing.
 use mathlib.Core.Path.{_∙_}
 use borrow.Author.Needs.{needs}
 use mir.Syntax.{w64}

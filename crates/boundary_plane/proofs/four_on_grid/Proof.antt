@@ -1,4 +1,5 @@
--- `boundary_plane::four_on_grid` meets its contract: `on_grid` of the first point, `three_on_grid` of the others. Assumes nothing.
+-- `boundary_plane::four_on_grid` meets its contract: `on_grid` of the first point, `three_on_grid`
+-- of the others. Assumes nothing.
 use borrow.Author.Needs.{needs}
 use Rattle.boundary_plane.proofs.Answers.{on-next, off-grid}
 use Rattle.boundary_plane.proofs.four_on_grid.Statement.{statement}

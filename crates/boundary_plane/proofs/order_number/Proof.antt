@@ -1,4 +1,5 @@
--- `boundary_plane::order_number` meets its contract: the number of the variant that each arm matched. Assumes nothing.
+-- `boundary_plane::order_number` meets its contract: the number of the variant that each arm
+-- matched. Assumes nothing.
 use mathlib.Core.Path.{sym, ap}
 use borrow.Author.Needs.{needs}
 use Rattle.boundary_plane.specs.Told.{orderNumber}

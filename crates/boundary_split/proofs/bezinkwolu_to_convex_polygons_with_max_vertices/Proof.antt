@@ -1,5 +1,5 @@
--- `boundary_split::bezinkwolu_to_convex_polygons_with_max_vertices` meets its contract: no such split, or the answer of split_parts. Assumes
--- nothing.
+-- `boundary_split::bezinkwolu_to_convex_polygons_with_max_vertices` meets its contract: no such
+-- split, or the answer of split_parts. Assumes nothing.
 use borrow.Author.Needs.{needs}
 use Rattle.mesh.specs.Rows.{rowsMesh}
 use Rattle.boundary_split.proofs.Numbered.{no-split, by-split}

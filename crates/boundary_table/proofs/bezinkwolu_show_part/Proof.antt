@@ -1,4 +1,5 @@
--- `boundary_table::bezinkwolu_show_part` meets its contract: the fault and the length of what `show_part` shows, and where that begins. Assumes nothing.
+-- `boundary_table::bezinkwolu_show_part` meets its contract: the fault and the length of what
+-- `show_part` shows, and where that begins. Assumes nothing.
 use borrow.Author.Needs.{needs}
 use Rattle.boundary_table.proofs.Place.{told-refused, shown-refused, right-kept, left-kept, right-told, left-told}
 use Rattle.boundary_table.proofs.bezinkwolu_show_part.Statement.{statement}

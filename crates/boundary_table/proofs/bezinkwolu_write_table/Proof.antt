@@ -1,4 +1,5 @@
--- `boundary_table::bezinkwolu_write_table` meets its contract: `write_table`, its answer laid out for C. Assumes nothing.
+-- `boundary_table::bezinkwolu_write_table` meets its contract: `write_table`, its answer laid out
+-- for C. Assumes nothing.
 use mathlib.Core.Path.{ap}
 use borrow.Author.Needs.{needs}
 use Rattle.boundary_table.specs.Told.{toldStored}

@@ -1,4 +1,5 @@
--- `boundary_table::first_number` meets its contract: part k of a table that is not broken begins within its corners. Assumes nothing.
+-- `boundary_table::first_number` meets its contract: part k of a table that is not broken begins
+-- within its corners. Assumes nothing.
 use native.Mathlib.Omega.{arith}
 use borrow.Author.Needs.{needs}
 use Rattle.table.proofs.Shown.{placed}

@@ -1,4 +1,5 @@
--- `boundary_walk::bezinkwolu_pair_new` meets its contract: each case of the answer, laid out. Assumes nothing.
+-- `boundary_walk::bezinkwolu_pair_new` meets its contract: each case of the answer, laid out.
+-- Assumes nothing.
 use mathlib.Core.Path.{_∙_, ap}
 use Rattle.boundary_walk.specs.Told.{toldPaired}
 use borrow.Author.Needs.{needs}

@@ -1,4 +1,5 @@
--- `convex_contour::append_contour` meets its contract: the two runs are one round (`ran-whole` of Contours). Assumes nothing.
+-- `convex_contour::append_contour` meets its contract: the two runs are one round (`ran-whole` of
+-- Contours). Assumes nothing.
 use borrow.Author.Needs.{needs}
 use native.Mathlib.Omega.{arith}
 use Rattle.convex_contour.proofs.Contours.{before-below, near-room, ran-whole}

@@ -1,4 +1,5 @@
--- `convex_contour::append_run` meets its contract: what it ensures, of the places passed, is the loop's invariant. Assumes nothing.
+-- `convex_contour::append_run` meets its contract: what it ensures, of the places passed, is the
+-- loop's invariant. Assumes nothing.
 use Prim.Native.Nat.{_-_, _≤_}
 use native.Mathlib.Omega.{arith}
 use borrow.Author.Needs.{needs}

@@ -1,4 +1,5 @@
--- `convex_contour::bends` meets its contract: the bits of the cross product are those of 0 where it is 0. Assumes nothing.
+-- `convex_contour::bends` meets its contract: the bits of the cross product are those of 0 where it
+-- is 0. Assumes nothing.
 use borrow.Author.Needs.{needs}
 use mathlib.Core.Path.{_∙_, ap}
 use mathlib.Core.Bool.{not}

@@ -1,4 +1,5 @@
--- `convex_gather::hand_out` meets its contract: each refusal and the answer, by the laws of Answer. Assumes nothing.
+-- `convex_gather::hand_out` meets its contract: each refusal and the answer, by the laws of Answer.
+-- Assumes nothing.
 use native.Mathlib.Omega.{arith}
 use borrow.Author.Needs.{needs}
 use Rattle.corners.proofs.Corners.{length-points}

@@ -1,4 +1,5 @@
--- `convex_grow::step` meets its contract: what is across by Choice, `moved-step` and `pushed-step` of Steps. Assumes nothing.
+-- `convex_grow::step` meets its contract: what is across by Choice, `moved-step` and `pushed-step`
+-- of Steps. Assumes nothing.
 use borrow.Author.Needs.{needs}
 use mathlib.Core.Path.{refl, _∙_}
 use lib.ListN.{length}

@@ -1,4 +1,5 @@
--- `convex_join::join_within` meets its contract: an accepted mesh has at most 1,024 triangles, and its parts are `answered`. Assumes nothing.
+-- `convex_join::join_within` meets its contract: an accepted mesh has at most 1,024 triangles, and
+-- its parts are `answered`. Assumes nothing.
 use borrow.Author.Needs.{needs}
 use Rattle.mesh.specs.Rows.{rowsMesh}
 use Rattle.convex_regions.proofs.Regions.{few-rows}

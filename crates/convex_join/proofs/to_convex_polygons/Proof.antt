@@ -1,4 +1,5 @@
--- `convex_join::to_convex_polygons` meets its contract: a refusal by convex_gather's `mesh-refused`, an answer by the four sizes. Assumes nothing.
+-- `convex_join::to_convex_polygons` meets its contract: a refusal by convex_gather's
+-- `mesh-refused`, an answer by the four sizes. Assumes nothing.
 use borrow.Author.Needs.{needs}
 use mathlib.Core.Path.{sym, _∙_}
 use Rattle.mesh.specs.Rows.{rowsMesh}

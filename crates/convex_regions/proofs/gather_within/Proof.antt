@@ -1,4 +1,5 @@
--- `convex_regions::gather_within` meets its contract: fresh work arrays are ready for `visit_all`. Assumes nothing.
+-- `convex_regions::gather_within` meets its contract: fresh work arrays are ready for `visit_all`.
+-- Assumes nothing.
 use borrow.Author.Needs.{needs}
 use mathlib.Core.Path.{sym, _∙_, ap}
 use native.Mathlib.Omega.{arith}

@@ -1,4 +1,5 @@
--- `convex_regions::visit` meets its contract: `visited-skip` and `visited-join` of Regions. Assumes nothing.
+-- `convex_regions::visit` meets its contract: `visited-skip` and `visited-join` of Regions. Assumes
+-- nothing.
 use borrow.Author.Needs.{needs}
 use mathlib.Core.List.{List}
 use mathlib.Core.Bool.{Bool}

@@ -1,4 +1,5 @@
--- `convex_regions::visit_all` meets its contract: the invariant is `Visiting` of Regions. Assumes nothing.
+-- `convex_regions::visit_all` meets its contract: the invariant is `Visiting` of Regions. Assumes
+-- nothing.
 use mathlib.Core.Path.{refl}
 use Prim.Native.Nat.{_-_}
 use native.Mathlib.Omega.{arith}

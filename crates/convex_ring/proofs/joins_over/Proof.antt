@@ -1,4 +1,5 @@
--- `convex_ring::joins_over` meets its contract: the five points are those of the definition. Assumes nothing.
+-- `convex_ring::joins_over` meets its contract: the five points are those of the definition.
+-- Assumes nothing.
 use borrow.Author.Needs.{needs}
 use mathlib.Core.Path.{_∙_}
 use Rattle.plane.specs.Machine.{point}

@@ -1,5 +1,5 @@
--- `corners::off_range` meets its contract. The loop's invariant: the answer for the whole list is that for what is left of it, or that one before was out of range.
--- Assumes nothing.
+-- `corners::off_range` meets its contract. The loop's invariant: the answer for the whole list is
+-- that for what is left of it, or that one before was out of range. Assumes nothing.
 use mathlib.Core.Path.{_≡_, refl, sym, _∙_, ap}
 use mathlib.Core.Bool.{Bool, true, false, cond}
 use mathlib.Core.List.{List}

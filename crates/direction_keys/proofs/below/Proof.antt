@@ -1,4 +1,5 @@
--- `direction_keys::below` meets its contract: the upright extent, scaled, outweighs the other. Assumes nothing.
+-- `direction_keys::below` meets its contract: the upright extent, scaled, outweighs the other.
+-- Assumes nothing.
 use mathlib.Core.Path.{_≡_, refl, sym, _∙_, ap, ap₂, subst}
 use lib.IntN.{pos, _+ℤ_, _*ℤ_}
 use lib.Signed.{ltZ}

@@ -1,4 +1,5 @@
--- `field_numbers::value` meets its contract. The loop's invariant: v and then the digits from i on write the number. Assumes nothing.
+-- `field_numbers::value` meets its contract. The loop's invariant: v and then the digits from i on
+-- write the number. Assumes nothing.
 use mathlib.Core.Path.{_≡_, refl, sym, _∙_}
 use Prim.Native.Nat.{_-_, _^_, _≤_, _<_}
 use native.Mathlib.Omega.{arith}

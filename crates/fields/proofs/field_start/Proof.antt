@@ -1,4 +1,5 @@
--- `fields::field_start` meets its contract. The loop's invariant: field j begins at i. Assumes nothing.
+-- `fields::field_start` meets its contract. The loop's invariant: field j begins at i. Assumes
+-- nothing.
 use mathlib.Core.Path.{_≡_, _∙_, ap}
 use Prim.Native.Nat.{_-_, _≤_}
 use native.Mathlib.Omega.{arith}

@@ -1,4 +1,5 @@
--- `fields::run_end` meets its contract. The loop's invariant: what is left of the run begins at i. Assumes nothing.
+-- `fields::run_end` meets its contract. The loop's invariant: what is left of the run begins at i.
+-- Assumes nothing.
 use mathlib.Core.Path.{_≡_, refl, sym, _∙_}
 use Prim.Native.Nat.{_+_, _-_, _≤_}
 use native.Mathlib.Omega.{arith}

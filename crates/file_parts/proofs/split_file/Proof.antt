@@ -1,4 +1,5 @@
--- `file_parts::split_file` meets its contract: a refusal of the header, or the parts of a file with a sound one. Assumes nothing.
+-- `file_parts::split_file` meets its contract: a refusal of the header, or the parts of a file with
+-- a sound one. Assumes nothing.
 use mathlib.Core.Path.{refl, sym, _∙_}
 use native.Mathlib.Omega.{arith}
 use Rattle.mesh.specs.Mesh.{maxTriangles}

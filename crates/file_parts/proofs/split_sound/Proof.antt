@@ -1,4 +1,5 @@
--- `file_parts::split_sound` meets its contract: the parts of the mesh that the rows read are. Assumes nothing.
+-- `file_parts::split_sound` meets its contract: the parts of the mesh that the rows read are.
+-- Assumes nothing.
 use Rattle.listing.proofs.File.{sound}
 use Rattle.file_parts.proofs.Files.{records-there, sound-left}
 use borrow.Author.Needs.{needs}

@@ -1,4 +1,5 @@
--- `input::read_input` tells a count of bytes on the front of buf, and ends. The invariant: what is read lies within buf, whose length is kept; the measure is the turns left. Assumes nothing.
+-- `input::read_input` tells a count of bytes on the front of buf, and ends. The invariant: what is
+-- read lies within buf, whose length is kept; the measure is the turns left. Assumes nothing.
 use mathlib.Core.Path.{_≡_}
 use Prim.Native.Nat.{_≤_}
 use lib.ListN.{length}

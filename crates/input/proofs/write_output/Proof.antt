@@ -1,4 +1,5 @@
--- `input::write_output` is safe and ends. The invariant: what is written lies within the text; the measure is the turns left. Assumes nothing.
+-- `input::write_output` is safe and ends. The invariant: what is written lies within the text; the
+-- measure is the turns left. Assumes nothing.
 use Prim.Native.Nat.{_≤_}
 use lib.ListN.{length}
 use borrow.Author.Needs.{needs}

@@ -1,4 +1,5 @@
--- `lines::print_coordinates` is safe and ends. The invariant: i has not passed the end; the measure is what is left. Assumes nothing.
+-- `lines::print_coordinates` is safe and ends. The invariant: i has not passed the end; the measure
+-- is what is left. Assumes nothing.
 use Prim.Native.Nat.{_≤_, _-_}
 use borrow.Author.Needs.{needs}
 use lib.ListN.{length}

@@ -1,4 +1,5 @@
--- `listing_areas::add_wrapped` meets its contract: a term below 0 is taken away, another is added. Assumes nothing.
+-- `listing_areas::add_wrapped` meets its contract: a term below 0 is taken away, another is added.
+-- Assumes nothing.
 use mathlib.Core.Path.{sym, _∙_, ap}
 use native.Mathlib.Omega.{arith}
 use borrow.Author.Needs.{needs}

@@ -1,4 +1,5 @@
--- `listing_areas::part_area` meets its contract: the invariant is `Fanning` of Wedges, the measure the corners left. Assumes nothing.
+-- `listing_areas::part_area` meets its contract: the invariant is `Fanning` of Wedges, the measure
+-- the corners left. Assumes nothing.
 use mathlib.Core.Path.{sym, _∙_, subst}
 use Prim.Native.Nat.{_+_, _-_, _^_, _≤_, _<_}
 use native.Mathlib.Omega.{arith}

@@ -1,4 +1,5 @@
--- `listing_areas::share` meets its contract: the product's high word is below the total, so the quotient is one word. Assumes nothing.
+-- `listing_areas::share` meets its contract: the product's high word is below the total, so the
+-- quotient is one word. Assumes nothing.
 use borrow.Author.Needs.{needs}
 use Rattle.listing_areas.proofs.Totals.{high-below, share-is}
 use Rattle.listing_areas.proofs.share.Statement.{statement}

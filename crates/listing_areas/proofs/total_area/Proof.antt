@@ -1,5 +1,5 @@
--- `listing_areas::total_area` meets its contract. The loop's invariant: the areas added and those of the parts left make the total; the measure is how many are
--- left. Assumes nothing.
+-- `listing_areas::total_area` meets its contract. The loop's invariant: the areas added and those
+-- of the parts left make the total; the measure is how many are left. Assumes nothing.
 use mathlib.Core.Path.{_≡_}
 use mathlib.Core.List.{List, []}
 use Prim.Native.Nat.{ℕ, _+_, _-_, _^_, _≤_, _<_}

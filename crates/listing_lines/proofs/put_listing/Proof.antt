@@ -1,5 +1,5 @@
--- `listing_lines::put_listing` meets its contract. The loop's invariant: after the first line, the lines of the parts before k are put; the measure is the parts
--- left. Assumes nothing.
+-- `listing_lines::put_listing` meets its contract. The loop's invariant: after the first line, the
+-- lines of the parts before k are put; the measure is the parts left. Assumes nothing.
 use mathlib.Core.Path.{_∙_}
 use Prim.Native.Nat.{_-_, _≤_}
 use native.Mathlib.Omega.{arith}

@@ -1,4 +1,5 @@
--- `mesh_bounds::mesh_bounds` meets its contract. The loop's invariant: the bounds of the whole are those so far with the rows that are left brought in. Assumes nothing.
+-- `mesh_bounds::mesh_bounds` meets its contract. The loop's invariant: the bounds of the whole are
+-- those so far with the rows that are left brought in. Assumes nothing.
 use mathlib.Core.Path.{_≡_, sym, _∙_}
 use Prim.Native.Nat.{_≤_, _-_}
 use native.Mathlib.Omega.{arith}

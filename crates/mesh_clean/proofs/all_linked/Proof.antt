@@ -1,4 +1,5 @@
--- `mesh_clean::all_linked` meets its contract: the invariant is `Linking` of Passes. Assumes nothing.
+-- `mesh_clean::all_linked` meets its contract: the invariant is `Linking` of Passes. Assumes
+-- nothing.
 use mathlib.Core.Path.{refl}
 use Prim.Native.Nat.{_≤_, _-_}
 use native.Mathlib.Omega.{arith}

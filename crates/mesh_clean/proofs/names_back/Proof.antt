@@ -1,4 +1,5 @@
--- `mesh_clean::names_back` meets its contract: the side that is chosen is the one that the definition tests. Assumes nothing.
+-- `mesh_clean::names_back` meets its contract: the side that is chosen is the one that the
+-- definition tests. Assumes nothing.
 use borrow.Author.Needs.{needs}
 use Rattle.mesh.specs.Rows.{rowTriangle}
 use Rattle.mesh_clean.proofs.Tests.{names-not, names-so}

@@ -1,4 +1,5 @@
--- `mesh_faults::mesh_fault` meets its contract: a clean mesh has no fault, and else each kind is told where those before it do not hold. Assumes nothing.
+-- `mesh_faults::mesh_fault` meets its contract: a clean mesh has no fault, and else each kind is
+-- told where those before it do not hold. Assumes nothing.
 use mathlib.Core.Path.{_≡_, sym, _∙_}
 use mathlib.Core.Bool.{Bool, true, false}
 use mathlib.Core.List.{List, [], _∷_, _++_}

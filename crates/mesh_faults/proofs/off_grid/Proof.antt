@@ -1,4 +1,5 @@
--- `mesh_faults::off_grid` meets its contract: no row before k has a coordinate off the grid. Assumes nothing.
+-- `mesh_faults::off_grid` meets its contract: no row before k has a coordinate off the grid.
+-- Assumes nothing.
 use mathlib.Core.Path.{sym, _∙_}
 use Prim.Native.Nat.{_≤_, _-_}
 use native.Mathlib.Omega.{arith}

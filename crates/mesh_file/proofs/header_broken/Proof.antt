@@ -1,4 +1,5 @@
--- `mesh_file::header_broken` meets its contract: the code's tests are the definition's, in its order. Assumes nothing.
+-- `mesh_file::header_broken` meets its contract: the code's tests are the definition's, in its
+-- order. Assumes nothing.
 use Rattle.mesh_file.proofs.Header.{other-offset, other-split, other-total, by-length}
 use borrow.Author.Needs.{needs}
 use Rattle.mesh_file.proofs.header_broken.Statement.{statement}

@@ -1,4 +1,5 @@
--- `mesh_file::read_rows` meets its contract. The loop's invariant: the first k rows are the first k records. Assumes nothing.
+-- `mesh_file::read_rows` meets its contract. The loop's invariant: the first k rows are the first k
+-- records. Assumes nothing.
 use mathlib.Core.Path.{_≡_, refl, sym, _∙_}
 use Prim.Native.Nat.{_≤_, _-_}
 use native.Mathlib.Omega.{arith}

@@ -1,4 +1,5 @@
--- `mesh_neighbors::neighbor_fault` meets its contract: the invariant is `Judged` of Earliest. Assumes nothing.
+-- `mesh_neighbors::neighbor_fault` meets its contract: the invariant is `Judged` of Earliest.
+-- Assumes nothing.
 use Prim.Native.Nat.{_-_, _≤_}
 use native.Mathlib.Omega.{arith}
 use lib.ListN.{length}

@@ -1,4 +1,5 @@
--- `mesh_neighbors::row_fault` meets its contract: each side by Side, the three by Earliest. Assumes nothing.
+-- `mesh_neighbors::row_fault` meets its contract: each side by Side, the three by Earliest. Assumes
+-- nothing.
 use borrow.Author.Needs.{needs}
 use native.Mathlib.Omega.{arith}
 use Rattle.mesh.specs.Mesh.{after}

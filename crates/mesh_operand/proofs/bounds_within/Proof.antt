@@ -1,4 +1,5 @@
--- `mesh_operand::bounds_within` meets its contract: the bounds of the mesh that the rows read are. Assumes nothing.
+-- `mesh_operand::bounds_within` meets its contract: the bounds of the mesh that the rows read are.
+-- Assumes nothing.
 use mathlib.Core.Path.{_∙_, ap}
 use Rattle.listing.proofs.File.{sound}
 use Rattle.file_parts.proofs.Files.{records-there, rows-read}

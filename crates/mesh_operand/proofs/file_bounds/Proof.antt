@@ -1,4 +1,5 @@
--- `mesh_operand::file_bounds` meets its contract: there are rows for any accepted file. Assumes nothing.
+-- `mesh_operand::file_bounds` meets its contract: there are rows for any accepted file. Assumes
+-- nothing.
 use mathlib.Core.Path.{sym, _∙_}
 use native.Mathlib.Omega.{arith}
 use Rattle.mesh.specs.Mesh.{maxTriangles}

@@ -1,4 +1,5 @@
--- `mesh_operand::take_operand` meets its contract: a file's refusal, or its parts and its bounds. Assumes nothing.
+-- `mesh_operand::take_operand` meets its contract: a file's refusal, or its parts and its bounds.
+-- Assumes nothing.
 use mathlib.Core.Path.{sym, _∙_}
 use Rattle.file_parts.proofs.Files.{fault-is}
 use Rattle.mesh_operand.proofs.Taking.{taken-refused, taken-held}

@@ -1,4 +1,5 @@
--- `mesh_pair::left_end` meets its contract: no word, a total past the bytes, or one within them. Assumes nothing.
+-- `mesh_pair::left_end` meets its contract: no word, a total past the bytes, or one within them.
+-- Assumes nothing.
 use native.Mathlib.Omega.{arith}
 use Rattle.mesh_pair.proofs.Files.{cut-none, cut-past, cut-at}
 use borrow.Author.Needs.{needs}

@@ -1,4 +1,5 @@
--- `mesh_pair::take_two` meets its contract: the left file's refusal, or what is told of both. Assumes nothing.
+-- `mesh_pair::take_two` meets its contract: the left file's refusal, or what is told of both.
+-- Assumes nothing.
 use mathlib.Core.Path.{sym, _∙_}
 use lib.Seq.{length-take-le}
 use Rattle.mesh_pair.proofs.Files.{taken-as, left-refused, both-taken, rest-of}

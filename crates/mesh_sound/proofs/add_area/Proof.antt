@@ -1,4 +1,5 @@
--- `mesh_sound::add_area` meets its contract: total > 2^63 - 1 - area is total + area > 2^63 - 1. Assumes nothing.
+-- `mesh_sound::add_area` meets its contract: total > 2^63 - 1 - area is total + area > 2^63 - 1.
+-- Assumes nothing.
 use mathlib.Core.Path.{_≡_, refl, sym, _∙_, ap}
 use mathlib.Core.Bool.{true, false}
 use Prim.Native.Nat.{ℕ}

@@ -1,4 +1,5 @@
--- `mesh_sound::row_sound` meets its contract: the code's tests are the definition's. Assumes nothing.
+-- `mesh_sound::row_sound` meets its contract: the code's tests are the definition's. Assumes
+-- nothing.
 use mathlib.Core.Path.{sym, _∙_, ap}
 use mathlib.Core.Bool.{not}
 use borrow.Author.Needs.{needs}

@@ -1,4 +1,5 @@
--- `meshes_job::make_job` meets its contract: a refusal of the operation or of a file, or the job of both files. Assumes nothing.
+-- `meshes_job::make_job` meets its contract: a refusal of the operation or of a file, or the job of
+-- both files. Assumes nothing.
 use mathlib.Core.Path.{sym, _∙_}
 use Prim.Native.Nat.{_≤_}
 use native.Mathlib.Omega.{arith}

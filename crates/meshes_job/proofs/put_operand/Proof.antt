@@ -1,4 +1,5 @@
--- `meshes_job::put_operand` meets its contract: bounds, counts, starts and numbers, one after another. Assumes nothing.
+-- `meshes_job::put_operand` meets its contract: bounds, counts, starts and numbers, one after
+-- another. Assumes nothing.
 use mathlib.Core.Path.{refl}
 use Rattle.meshes_job.proofs.Putting.{operand-put}
 use borrow.Author.Needs.{needs}

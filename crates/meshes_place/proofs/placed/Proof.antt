@@ -1,4 +1,5 @@
--- `meshes_place::placed` meets its contract: a refusal of the place or of a file, or the answer of the pairs of both operands. Assumes nothing.
+-- `meshes_place::placed` meets its contract: a refusal of the place or of a file, or the answer of
+-- the pairs of both operands. Assumes nothing.
 use mathlib.Core.Path.{sym, _∙_}
 use native.Mathlib.Omega.{arith}
 use lib.Seq.{length-take-le}

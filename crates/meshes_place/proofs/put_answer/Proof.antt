@@ -1,4 +1,5 @@
--- `meshes_place::put_answer` meets its contract: a word for each answer, or the refusal, for which there is room. Assumes nothing.
+-- `meshes_place::put_answer` meets its contract: a word for each answer, or the refusal, for which
+-- there is room. Assumes nothing.
 use mathlib.Core.Path.{sym, _∙_, ap}
 use native.Mathlib.Omega.{arith}
 use Rattle.text.proofs.Sizes.{decimal-size}

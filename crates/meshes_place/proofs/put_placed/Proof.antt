@@ -1,4 +1,5 @@
--- `meshes_place::put_placed` meets its contract: the answer's text on the front of the lent bytes. Assumes nothing.
+-- `meshes_place::put_placed` meets its contract: the answer's text on the front of the lent bytes.
+-- Assumes nothing.
 use mathlib.Core.Path.{ap}
 use Rattle.text.proofs.Puts.{put-as, put-whole}
 use Rattle.meshes_place.specs.Placed.{answerText}

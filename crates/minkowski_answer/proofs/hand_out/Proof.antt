@@ -1,4 +1,5 @@
--- `minkowski_answer::hand_out` meets its contract: each refusal and the answer, by the laws of Answer. Assumes nothing.
+-- `minkowski_answer::hand_out` meets its contract: each refusal and the answer, by the laws of
+-- Answer. Assumes nothing.
 use mathlib.Core.Path.{sym}
 use mathlib.Core.List.{flatten}
 use Prim.Native.Nat.{_/_}

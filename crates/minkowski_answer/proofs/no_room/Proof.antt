@@ -1,4 +1,5 @@
--- `minkowski_answer::no_room` meets its contract: the most that there can be have room, or counting tells. Assumes nothing.
+-- `minkowski_answer::no_room` meets its contract: the most that there can be have room, or counting
+-- tells. Assumes nothing.
 use mathlib.Core.Path.{ap}
 use native.Mathlib.Omega.{arith}
 use lib.Dec.{ltb}

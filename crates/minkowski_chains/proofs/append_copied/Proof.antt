@@ -1,4 +1,5 @@
--- `minkowski_chains::append_copied` meets its contract: corners copied, and the start after them. Assumes nothing.
+-- `minkowski_chains::append_copied` meets its contract: corners copied, and the start after them.
+-- Assumes nothing.
 use mathlib.Core.List.{[]}
 use native.Mathlib.Omega.{arith}
 use borrow.Author.Needs.{needs}

@@ -1,4 +1,5 @@
--- `minkowski_chains::append_four` meets its contract: four contours put one after another. Assumes nothing.
+-- `minkowski_chains::append_four` meets its contract: four contours put one after another. Assumes
+-- nothing.
 use mathlib.Core.Path.{_≡_}
 use mathlib.Core.List.{[], _∷_}
 use Prim.Native.Nat.{ℕ, _+_}

@@ -1,4 +1,5 @@
--- `minkowski_chains::append_fours` meets its contract. The loop's invariant: the contours before the place are put. Assumes nothing.
+-- `minkowski_chains::append_fours` meets its contract. The loop's invariant: the contours before
+-- the place are put. Assumes nothing.
 use mathlib.Core.Path.{_≡_, refl, _∙_}
 use Prim.Native.Nat.{_+_, _*_, _-_, _≤_, _<_, _^_}
 use native.Mathlib.Omega.{arith}

@@ -1,4 +1,5 @@
--- `minkowski_chains::append_keyed` meets its contract: of the buffers cut to the points in use. Assumes nothing.
+-- `minkowski_chains::append_keyed` meets its contract: of the buffers cut to the points in use.
+-- Assumes nothing.
 use native.Mathlib.Omega.{arith}
 use borrow.Author.Needs.{needs}
 use mathlib.Core.Path.{sym, subst}

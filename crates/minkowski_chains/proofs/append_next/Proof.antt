@@ -1,4 +1,5 @@
--- `minkowski_chains::append_next` meets its contract: its contour is put, and the start after it. Assumes nothing.
+-- `minkowski_chains::append_next` meets its contract: its contour is put, and the start after it.
+-- Assumes nothing.
 use native.Mathlib.Omega.{arith}
 use borrow.Author.Needs.{needs}
 use mathlib.Core.List.{[]}

@@ -1,4 +1,5 @@
--- `minkowski_chains::append_small` meets its contract: its work buffers hold the corners of a pair of few points. Assumes nothing.
+-- `minkowski_chains::append_small` meets its contract: its work buffers hold the corners of a pair
+-- of few points. Assumes nothing.
 use mathlib.Core.Path.{refl}
 use Prim.Native.Nat.{_≤_}
 use native.Mathlib.Omega.{arith}

@@ -1,4 +1,5 @@
--- `minkowski_chains::append_used` meets its contract. The loop's invariant: as much more is put as the place has gone on. Assumes nothing.
+-- `minkowski_chains::append_used` meets its contract. The loop's invariant: as much more is put as
+-- the place has gone on. Assumes nothing.
 use mathlib.Core.Path.{_≡_, _∙_, ap}
 use Prim.Native.Nat.{_+_, _*_, _-_, _≤_, _<_, _^_}
 use native.Mathlib.Omega.{arith}

@@ -1,4 +1,5 @@
--- `minkowski_chains::copy_in` meets its contract. The loop's invariant: the first i numbers are copied. Assumes nothing.
+-- `minkowski_chains::copy_in` meets its contract. The loop's invariant: the first i numbers are
+-- copied. Assumes nothing.
 use mathlib.Core.Path.{subst}
 use Prim.Native.Nat.{_*_, _-_, _≤_}
 use native.Mathlib.Omega.{arith}

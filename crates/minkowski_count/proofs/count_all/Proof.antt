@@ -1,4 +1,5 @@
--- `minkowski_count::count_all` meets its contract: after p turns the corners of the first p left walks are counted. Assumes nothing.
+-- `minkowski_count::count_all` meets its contract: after p turns the corners of the first p left
+-- walks are counted. Assumes nothing.
 use mathlib.Core.Path.{_≡_, refl, sym, _∙_}
 use mathlib.Core.List.{flatten}
 use Prim.Native.Nat.{_-_, _≤_}

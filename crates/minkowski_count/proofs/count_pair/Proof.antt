@@ -1,4 +1,5 @@
--- `minkowski_count::count_pair` meets its contract: any merge fits the work buffer. Assumes nothing.
+-- `minkowski_count::count_pair` meets its contract: any merge fits the work buffer. Assumes
+-- nothing.
 use Prim.Native.Nat.{_+_}
 use native.Mathlib.Omega.{arith}
 use Rattle.pair_walks.specs.Walks.{walkIn}

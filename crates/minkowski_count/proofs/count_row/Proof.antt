@@ -1,4 +1,5 @@
--- `minkowski_count::count_row` meets its contract: after q turns the corners with the first q right walks are counted. Assumes nothing.
+-- `minkowski_count::count_row` meets its contract: after q turns the corners with the first q right
+-- walks are counted. Assumes nothing.
 use mathlib.Core.Path.{_≡_, refl, _∙_}
 use mathlib.Core.List.{flatten}
 use Prim.Native.Nat.{_+_, _-_, _≤_}

@@ -1,4 +1,5 @@
--- `minkowski_counted::bound_all` meets its contract: of the buffers cut to the points in use. Assumes nothing.
+-- `minkowski_counted::bound_all` meets its contract: of the buffers cut to the points in use.
+-- Assumes nothing.
 use native.Mathlib.Omega.{arith}
 use mathlib.Core.Path.{sym, subst}
 use lib.ListN.{take, length-take}

@@ -1,4 +1,5 @@
--- `minkowski_counted::lower_four` meets its contract: as many fewer as they have ties. Assumes nothing.
+-- `minkowski_counted::lower_four` meets its contract: as many fewer as they have ties. Assumes
+-- nothing.
 use mathlib.Core.Path.{_≡_, _∙_, ap}
 use Prim.Native.Nat.{ℕ, _+_, _-_, _≤_}
 use native.Mathlib.Omega.{arith}

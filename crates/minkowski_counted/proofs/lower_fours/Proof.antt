@@ -1,4 +1,5 @@
--- `minkowski_counted::lower_fours` meets its contract. The loop's invariant: the bound at the place. Assumes nothing.
+-- `minkowski_counted::lower_fours` meets its contract. The loop's invariant: the bound at the
+-- place. Assumes nothing.
 use Prim.Native.Nat.{_+_, _*_, _-_, _≤_}
 use native.Mathlib.Omega.{arith}
 use Rattle.minkowski_counted.specs.Counts.{Bounds}

@@ -1,4 +1,5 @@
--- `minkowski_counted::most_of` meets its contract. The loop's invariant: the edges of the pairs before the place are added up. Assumes nothing.
+-- `minkowski_counted::most_of` meets its contract. The loop's invariant: the edges of the pairs
+-- before the place are added up. Assumes nothing.
 use mathlib.Core.Path.{_≡_, refl, _∙_}
 use Prim.Native.Nat.{_+_, _*_, _-_, _≤_}
 use native.Mathlib.Omega.{arith}

@@ -1,4 +1,5 @@
--- `minkowski_faults::operand_off` meets its contract: the corners, then the bounds. Assumes nothing.
+-- `minkowski_faults::operand_off` meets its contract: the corners, then the bounds. Assumes
+-- nothing.
 use mathlib.Core.Path.{_≡_, sym, _∙_}
 use Rattle.minkowski_faults.proofs.Range.{off-append-in, off-append-out}
 use borrow.Author.Needs.{needs}

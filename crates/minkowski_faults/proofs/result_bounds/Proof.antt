@@ -1,4 +1,5 @@
--- `minkowski_faults::result_bounds` meets its contract: bounds in range add and subtract within 32 bits. Assumes nothing.
+-- `minkowski_faults::result_bounds` meets its contract: bounds in range add and subtract within 32
+-- bits. Assumes nothing.
 use mathlib.Core.Path.{_≡_}
 use mathlib.Core.Bool.{Bool, true, false}
 use lib.IntN.{ℤ, _+ℤ_, _-ℤ_}

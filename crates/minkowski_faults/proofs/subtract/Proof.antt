@@ -1,4 +1,5 @@
--- `minkowski_faults::subtract` meets its contract: two coordinates differ within 32 bits. Assumes nothing.
+-- `minkowski_faults::subtract` meets its contract: two coordinates differ within 32 bits. Assumes
+-- nothing.
 use borrow.Author.Needs.{needs}
 use Rattle.plane.proofs.Size.{sizes}
 use Rattle.minkowski_faults.proofs.subtract.Statement.{statement}

@@ -1,4 +1,5 @@
--- `minkowski_keyed::hand_out_keyed` meets its contract: each refusal and the answer, by the laws of minkowski_answer. Assumes nothing.
+-- `minkowski_keyed::hand_out_keyed` meets its contract: each refusal and the answer, by the laws of
+-- minkowski_answer. Assumes nothing.
 use mathlib.Core.Path.{sym}
 use mathlib.Core.List.{flatten}
 use Prim.Native.Nat.{_/_}

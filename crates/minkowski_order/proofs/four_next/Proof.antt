@@ -1,4 +1,5 @@
--- `minkowski_order::four_next` meets its contract: a place on from a place, four times. Assumes nothing.
+-- `minkowski_order::four_next` meets its contract: a place on from a place, four times. Assumes
+-- nothing.
 use mathlib.Core.Path.{subst}
 use Prim.Native.Nat.{_+_}
 use native.Mathlib.Omega.{arith}

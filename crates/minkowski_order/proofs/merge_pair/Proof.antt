@@ -1,4 +1,5 @@
--- `minkowski_order::merge_pair` meets its contract: of the buffers cut to the points in use. Assumes nothing.
+-- `minkowski_order::merge_pair` meets its contract: of the buffers cut to the points in use.
+-- Assumes nothing.
 use native.Mathlib.Omega.{arith}
 use borrow.Author.Needs.{needs}
 use mathlib.Core.Path.{sym, subst}

@@ -1,4 +1,5 @@
--- `minkowski_parts::difference_parts` meets its contract: the answer of the size that the operands have. Assumes nothing.
+-- `minkowski_parts::difference_parts` meets its contract: the answer of the size that the operands
+-- have. Assumes nothing.
 use borrow.Author.Needs.{needs}
 use Rattle.minkowski_parts.proofs.difference_parts.Statement.{statement}
 use Rattle.minkowski_parts.proofs.difference_parts.Tie as tie

@@ -1,4 +1,5 @@
--- `minkowski_parts::keyed_large` meets its contract: its buffers hold the points of any two operands. Assumes nothing.
+-- `minkowski_parts::keyed_large` meets its contract: its buffers hold the points of any two
+-- operands. Assumes nothing.
 use mathlib.Core.Path.{refl}
 use native.Mathlib.Omega.{arith}
 use Rattle.minkowski_work.specs.Scratch.{callOf}

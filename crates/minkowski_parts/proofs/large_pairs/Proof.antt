@@ -1,4 +1,5 @@
--- `minkowski_parts::large_pairs` meets its contract: 7, 2 and 9 first, and the rest in buffers that hold the operands' points. Assumes nothing.
+-- `minkowski_parts::large_pairs` meets its contract: 7, 2 and 9 first, and the rest in buffers that
+-- hold the operands' points. Assumes nothing.
 use mathlib.Core.Path.{sym, _∙_}
 use Rattle.minkowski_work.specs.Scratch.{callOf}
 use Rattle.minkowski_work.proofs.Walked.{call-refused}

@@ -1,4 +1,5 @@
--- `minkowski_parts::small_pairs` meets its contract: 7, 2 and 9 first, and the rest in buffers for small operands. Assumes nothing.
+-- `minkowski_parts::small_pairs` meets its contract: 7, 2 and 9 first, and the rest in buffers for
+-- small operands. Assumes nothing.
 use mathlib.Core.Path.{sym, _∙_}
 use Rattle.minkowski_work.specs.Scratch.{callOf}
 use Rattle.minkowski_work.proofs.Walked.{call-refused}

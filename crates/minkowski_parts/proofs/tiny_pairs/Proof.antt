@@ -1,4 +1,5 @@
--- `minkowski_parts::tiny_pairs` meets its contract: 7, 2 and 9 first, and the rest in buffers that hold the points of tiny operands. Assumes nothing.
+-- `minkowski_parts::tiny_pairs` meets its contract: 7, 2 and 9 first, and the rest in buffers that
+-- hold the points of tiny operands. Assumes nothing.
 use Rattle.minkowski_work.specs.Scratch.{callOf}
 use Rattle.minkowski_work.proofs.Walked.{call-refused}
 use borrow.Author.Needs.{needs}

@@ -1,4 +1,5 @@
--- `minkowski_rows::append_all` meets its contract: after p turns the contours of the first p left walks are put. Assumes nothing.
+-- `minkowski_rows::append_all` meets its contract: after p turns the contours of the first p left
+-- walks are put. Assumes nothing.
 use mathlib.Core.Path.{_∙_, ap}
 use mathlib.Core.List.{flatten}
 use Prim.Native.Nat.{_+_, _-_, _≤_}

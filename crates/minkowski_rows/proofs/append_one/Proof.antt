@@ -1,4 +1,5 @@
--- `minkowski_rows::append_one` meets its contract: the contour is put, and the start after it. Assumes nothing.
+-- `minkowski_rows::append_one` meets its contract: the contour is put, and the start after it.
+-- Assumes nothing.
 use borrow.Author.Needs.{needs}
 use Rattle.minkowski_rows.specs.Rows.{mergedIn}
 use Rattle.minkowski_rows.proofs.Pairs.{pairs-one, one-room, one-small}

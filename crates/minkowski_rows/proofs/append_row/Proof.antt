@@ -1,4 +1,5 @@
--- `minkowski_rows::append_row` meets its contract: after q turns the contours with the first q right walks are put. Assumes nothing.
+-- `minkowski_rows::append_row` meets its contract: after q turns the contours with the first q
+-- right walks are put. Assumes nothing.
 use mathlib.Core.Path.{_≡_, sym, subst}
 use mathlib.Core.List.{[]}
 use Prim.Native.Nat.{_+_, _-_, _≤_}

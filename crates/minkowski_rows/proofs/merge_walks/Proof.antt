@@ -1,4 +1,5 @@
--- `minkowski_rows::merge_walks` meets its contract: walks m and n lie between their first places. Assumes nothing.
+-- `minkowski_rows::merge_walks` meets its contract: walks m and n lie between their first places.
+-- Assumes nothing.
 use mathlib.Core.Path.{sym, ap₂, subst}
 use native.Mathlib.Omega.{arith}
 use borrow.Author.Needs.{needs}

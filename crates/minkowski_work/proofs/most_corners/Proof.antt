@@ -1,4 +1,5 @@
--- `minkowski_work::most_corners` meets its contract: no product or sum leaves a word. Assumes nothing.
+-- `minkowski_work::most_corners` meets its contract: no product or sum leaves a word. Assumes
+-- nothing.
 use native.Mathlib.Omega.{arith}
 use borrow.Author.Needs.{needs}
 use Rattle.table.proofs.Rules.{sound}

@@ -1,4 +1,5 @@
--- `minkowski_work::pairs_over` meets its contract: a refusal, or the answer of `hand_out`, which is that for the operands. Assumes nothing.
+-- `minkowski_work::pairs_over` meets its contract: a refusal, or the answer of `hand_out`, which is
+-- that for the operands. Assumes nothing.
 use mathlib.Core.Path.{sym, _∙_}
 use native.Mathlib.Omega.{arith}
 use borrow.Author.Needs.{needs}

@@ -1,4 +1,5 @@
--- `minkowski_work::walks_fault` meets its contract: each refusal in its turn, and the walks of both operands where there is none. Assumes nothing.
+-- `minkowski_work::walks_fault` meets its contract: each refusal in its turn, and the walks of both
+-- operands where there is none. Assumes nothing.
 use mathlib.Core.Path.{sym, _∙_}
 use native.Mathlib.Omega.{arith}
 use borrow.Author.Needs.{needs}

@@ -1,4 +1,5 @@
--- `pair_chains::count_four` meets its contract. The loop's invariant: what each lane has still to count. Assumes nothing.
+-- `pair_chains::count_four` meets its contract. The loop's invariant: what each lane has still to
+-- count. Assumes nothing.
 use mathlib.Core.Path.{_≡_, refl, sym, _∙_}
 use Prim.Native.Nat.{_+_, _-_}
 use borrow.Author.Needs.{needs}

@@ -1,4 +1,5 @@
--- `pair_chains::count_on` meets its contract. The loop's invariant: what is counted and what is still to be counted is the whole. Assumes nothing.
+-- `pair_chains::count_on` meets its contract. The loop's invariant: what is counted and what is
+-- still to be counted is the whole. Assumes nothing.
 use mathlib.Core.Path.{refl, sym, _∙_}
 use Prim.Native.Nat.{_+_, _-_}
 use lib.ListN.{length}

@@ -1,4 +1,5 @@
--- `pair_chains::finish` meets its contract. The loop's invariant: where the lane stands. Assumes nothing.
+-- `pair_chains::finish` meets its contract. The loop's invariant: where the lane stands. Assumes
+-- nothing.
 use mathlib.Core.Path.{_≡_, sym, _∙_}
 use Prim.Native.Nat.{_+_, _-_}
 use native.Mathlib.Omega.{arith}

@@ -1,4 +1,5 @@
--- `pair_chains::merge_two` meets its contract. The loop's invariant: where each lane stands. Assumes nothing.
+-- `pair_chains::merge_two` meets its contract. The loop's invariant: where each lane stands.
+-- Assumes nothing.
 use Prim.Native.Nat.{_+_, _-_, _<_}
 use native.Mathlib.Omega.{arith}
 use borrow.Author.Needs.{needs}

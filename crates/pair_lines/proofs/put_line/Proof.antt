@@ -1,4 +1,5 @@
--- `pair_lines::put_line` meets its contract: the merge of left walk p and right walk q on the front of the work buffer. Assumes nothing.
+-- `pair_lines::put_line` meets its contract: the merge of left walk p and right walk q on the front
+-- of the work buffer. Assumes nothing.
 use mathlib.Core.Path.{refl, sym, ap}
 use native.Mathlib.Omega.{arith}
 use lib.ListN.{length}

@@ -1,4 +1,5 @@
--- `pair_merge::append_pair` meets its contract: the merge until one list has no edge left, then the rest of either. Assumes nothing.
+-- `pair_merge::append_pair` meets its contract: the merge until one list has no edge left, then the
+-- rest of either. Assumes nothing.
 use mathlib.Core.Path.{_∙_}
 use native.Mathlib.Omega.{arith}
 use Rattle.pair_merge.proofs.Merging.{first-room, second-room, both-put, none-first, none-second}

@@ -1,4 +1,5 @@
--- `pair_merge::merge` meets its contract. The loop's invariant: what is still to come is the merge of the points from i and from j on. Assumes nothing.
+-- `pair_merge::merge` meets its contract. The loop's invariant: what is still to come is the merge
+-- of the points from i and from j on. Assumes nothing.
 use mathlib.Core.Path.{sym, _∙_}
 use mathlib.Core.Logic.{inl, inr}
 use Prim.Native.Nat.{_+_, _-_, _<_}

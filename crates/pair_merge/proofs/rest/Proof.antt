@@ -1,4 +1,5 @@
--- `pair_merge::rest` meets its contract. The loop's invariant: what is still to come is the rest from point p on. Assumes nothing.
+-- `pair_merge::rest` meets its contract. The loop's invariant: what is still to come is the rest
+-- from point p on. Assumes nothing.
 use Prim.Native.Nat.{_-_, _<_}
 use native.Mathlib.Omega.{arith}
 use lib.ListN.{length, drop}

@@ -1,4 +1,5 @@
--- `pair_merge::second_next` meets its contract: with no edge left in the first list, and by the comparison of edges. Assumes nothing.
+-- `pair_merge::second_next` meets its contract: with no edge left in the first list, and by the
+-- comparison of edges. Assumes nothing.
 use mathlib.Core.Path.{sym, _∙_, ap}
 use lib.ListN.{length-map}
 use Rattle.plane.specs.Plane.{isGreater}

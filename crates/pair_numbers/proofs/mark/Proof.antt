@@ -1,4 +1,5 @@
--- `pair_numbers::mark` meets its contract: with no edge after, and by how the two compare. Assumes nothing.
+-- `pair_numbers::mark` meets its contract: with no edge after, and by how the two compare. Assumes
+-- nothing.
 use mathlib.Core.Path.{_≡_, refl, sym, _∙_, ap, ap₂, subst}
 use Prim.Native.Nat.{ℕ, _+_, _*_, _-_, _≤_, _<_}
 use native.Mathlib.Omega.{arith}

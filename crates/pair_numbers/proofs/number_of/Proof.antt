@@ -1,4 +1,5 @@
--- `pair_numbers::number_of` meets its contract: of the last point, and of an edge, whose mark can be taken off. Assumes nothing.
+-- `pair_numbers::number_of` meets its contract: of the last point, and of an edge, whose mark can
+-- be taken off. Assumes nothing.
 use mathlib.Core.Path.{_≡_, refl, sym, _∙_, ap, ap₂}
 use mathlib.Core.Bool.{Bool, true, false}
 use mathlib.Core.List.{List}

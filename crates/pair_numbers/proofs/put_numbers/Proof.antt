@@ -1,4 +1,5 @@
--- `pair_numbers::put_numbers` meets its contract. The loop's invariant: the points passed have their numbers. Assumes nothing.
+-- `pair_numbers::put_numbers` meets its contract. The loop's invariant: the points passed have
+-- their numbers. Assumes nothing.
 use mathlib.Core.Path.{_≡_, refl, sym, _∙_}
 use Prim.Native.Nat.{ℕ, _+_, _-_, _≤_, _<_}
 use native.Mathlib.Omega.{arith}

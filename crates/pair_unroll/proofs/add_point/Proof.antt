@@ -1,4 +1,5 @@
--- `pair_unroll::add_point` meets its contract: `added-repeated`, `added-straight`, `added-turning` of Buffered. Assumes nothing.
+-- `pair_unroll::add_point` meets its contract: `added-repeated`, `added-straight`, `added-turning`
+-- of Buffered. Assumes nothing.
 use mathlib.Core.Path.{_∙_, ap}
 use Rattle.plane.specs.Plane.{eqPt}
 use Rattle.plane.specs.Machine.{point}

@@ -1,4 +1,5 @@
--- `pair_unroll::add_walk` meets its contract: the invariant is `Walking` of Walked, and the measure the steps left. Assumes nothing.
+-- `pair_unroll::add_walk` meets its contract: the invariant is `Walking` of Walked, and the measure
+-- the steps left. Assumes nothing.
 use mathlib.Core.Path.{_≡_, sym, _∙_, ap, subst}
 use mathlib.Core.Bool.{false}
 use native.Mathlib.Omega.{arith}

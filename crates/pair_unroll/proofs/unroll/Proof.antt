@@ -1,4 +1,5 @@
--- `pair_unroll::unroll` meets its contract: an empty contour, a winding that leaves, and the walk, by Contours. Assumes nothing.
+-- `pair_unroll::unroll` meets its contract: an empty contour, a winding that leaves, and the walk,
+-- by Contours. Assumes nothing.
 use borrow.Author.Needs.{needs}
 use mathlib.Core.Path.{sym, _∙_}
 use Rattle.corners.specs.Corners.{pointsOf}

@@ -1,4 +1,5 @@
--- `pair_unroll_all::unroll_all` meets its contract: the invariant is `Unrolling` of Parts, the measure the parts left. Assumes nothing.
+-- `pair_unroll_all::unroll_all` meets its contract: the invariant is `Unrolling` of Parts, the
+-- measure the parts left. Assumes nothing.
 use Prim.Native.Nat.{_-_}
 use native.Mathlib.Omega.{arith}
 use borrow.Author.Needs.{needs}

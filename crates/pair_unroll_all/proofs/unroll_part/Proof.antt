@@ -1,4 +1,5 @@
--- `pair_unroll_all::unroll_part` meets its contract: part p of a sound table is a contour of sound length and range. Assumes nothing.
+-- `pair_unroll_all::unroll_part` meets its contract: part p of a sound table is a contour of sound
+-- length and range. Assumes nothing.
 use borrow.Author.Needs.{needs}
 use mathlib.Core.Path.{_∙_, ap}
 use native.Mathlib.Omega.{arith}

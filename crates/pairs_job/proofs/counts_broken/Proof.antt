@@ -1,4 +1,5 @@
--- `pairs_job::counts_broken` meets its contract: the code's tests are the definition's. Assumes nothing.
+-- `pairs_job::counts_broken` meets its contract: the code's tests are the definition's. Assumes
+-- nothing.
 use borrow.Author.Needs.{needs}
 use Rattle.pairs_job.proofs.Sizes.{many-parts, many-corners}
 use Rattle.pairs_job.proofs.counts_broken.Statement.{statement}

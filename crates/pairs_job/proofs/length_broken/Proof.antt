@@ -1,4 +1,5 @@
--- `pairs_job::length_broken` meets its contract: a job with a count that is not there, or of another length. Assumes nothing.
+-- `pairs_job::length_broken` meets its contract: a job with a count that is not there, or of
+-- another length. Assumes nothing.
 use borrow.Author.Needs.{needs}
 use Rattle.pairs_job.proofs.Sizes.{no-left-count, no-right-count, by-counts}
 use Rattle.pairs_job.proofs.length_broken.Statement.{statement}

@@ -1,4 +1,5 @@
--- `pairs_job::right_place` meets its contract: past the left table and four bounds. Assumes nothing.
+-- `pairs_job::right_place` meets its contract: past the left table and four bounds. Assumes
+-- nothing.
 use mathlib.Core.Path.{_∙_, sym, ap}
 use Prim.Native.Nat.{_+_}
 use native.Mathlib.Omega.{arith}

@@ -1,4 +1,5 @@
--- `pairs_place::place_operands` meets its contract: a refusal, or what is told of the walks. Assumes nothing.
+-- `pairs_place::place_operands` meets its contract: a refusal, or what is told of the walks.
+-- Assumes nothing.
 use borrow.Author.Needs.{needs}
 use Rattle.pairs_place.proofs.Operands.{told-refused, walkable, told-at}
 use Rattle.pairs_place.proofs.place_operands.Statement.{statement}

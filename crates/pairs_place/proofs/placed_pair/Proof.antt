@@ -1,4 +1,5 @@
--- `pairs_place::placed_pair` meets its contract: the merge of left walk p and right walk q on the front of the work buffer. Assumes nothing.
+-- `pairs_place::placed_pair` meets its contract: the merge of left walk p and right walk q on the
+-- front of the work buffer. Assumes nothing.
 use mathlib.Core.Path.{refl, sym, _∙_, ap}
 use native.Mathlib.Omega.{arith}
 use lib.Seq.{length-take-le}

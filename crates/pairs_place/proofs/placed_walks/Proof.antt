@@ -1,4 +1,5 @@
--- `pairs_place::placed_walks` meets its contract. The loop's invariant is placement's `ByTurn`, with the work buffer as long as it was; the measure is the pairs left. Assumes nothing.
+-- `pairs_place::placed_walks` meets its contract. The loop's invariant is placement's `ByTurn`,
+-- with the work buffer as long as it was; the measure is the pairs left. Assumes nothing.
 use mathlib.Core.Path.{_≡_, refl, sym, _∙_, ap, subst}
 use mathlib.Core.Bool.{Bool, true, false, cond}
 use mathlib.Core.Logic.{⊎-elim}

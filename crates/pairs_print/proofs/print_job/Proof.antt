@@ -1,4 +1,5 @@
--- `pairs_print::print_job` is safe and ends: what a step hands over lies within the lent bytes, and the measure is how many pieces are left. Assumes nothing.
+-- `pairs_print::print_job` is safe and ends: what a step hands over lies within the lent bytes, and
+-- the measure is how many pieces are left. Assumes nothing.
 use Rattle.pairs_print.proofs.Left.{left, left-falls}
 use Rattle.pairs_print.proofs.print_job.Statement.{statement}
 use Rattle.pairs_print.proofs.print_job.Tie as tie

@@ -1,4 +1,5 @@
--- `pairs_rules::table_broken` meets its contract: the starts are read, and judged beside the corner count. Assumes nothing.
+-- `pairs_rules::table_broken` meets its contract: the starts are read, and judged beside the corner
+-- count. Assumes nothing.
 use mathlib.Core.Path.{sym, _∙_, ap}
 use Prim.Native.Nat.{_+_}
 use native.Mathlib.Omega.{arith}

@@ -1,4 +1,5 @@
--- `pairs_shard::cut` meets its contract: the fault first, then the two halves of the shard, one after another. Assumes nothing.
+-- `pairs_shard::cut` meets its contract: the fault first, then the two halves of the shard, one
+-- after another. Assumes nothing.
 use mathlib.Core.Path.{_≡_, refl, sym, _∙_, ap}
 use Prim.Native.Nat.{_+_, _*_, _-_, _≤_}
 use native.Mathlib.Omega.{arith}

@@ -1,4 +1,5 @@
--- `pairs_shard::put_counts` meets its contract: the first five words, two counts and the starts, one after another. Assumes nothing.
+-- `pairs_shard::put_counts` meets its contract: the first five words, two counts and the starts,
+-- one after another. Assumes nothing.
 use mathlib.Core.Path.{refl, sym, ap}
 use Prim.Native.Nat.{_+_, _-_}
 use native.Mathlib.Omega.{arith}

@@ -1,4 +1,5 @@
--- `pairs_shard::put_less` meets its contract. The loop's invariant: the first i words, each less the base, stand from word `at` on. Assumes nothing.
+-- `pairs_shard::put_less` meets its contract. The loop's invariant: the first i words, each less
+-- the base, stand from word `at` on. Assumes nothing.
 use mathlib.Core.Path.{_≡_, refl, sym}
 use Prim.Native.Nat.{_+_, _≤_, _-_}
 use native.Mathlib.Omega.{arith}

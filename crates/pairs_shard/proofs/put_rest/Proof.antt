@@ -1,4 +1,5 @@
--- `pairs_shard::put_rest` meets its contract: the corners, and what stands behind the left table. Assumes nothing.
+-- `pairs_shard::put_rest` meets its contract: the corners, and what stands behind the left table.
+-- Assumes nothing.
 use mathlib.Core.Path.{_≡_, _∙_, ap}
 use Prim.Native.Nat.{_+_, _*_}
 use native.Mathlib.Omega.{arith}

@@ -1,4 +1,5 @@
--- `pairs_shard::shard_fault` meets its contract: the shape first, then the rules of the left table. Assumes nothing.
+-- `pairs_shard::shard_fault` meets its contract: the shape first, then the rules of the left table.
+-- Assumes nothing.
 use mathlib.Core.Path.{sym, _∙_}
 use borrow.Author.Needs.{needs}
 use Rattle.pairs_job.proofs.Shape.{shaped, left-inside}

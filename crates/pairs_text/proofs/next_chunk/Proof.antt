@@ -1,4 +1,5 @@
--- `pairs_text::next_chunk` meets its contract: the pieces in the walks of a job begun are the job's. Assumes nothing.
+-- `pairs_text::next_chunk` meets its contract: the pieces in the walks of a job begun are the
+-- job's. Assumes nothing.
 use mathlib.Core.Path.{_≡_}
 use native.Mathlib.Omega.{arith}
 use lib.ListN.{length}

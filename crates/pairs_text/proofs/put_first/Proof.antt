@@ -1,4 +1,5 @@
--- `pairs_text::put_first` meets its contract: the refusal, or the head line with its corners counted. Assumes nothing.
+-- `pairs_text::put_first` meets its contract: the refusal, or the head line with its corners
+-- counted. Assumes nothing.
 use Prim.Native.Nat.{_*_}
 use native.Mathlib.Omega.{arith}
 use borrow.Author.Needs.{needs}

@@ -1,4 +1,5 @@
--- `pairs_text::put_piece` meets its contract: the first piece, or the line of the pair that has its number. Assumes nothing.
+-- `pairs_text::put_piece` meets its contract: the first piece, or the line of the pair that has its
+-- number. Assumes nothing.
 use native.Mathlib.Omega.{arith}
 use borrow.Author.Needs.{needs}
 use Rattle.text.proofs.Puts.{put-as}

@@ -1,4 +1,5 @@
--- `pairs_text::put_pieces` meets its contract: a piece a turn, each put into what is left of the lent bytes. The measure is how many pieces are left. Assumes nothing.
+-- `pairs_text::put_pieces` meets its contract: a piece a turn, each put into what is left of the
+-- lent bytes. The measure is how many pieces are left. Assumes nothing.
 use mathlib.Core.Path.{_≡_, refl, _∙_}
 use Prim.Native.Nat.{_-_}
 use native.Mathlib.Omega.{arith}

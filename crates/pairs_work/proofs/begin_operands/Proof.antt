@@ -1,4 +1,5 @@
--- `pairs_work::begin_operands` meets its contract: a refusal, or the walks of both operands with their numbers. Assumes nothing.
+-- `pairs_work::begin_operands` meets its contract: a refusal, or the walks of both operands with
+-- their numbers. Assumes nothing.
 use mathlib.Core.Path.{sym, _∙_}
 use mathlib.Core.List.{[]}
 use native.Mathlib.Omega.{arith}

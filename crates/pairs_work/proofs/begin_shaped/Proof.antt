@@ -1,4 +1,5 @@
--- `pairs_work::begin_shaped` meets its contract: the fronts of the places hold the job's operands. Assumes nothing.
+-- `pairs_work::begin_shaped` meets its contract: the fronts of the places hold the job's operands.
+-- Assumes nothing.
 use mathlib.Core.Path.{ap}
 use Prim.Native.Nat.{_+_, _*_}
 use native.Mathlib.Omega.{arith}

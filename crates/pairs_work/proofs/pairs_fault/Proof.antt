@@ -1,4 +1,5 @@
--- `pairs_work::pairs_fault` meets its contract: the kinds that need no walk, and then those that walks decide. Assumes nothing.
+-- `pairs_work::pairs_fault` meets its contract: the kinds that need no walk, and then those that
+-- walks decide. Assumes nothing.
 use mathlib.Core.Path.{sym, _∙_}
 use mathlib.Core.List.{[]}
 use borrow.Author.Needs.{needs}

@@ -1,4 +1,5 @@
--- `part_lines::print_corners` is safe and ends. The invariant: j has not fallen; the measure is what is left. Assumes nothing.
+-- `part_lines::print_corners` is safe and ends. The invariant: j has not fallen; the measure is
+-- what is left. Assumes nothing.
 use Prim.Native.Nat.{_≤_, _-_}
 use borrow.Author.Needs.{needs}
 use Rattle.part_lines.proofs.print_corners.Statement.{statement}

@@ -1,4 +1,5 @@
--- `part_lines::print_parts` is safe and ends. The invariant: k has not passed the last; the measure is what is left. Assumes nothing.
+-- `part_lines::print_parts` is safe and ends. The invariant: k has not passed the last; the measure
+-- is what is left. Assumes nothing.
 use Prim.Native.Nat.{_≤_, _-_}
 use borrow.Author.Needs.{needs}
 use Rattle.part_lines.proofs.print_parts.Statement.{statement}

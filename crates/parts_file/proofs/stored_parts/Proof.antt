@@ -1,4 +1,5 @@
--- `parts_file::stored_parts` meets its contract: a file's refusal, or the stored table of its parts, which fits. Assumes nothing.
+-- `parts_file::stored_parts` meets its contract: a file's refusal, or the stored table of its
+-- parts, which fits. Assumes nothing.
 use mathlib.Core.Path.{sym}
 use lib.Seq.{length-take-le}
 use Rattle.file_parts.proofs.Files.{starts-in, corners-in}

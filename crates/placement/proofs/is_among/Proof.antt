@@ -1,4 +1,5 @@
--- `placement::is_among` meets its contract. The loop's invariant is `AmongTurn` of Contour, the measure the corners left. Assumes nothing.
+-- `placement::is_among` meets its contract. The loop's invariant is `AmongTurn` of Contour, the
+-- measure the corners left. Assumes nothing.
 use Prim.Native.Nat.{_≤_, _-_}
 use native.Mathlib.Omega.{arith}
 use borrow.Author.Needs.{needs}

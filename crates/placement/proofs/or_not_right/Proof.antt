@@ -1,4 +1,5 @@
--- `placement::or_not_right` meets its contract: the code's test is the definition's. Assumes nothing.
+-- `placement::or_not_right` meets its contract: the code's test is the definition's. Assumes
+-- nothing.
 use borrow.Author.Needs.{needs}
 use mir.Syntax.{w32}
 use mir.Val.{SFits}

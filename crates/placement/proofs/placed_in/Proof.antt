@@ -1,4 +1,5 @@
--- `placement::placed_in` meets its contract. The loop's invariant is `InTurn` of Contour, the measure the edges left. Assumes nothing.
+-- `placement::placed_in` meets its contract. The loop's invariant is `InTurn` of Contour, the
+-- measure the edges left. Assumes nothing.
 use mathlib.Core.Path.{_≡_, sym, _∙_, subst}
 use mathlib.Core.Bool.{Bool, true, false, cond}
 use mathlib.Core.Logic.{_⊎_, inl, inr, ⊎-elim}

@@ -1,4 +1,5 @@
--- `placement::placement` meets its contract: refused by its fault, or where the place lies. Assumes nothing.
+-- `placement::placement` meets its contract: refused by its fault, or where the place lies. Assumes
+-- nothing.
 use mathlib.Core.Path.{sym, _∙_, ap}
 use borrow.Author.Needs.{needs}
 use Rattle.integers.proofs.Bits.{kept}

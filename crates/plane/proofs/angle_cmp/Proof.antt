@@ -1,4 +1,5 @@
--- `plane::angle_cmp` meets its contract: by halves, and within a half by the cross product. Assumes nothing.
+-- `plane::angle_cmp` meets its contract: by halves, and within a half by the cross product. Assumes
+-- nothing.
 use mathlib.Core.Path.{_≡_, sym, _∙_, ap}
 use mathlib.Core.Bool.{Bool, true, false}
 use borrow.Author.Needs.{needs}

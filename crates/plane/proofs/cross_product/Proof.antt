@@ -1,4 +1,5 @@
--- `plane::cross_product` meets its contract: each field is read back as it was, then `cross_of`. Assumes nothing.
+-- `plane::cross_product` meets its contract: each field is read back as it was, then `cross_of`.
+-- Assumes nothing.
 use mathlib.Core.Path.{sym, _∙_, subst}
 use borrow.Author.Needs.{needs}
 use mir.Syntax.{w64}

@@ -1,4 +1,5 @@
--- `plane::is_zero` meets its contract: the tests of bits are the definition's tests. Assumes nothing.
+-- `plane::is_zero` meets its contract: the tests of bits are the definition's tests. Assumes
+-- nothing.
 use mathlib.Core.Path.{_≡_, refl, sym, _∙_, ap}
 use mathlib.Core.Bool.{true, false, cond}
 use Prim.Native.Nat.{ℕ}

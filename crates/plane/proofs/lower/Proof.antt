@@ -1,4 +1,5 @@
--- `plane::lower` meets its contract: the code's tests are the definition's, each field read back as it was. Assumes nothing.
+-- `plane::lower` meets its contract: the code's tests are the definition's, each field read back as
+-- it was. Assumes nothing.
 use mathlib.Core.Path.{_≡_, refl, sym, _∙_, ap}
 use mathlib.Core.Bool.{true, false}
 use borrow.Author.Needs.{needs}

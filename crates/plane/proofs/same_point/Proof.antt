@@ -1,4 +1,5 @@
--- `plane::same_point` meets its contract: the tests of bits are the definition's tests. Assumes nothing.
+-- `plane::same_point` meets its contract: the tests of bits are the definition's tests. Assumes
+-- nothing.
 use mathlib.Core.Path.{_≡_, sym, _∙_}
 use mathlib.Core.Bool.{false}
 use Prim.Native.Nat.{ℕ}

@@ -1,4 +1,5 @@
--- `records::numbers` meets its contract: as many words as there are, and as have places. Assumes nothing.
+-- `records::numbers` meets its contract: as many words as there are, and as have places. Assumes
+-- nothing.
 use mathlib.Core.Path.{sym, _∙_, ap}
 use mathlib.Core.List.{map}
 use native.Mathlib.Omega.{arith}

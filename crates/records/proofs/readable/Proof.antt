@@ -1,4 +1,5 @@
--- `records::readable` meets its contract: `none-readable` and `some-readable` of Lists. Assumes nothing.
+-- `records::readable` meets its contract: `none-readable` and `some-readable` of Lists. Assumes
+-- nothing.
 use Rattle.records.proofs.Lists.{none-readable, some-readable}
 use borrow.Author.Needs.{needs}
 use Rattle.records.proofs.readable.Statement.{statement}

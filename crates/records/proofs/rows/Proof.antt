@@ -1,4 +1,5 @@
--- `records::rows` meets its contract. The loop's invariant: the first k rows stand on the front of `to`. Assumes nothing.
+-- `records::rows` meets its contract. The loop's invariant: the first k rows stand on the front of
+-- `to`. Assumes nothing.
 use mathlib.Core.Path.{_≡_, refl, sym, _∙_, ap}
 use Prim.Native.Nat.{_≤_, _-_}
 use native.Mathlib.Omega.{arith}

@@ -1,4 +1,5 @@
--- `records::words` meets its contract: as many words as there are, and as have places. Assumes nothing.
+-- `records::words` meets its contract: as many words as there are, and as have places. Assumes
+-- nothing.
 use mathlib.Core.Path.{sym, _∙_, ap}
 use native.Mathlib.Omega.{arith}
 use Rattle.integers.specs.Lists.{overlay}

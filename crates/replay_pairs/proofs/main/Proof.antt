@@ -1,4 +1,5 @@
--- `replay_pairs::main` is safe and ends. The invariant: no more records than there may be; the measure is how many there may still be. Assumes nothing.
+-- `replay_pairs::main` is safe and ends. The invariant: no more records than there may be; the
+-- measure is how many there may still be. Assumes nothing.
 use Prim.Native.Nat.{_≤_, _-_}
 use borrow.Author.Needs.{needs}
 use Rattle.replay_pairs.proofs.main.Statement.{statement}

@@ -1,4 +1,5 @@
--- `replay_plane::print_value` is safe: below 0 a value is at least -2^63, so that -1 less it fits, and one more. Assumes nothing.
+-- `replay_plane::print_value` is safe: below 0 a value is at least -2^63, so that -1 less it fits,
+-- and one more. Assumes nothing.
 use mathlib.Core.Path.{_≡_, sym, _∙_, ap}
 use mathlib.Core.Bool.{true, false}
 use Prim.Native.Nat.{ℕ, _<_}
@@ -25,7 +26,8 @@ far : (z : ℤ) → SFits w64 z → leZ (pos 0) z ≡ false → (n : ℕ) × (n 
 far (pos n) f h = absurd (omega (arith, leZ-false (pos 0) (pos n) h))
 far (negsuc n) f h = (n, omega (arith, f .sfits), omega (zarith, sub-parts (negsuc 0) (negsuc n)))
 
--- the same of a number read back from its bits, u, and of what the code computes of it, read back again
+-- the same of a number read back from its bits, u, and of what the code computes of it, read back
+-- again
 module _ {u z : ℤ} (e : u ≡ z) (f : SFits w64 z) (h : leZ (pos 0) u ≡ false) where
   below : (n : ℕ) × (n < 9223372036854775808) × (negsuc 0 -ℤ z ≡ pos n)
   below = far z f (ap (leZ (pos 0)) (sym e) ∙ h)

@@ -1,4 +1,5 @@
--- `replay_tables::print_bytes` is safe and ends. The invariant: i has not passed the end; the measure is what is left. Assumes nothing.
+-- `replay_tables::print_bytes` is safe and ends. The invariant: i has not passed the end; the
+-- measure is what is left. Assumes nothing.
 use Prim.Native.Nat.{_≤_, _-_}
 use borrow.Author.Needs.{needs}
 use lib.ListN.{length}

@@ -1,4 +1,5 @@
--- `split_centre::add_moment` meets its contract: |a + b| < 2^32 and |cross| < 2^63, so the product's high word is below 2^32. Assumes nothing.
+-- `split_centre::add_moment` meets its contract: |a + b| < 2^32 and |cross| < 2^63, so the
+-- product's high word is below 2^32. Assumes nothing.
 use mathlib.Core.Path.{_≡_, _∙_, ap, ap₂}
 use Prim.Native.Nat.{ℕ, _+_, _*_, _^_, _≤_, _<_}
 use native.Mathlib.Omega.{arith}

@@ -1,4 +1,5 @@
--- `split_centre::centre_of` meets its contract: the centroid where it is found and strictly inside. Assumes nothing.
+-- `split_centre::centre_of` meets its contract: the centroid where it is found and strictly inside.
+-- Assumes nothing.
 use mathlib.Core.Path.{_≡_, refl, sym, _∙_, ap}
 use mathlib.Core.Bool.{Bool, true, false, cond}
 use mathlib.Core.List.{List, [], _∷_, map}

@@ -1,4 +1,5 @@
--- `split_centre::centred` meets its contract: the quotient fits 32 bits, and so does where it leads. Assumes nothing.
+-- `split_centre::centred` meets its contract: the quotient fits 32 bits, and so does where it
+-- leads. Assumes nothing.
 use mathlib.Core.Path.{_≡_, _∙_, ap₂}
 use native.Mathlib.Omega.{arith}
 use lib.IntN.{ℤ, _+ℤ_}

@@ -1,5 +1,5 @@
--- `split_centre::polygon_centroid` meets its contract: past the threshold none, otherwise the first corner and each moment over three times the doubled
--- area, to nearest. Assumes nothing.
+-- `split_centre::polygon_centroid` meets its contract: past the threshold none, otherwise the first
+-- corner and each moment over three times the doubled area, to nearest. Assumes nothing.
 use mathlib.Core.Path.{_≡_, sym, _∙_, ap}
 use mathlib.Core.Bool.{true, false}
 use mathlib.Core.List.{List, map}

@@ -1,4 +1,5 @@
--- `split_centre::rounded_quotient` meets its contract: the magnitude rounded, with the sum's sign. Assumes nothing.
+-- `split_centre::rounded_quotient` meets its contract: the magnitude rounded, with the sum's sign.
+-- Assumes nothing.
 use mathlib.Core.Path.{_≡_, sym, _∙_, ap}
 use mathlib.Core.Bool.{Bool, true, false}
 use Prim.Native.Nat.{ℕ, _≤_, _<_}

@@ -1,5 +1,6 @@
--- `split_centre::strictly_inside` meets its contract. The loop's invariant: what is asked is whether g is to the left of the edges from a on (`Round`); the
--- measure is the corners left. Assumes nothing.
+-- `split_centre::strictly_inside` meets its contract. The loop's invariant: what is asked is
+-- whether g is to the left of the edges from a on (`Round`); the measure is the corners left.
+-- Assumes nothing.
 use mathlib.Core.Path.{_≡_, sym, _∙_, ap}
 use mathlib.Core.Bool.{true, false, cond}
 use mathlib.Core.List.{List, map}

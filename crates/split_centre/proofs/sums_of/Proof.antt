@@ -1,5 +1,6 @@
--- `split_centre::sums_of` meets its contract. The loop's invariant: the sums are those of the wedges before corner i, and a is corner i - 1 seen from the
--- first; the measure is the corners left. Assumes nothing.
+-- `split_centre::sums_of` meets its contract. The loop's invariant: the sums are those of the
+-- wedges before corner i, and a is corner i - 1 seen from the first; the measure is the corners
+-- left. Assumes nothing.
 use mathlib.Core.Path.{_≡_, _∙_, ap, subst}
 use mathlib.Core.List.{List, map}
 use Prim.Native.Nat.{ℕ, _+_, _-_, _≤_, _<_}

@@ -1,4 +1,5 @@
--- `split_centre::tripled` meets its contract: an area from 0 to (2^63 - 1) / 3, three times. Assumes nothing.
+-- `split_centre::tripled` meets its contract: an area from 0 to (2^63 - 1) / 3, three times.
+-- Assumes nothing.
 use mathlib.Core.Path.{_≡_, ap}
 use mathlib.Core.Bool.{true}
 use Prim.Native.Nat.{_*_}

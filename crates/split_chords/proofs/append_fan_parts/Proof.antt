@@ -1,4 +1,5 @@
--- `split_chords::append_fan_parts` meets its contract: the invariant is `Fanning` of Fans. Assumes nothing.
+-- `split_chords::append_fan_parts` meets its contract: the invariant is `Fanning` of Fans. Assumes
+-- nothing.
 use borrow.Author.Needs.{needs}
 use Prim.Native.Nat.{_-_, _≤_}
 use native.Mathlib.Omega.{arith}

@@ -1,4 +1,5 @@
--- `split_contour::append_centroid_parts` meets its contract: the sectors where the centre serves, else the fan. Assumes nothing.
+-- `split_contour::append_centroid_parts` meets its contract: the sectors where the centre serves,
+-- else the fan. Assumes nothing.
 use mathlib.Core.Path.{sym, _∙_}
 use native.Mathlib.Omega.{arith}
 use lib.ListN.{length, length-map}

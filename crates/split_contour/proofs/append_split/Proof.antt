@@ -1,4 +1,5 @@
--- `split_contour::append_split` meets its contract: the contour whole, or the parts that its strategy gives. Assumes nothing.
+-- `split_contour::append_split` meets its contract: the contour whole, or the parts that its
+-- strategy gives. Assumes nothing.
 use mathlib.Core.Path.{sym, _∙_, ap}
 use native.Mathlib.Omega.{arith}
 use lib.ListN.{length, length-map}

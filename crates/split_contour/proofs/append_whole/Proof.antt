@@ -1,4 +1,5 @@
--- `split_contour::append_whole` meets its contract: the contour is one run of its corners. Assumes nothing.
+-- `split_contour::append_whole` meets its contract: the contour is one run of its corners. Assumes
+-- nothing.
 use mathlib.Core.List.{[], _∷_, flatten}
 use native.Mathlib.Omega.{arith}
 use lib.ListN.{length, length-append, length-map}

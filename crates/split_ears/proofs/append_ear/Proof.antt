@@ -1,4 +1,5 @@
--- `split_ears::append_ear` meets its contract: two pieces are appended, and the part is ended. Assumes nothing.
+-- `split_ears::append_ear` meets its contract: two pieces are appended, and the part is ended.
+-- Assumes nothing.
 use mathlib.Core.List.{[], _∷_}
 use Prim.Native.Nat.{_+_}
 use native.Mathlib.Omega.{arith}

@@ -1,4 +1,5 @@
--- `split_ears::append_ears` meets its contract: the invariant is `Clipping` of Ears. Assumes nothing.
+-- `split_ears::append_ears` meets its contract: the invariant is `Clipping` of Ears. Assumes
+-- nothing.
 use borrow.Author.Needs.{needs}
 use mathlib.Core.Path.{_≡_, refl, _∙_}
 use Prim.Native.Nat.{_+_, _-_, _≤_}

@@ -1,4 +1,5 @@
--- `split_parts::append_part` meets its contract: joined part k lies between its starts. Assumes nothing.
+-- `split_parts::append_part` meets its contract: joined part k lies between its starts. Assumes
+-- nothing.
 use mathlib.Core.Path.{sym, subst}
 use mathlib.Core.List.{[]}
 use native.Mathlib.Omega.{arith}

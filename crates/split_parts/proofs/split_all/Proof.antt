@@ -1,4 +1,5 @@
--- `split_parts::split_all` meets its contract: after k turns the parts of the first k contours are appended. Assumes nothing.
+-- `split_parts::split_all` meets its contract: after k turns the parts of the first k contours are
+-- appended. Assumes nothing.
 use mathlib.Core.Path.{_≡_, sym, _∙_, ap, subst}
 use mathlib.Core.List.{[], flatten}
 use Prim.Native.Nat.{_-_, _≤_, _<_}

@@ -1,5 +1,5 @@
--- `split_parts::split_within` meets its contract: the joined parts are those of the mesh, what they split into has room, and is answered by
--- convex_gather's `mesh-answered`. Assumes nothing.
+-- `split_parts::split_within` meets its contract: the joined parts are those of the mesh, what they
+-- split into has room, and is answered by convex_gather's `mesh-answered`. Assumes nothing.
 use native.Mathlib.Omega.{arith}
 use Rattle.mesh.specs.Rows.{rowsMesh}
 use Rattle.split.specs.Splitting.{splitParts, splitFault}

@@ -1,5 +1,7 @@
--- `split_parts::to_convex_polygons_with_max_vertices` meets its contract: a refusal by convex_gather's `mesh-refused`, an answer by joining where no part of a tiny mesh can
--- be past the limit (`left-whole`), by `split_tiny`, or by `split_more` with the limit raised (`same-limit`). Assumes nothing.
+-- `split_parts::to_convex_polygons_with_max_vertices` meets its contract: a refusal by
+-- convex_gather's `mesh-refused`, an answer by joining where no part of a tiny mesh can be past the
+-- limit (`left-whole`), by `split_tiny`, or by `split_more` with the limit raised (`same-limit`).
+-- Assumes nothing.
 use mathlib.Core.Path.{sym, _∙_}
 use native.Mathlib.Omega.{arith}
 use Rattle.mesh.specs.Rows.{rowsMesh}

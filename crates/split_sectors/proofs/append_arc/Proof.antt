@@ -1,4 +1,5 @@
--- `split_sectors::append_arc` meets its contract: the run is all, or the first corner comes after it. Assumes nothing.
+-- `split_sectors::append_arc` meets its contract: the run is all, or the first corner comes after
+-- it. Assumes nothing.
 use Prim.Native.Nat.{_-_}
 use lib.ListN.{length}
 use Rattle.split_chords.proofs.Appending.{length-run}

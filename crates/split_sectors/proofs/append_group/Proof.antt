@@ -1,4 +1,5 @@
--- `split_sectors::append_group` meets its contract: the parts before corner at are appended. Assumes nothing.
+-- `split_sectors::append_group` meets its contract: the parts before corner at are appended.
+-- Assumes nothing.
 use native.Mathlib.Omega.{arith}
 use mathlib.Core.Path.{refl}
 use mathlib.Core.List.{[], _∷_}

@@ -1,4 +1,5 @@
--- `split_sectors::append_sector` meets its contract: two pieces are appended, and the part is ended. Assumes nothing.
+-- `split_sectors::append_sector` meets its contract: two pieces are appended, and the part is
+-- ended. Assumes nothing.
 use mathlib.Core.Path.{refl}
 use mathlib.Core.List.{[], _∷_}
 use Prim.Native.Nat.{_+_}

@@ -1,4 +1,5 @@
--- `split_sectors::append_sectors` meets its contract: the invariant is `Sectoring` of Turns. Assumes nothing.
+-- `split_sectors::append_sectors` meets its contract: the invariant is `Sectoring` of Turns.
+-- Assumes nothing.
 use borrow.Author.Needs.{needs}
 use Prim.Native.Nat.{_-_, _≤_}
 use native.Mathlib.Omega.{arith}

@@ -1,4 +1,5 @@
--- `split_sectors::sector_end` meets its contract: the part reaches corner end, and ends where it would from there. Assumes nothing.
+-- `split_sectors::sector_end` meets its contract: the part reaches corner end, and ends where it
+-- would from there. Assumes nothing.
 use mathlib.Core.Path.{_≡_, sym, _∙_}
 use Prim.Native.Nat.{_+_, _-_, _≤_}
 use lib.ListN.{drop}

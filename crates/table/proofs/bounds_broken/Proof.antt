@@ -1,4 +1,5 @@
--- `table::bounds_broken` meets its contract. The loop's invariant: the answer is that for the corners from k on. Assumes nothing.
+-- `table::bounds_broken` meets its contract. The loop's invariant: the answer is that for the
+-- corners from k on. Assumes nothing.
 use mathlib.Core.Path.{_≡_, sym, _∙_, ap, subst}
 use mathlib.Core.Bool.{Bool, true, false}
 use mathlib.Core.List.{List, _∷_}

@@ -1,4 +1,5 @@
--- `table::result_broken` meets its contract: the code's tests are the definition's. Assumes nothing.
+-- `table::result_broken` meets its contract: the code's tests are the definition's. Assumes
+-- nothing.
 use mathlib.Core.Path.{_≡_, sym, _∙_}
 use mathlib.Core.Bool.{Bool, true, false}
 use mathlib.Core.List.{List}

@@ -1,5 +1,5 @@
--- `table::starts_broken` meets its contract. The loop's invariant: the answer for all starts is that for those from i on, after `last`.
--- Assumes nothing.
+-- `table::starts_broken` meets its contract. The loop's invariant: the answer for all starts is
+-- that for those from i on, after `last`. Assumes nothing.
 use mathlib.Core.Path.{_≡_, refl, sym, _∙_}
 use Prim.Native.Nat.{_≤_, _-_}
 use native.Mathlib.Omega.{arith}

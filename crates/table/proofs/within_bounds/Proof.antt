@@ -1,4 +1,5 @@
--- `table::within_bounds` meets its contract: the code's tests are the definition's, seen from the other side. Assumes nothing.
+-- `table::within_bounds` meets its contract: the code's tests are the definition's, seen from the
+-- other side. Assumes nothing.
 use mathlib.Core.Path.{_≡_}
 use mathlib.Core.Bool.{true, false}
 use borrow.Author.Needs.{needs}

@@ -1,5 +1,5 @@
--- `table_example::print_bytes` is safe and ends. The invariant: i has not passed the end; the measure is what is left of the bytes. Assumes
--- nothing.
+-- `table_example::print_bytes` is safe and ends. The invariant: i has not passed the end; the
+-- measure is what is left of the bytes. Assumes nothing.
 use Prim.Native.Nat.{_≤_, _-_}
 use borrow.Author.Needs.{needs}
 use lib.ListN.{length}

@@ -1,4 +1,5 @@
--- `table_read::read_fault` meets its contract: the code's tests are the definition's, in its order. Assumes nothing.
+-- `table_read::read_fault` meets its contract: the code's tests are the definition's, in its order.
+-- Assumes nothing.
 use mathlib.Core.Path.{_≡_, sym, _∙_, ap}
 use mathlib.Core.Bool.{Bool}
 use mathlib.Core.List.{List, map}

@@ -1,4 +1,5 @@
--- `table_read::read_table` meets its contract: the fault first, then the two copies. Assumes nothing.
+-- `table_read::read_table` meets its contract: the fault first, then the two copies. Assumes
+-- nothing.
 use mathlib.Core.Path.{sym, _∙_}
 use native.Mathlib.Omega.{arith}
 use borrow.Author.Needs.{needs}

@@ -1,4 +1,5 @@
--- `table_read::stored_broken` meets its contract: the code's tests are the definition's. Assumes nothing.
+-- `table_read::stored_broken` meets its contract: the code's tests are the definition's. Assumes
+-- nothing.
 use mathlib.Core.Path.{sym, _∙_}
 use native.Mathlib.Omega.{arith}
 use borrow.Author.Needs.{needs}

@@ -1,4 +1,5 @@
--- `table_read::stored_off_range` meets its contract. The loop's invariant: the answer is that for the words from i on. Assumes nothing.
+-- `table_read::stored_off_range` meets its contract. The loop's invariant: the answer is that for
+-- the words from i on. Assumes nothing.
 use mathlib.Core.Path.{_≡_, refl, sym, _∙_, ap}
 use mathlib.Core.List.{map}
 use Prim.Native.Nat.{_-_}

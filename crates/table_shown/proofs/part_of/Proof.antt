@@ -1,4 +1,5 @@
--- `table_shown::part_of` meets its contract: part k of a table that is not broken lies within its corners. Assumes nothing.
+-- `table_shown::part_of` meets its contract: part k of a table that is not broken lies within its
+-- corners. Assumes nothing.
 use mathlib.Core.Path.{_≡_, refl, _∙_, ap}
 use mathlib.Core.List.{List}
 use Prim.Native.Nat.{ℕ, suc, _+_, _*_}

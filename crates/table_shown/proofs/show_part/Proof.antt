@@ -1,4 +1,5 @@
--- `table_shown::show_part` meets its contract: the fault that `shown_fault` tells, and the part of the operand asked for. Assumes nothing.
+-- `table_shown::show_part` meets its contract: the fault that `shown_fault` tells, and the part of
+-- the operand asked for. Assumes nothing.
 use mathlib.Core.Path.{_≡_, sym, _∙_, ap, subst}
 use mathlib.Core.Bool.{Bool, true, false, cond}
 use mathlib.Core.List.{List, []}

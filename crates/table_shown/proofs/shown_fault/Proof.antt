@@ -1,4 +1,5 @@
--- `table_shown::shown_fault` meets its contract: the code's tests are the definition's, in its order. Assumes nothing.
+-- `table_shown::shown_fault` meets its contract: the code's tests are the definition's, in its
+-- order. Assumes nothing.
 use mathlib.Core.Path.{_≡_, sym, _∙_}
 use mathlib.Core.Bool.{Bool, cond}
 use mathlib.Core.List.{List}

@@ -1,4 +1,5 @@
--- `table_words::read_numbers` meets its contract. The loop's invariant: the first i numbers stand on the buffer's front. Assumes nothing.
+-- `table_words::read_numbers` meets its contract. The loop's invariant: the first i numbers stand
+-- on the buffer's front. Assumes nothing.
 use mathlib.Core.Path.{_≡_, refl, sym, _∙_, ap}
 use mathlib.Core.List.{map}
 use Prim.Native.Nat.{_+_, _≤_, _<_, _-_}

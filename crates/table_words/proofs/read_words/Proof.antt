@@ -1,4 +1,5 @@
--- `table_words::read_words` meets its contract. The loop's invariant: the first i words stand on the buffer's front. Assumes nothing.
+-- `table_words::read_words` meets its contract. The loop's invariant: the first i words stand on
+-- the buffer's front. Assumes nothing.
 use mathlib.Core.Path.{_≡_, refl, sym, _∙_, ap}
 use Prim.Native.Nat.{_+_, _≤_, _<_, _-_}
 use native.Mathlib.Omega.{arith}

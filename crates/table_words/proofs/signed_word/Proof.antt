@@ -1,5 +1,5 @@
--- `table_words::signed_word` meets its contract: below half the number itself, else -1 less what is left to the last word.
--- Assumes nothing.
+-- `table_words::signed_word` meets its contract: below half the number itself, else -1 less what is
+-- left to the last word. Assumes nothing.
 use mathlib.Core.Path.{_∙_}
 use Prim.Native.Nat.{_-_}
 use native.Mathlib.Omega.{arith}

@@ -1,4 +1,5 @@
--- `table_write::write_corners` meets its contract. The loop's invariant: the first i numbers stand from word `from` on. Assumes nothing.
+-- `table_write::write_corners` meets its contract. The loop's invariant: the first i numbers stand
+-- from word `from` on. Assumes nothing.
 use mathlib.Core.Path.{_≡_, refl, sym, _∙_, ap}
 use mathlib.Core.List.{map}
 use Prim.Native.Nat.{_+_, _≤_, _-_}

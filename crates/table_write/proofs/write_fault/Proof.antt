@@ -1,4 +1,5 @@
--- `table_write::write_fault` meets its contract: the code's tests are the definition's, in its order. Assumes nothing.
+-- `table_write::write_fault` meets its contract: the code's tests are the definition's, in its
+-- order. Assumes nothing.
 use mathlib.Core.Path.{sym, _∙_}
 use native.Mathlib.Omega.{arith}
 use borrow.Author.Needs.{needs}

@@ -1,4 +1,5 @@
--- `table_write::write_table` meets its contract: the fault first, then the counts, the starts, the numbers. Assumes nothing.
+-- `table_write::write_table` meets its contract: the fault first, then the counts, the starts, the
+-- numbers. Assumes nothing.
 use mathlib.Core.Path.{refl, sym, _∙_}
 use native.Mathlib.Omega.{arith}
 use borrow.Author.Needs.{needs}

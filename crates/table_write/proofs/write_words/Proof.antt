@@ -1,4 +1,5 @@
--- `table_write::write_words` meets its contract. The loop's invariant: the first i words stand from word `from` on. Assumes nothing.
+-- `table_write::write_words` meets its contract. The loop's invariant: the first i words stand from
+-- word `from` on. Assumes nothing.
 use mathlib.Core.Path.{_≡_, refl, sym}
 use Prim.Native.Nat.{_+_, _≤_, _-_}
 use native.Mathlib.Omega.{arith}

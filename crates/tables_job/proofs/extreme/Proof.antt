@@ -1,4 +1,5 @@
--- `tables_job::extreme` meets its contract. The loop's invariant: the word is the extreme one of the first k. Assumes nothing.
+-- `tables_job::extreme` meets its contract. The loop's invariant: the word is the extreme one of
+-- the first k. Assumes nothing.
 use mathlib.Core.Path.{_≡_, _∙_, ap}
 use Prim.Native.Nat.{_≤_, _-_}
 use native.Mathlib.Omega.{arith}

@@ -1,4 +1,5 @@
--- `tables_job::make_job` meets its contract: the fault first, then the operation and the two operands, one after another. Assumes nothing.
+-- `tables_job::make_job` meets its contract: the fault first, then the operation and the two
+-- operands, one after another. Assumes nothing.
 use mathlib.Core.Path.{sym, _∙_}
 use Prim.Native.Nat.{_≤_}
 use native.Mathlib.Omega.{arith}

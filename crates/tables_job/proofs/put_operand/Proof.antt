@@ -1,4 +1,5 @@
--- `tables_job::put_operand` meets its contract: the bounds, and the table behind them. Assumes nothing.
+-- `tables_job::put_operand` meets its contract: the bounds, and the table behind them. Assumes
+-- nothing.
 use borrow.Author.Needs.{needs}
 use Rattle.tables_job.proofs.Operands.{operand-put}
 use Rattle.tables_job.proofs.put_operand.Statement.{statement}

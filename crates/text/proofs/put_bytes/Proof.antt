@@ -1,4 +1,5 @@
--- `text::put_bytes` meets its contract. The loop's invariant: the first i bytes stand at the place. Assumes nothing.
+-- `text::put_bytes` meets its contract. The loop's invariant: the first i bytes stand at the place.
+-- Assumes nothing.
 use mathlib.Core.Path.{_≡_, refl}
 use Prim.Native.Nat.{_≤_, _-_}
 use native.Mathlib.Omega.{arith}

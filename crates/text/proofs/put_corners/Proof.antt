@@ -1,4 +1,5 @@
--- `text::put_corners` meets its contract. The loop's invariant: the first k corners are put. Assumes nothing.
+-- `text::put_corners` meets its contract. The loop's invariant: the first k corners are put.
+-- Assumes nothing.
 use mathlib.Core.Path.{_≡_, refl, subst}
 use Prim.Native.Nat.{_+_, _≤_, _<_, _-_}
 use native.Mathlib.Omega.{arith}

@@ -1,4 +1,5 @@
--- `text::put_decimal` meets its contract: the kit's digits are of the fewest places, and so are `decimal`. Assumes nothing.
+-- `text::put_decimal` meets its contract: the kit's digits are of the fewest places, and so are
+-- `decimal`. Assumes nothing.
 use native.Mathlib.Omega.{arith}
 use Rattle.text.proofs.Fewest.{decimal-put}
 use Rattle.text.proofs.Puts.{put-as}

@@ -1,4 +1,5 @@
--- `text::size` meets its contract: below 0 a number's bits are as far below 2^32 as it is below 0. Assumes nothing.
+-- `text::size` meets its contract: below 0 a number's bits are as far below 2^32 as it is below 0.
+-- Assumes nothing.
 use mathlib.Core.Path.{_≡_, refl, sym, _∙_, ap}
 use mathlib.Core.Bool.{true, false}
 use Prim.Native.Nat.{_-_}

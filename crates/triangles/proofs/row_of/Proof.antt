@@ -1,4 +1,5 @@
--- `triangles::row_of` meets its contract: each number is the struct's, and a neighbour's bits read signed and then unsigned are the neighbour. Assumes nothing.
+-- `triangles::row_of` meets its contract: each number is the struct's, and a neighbour's bits read
+-- signed and then unsigned are the neighbour. Assumes nothing.
 use mathlib.Core.Path.{_≡_, _∙_, ap}
 use mathlib.Core.List.{[], _∷_}
 use Prim.Native.Nat.{ℕ}

@@ -1,5 +1,6 @@
--- `triangles::triangle_at` meets its contract: a walk of its MIR, by hand, after the logic's Denote/Examples/Slices/At. Element i is taken out of the row, read, and put back.
--- The code has no check of the bound: it is the contract's to ask. Assumes nothing.
+-- `triangles::triangle_at` meets its contract: a walk of its MIR, by hand, after the logic's
+-- Denote/Examples/Slices/At. Element i is taken out of the row, read, and put back. The code has no
+-- check of the bound: it is the contract's to ask. Assumes nothing.
 use mathlib.Core.Path.{_≡_, refl, sym}
 use Prim.Native.Nat.{ℕ, _<_, _^_}
 use mathlib.Core.List.{List, [], _∷_}
@@ -86,7 +87,8 @@ module _ {M : Type 1} (𝓤 : URA M) (H : Heap 𝓤) (A : Atoms 𝓤) (W : Given
         rewrite ! 2 (λ (p : ℕ). ‵ (fat fullShare tyPtr l₄ 0 (vptr b p))) (sym (place-is 36 o i)) refl $
         move ! (13 ∷ []) $ fsplit ! $ fsplit ! $ move ! (1 ∷ []) $ fsplit ! $ move ! (16 ∷ []) $ split ! $ move ! (3 ∷ 0 ∷ []) $
         looks-slice ! tt T.the-row (Is T.the-row) (shows 𝓤 H A T.the-row) vals (LL.tells T.the-type T′.the-laws) (LL.copy T.the-type T′.the-copy 𝓤 H A W) ys b o (λ q′. elem-out ! T.the-row (Is T.the-row) (shows 𝓤 H A T.the-row) vals (LL.tells T.the-type T′.the-laws) q′ ys i noStruct b o l (λ g.
-        -- [ts[i]; what it owns; the others; what shuts; the fractured borrow; true; res; ts's fact; i's; _5; …; _4; …; _3; …; _2; …; _1; …; _0; …]
+        -- [ts[i]; what it owns; the others; what shuts; the fractured borrow; true; res; ts's fact;
+        -- i's; _5; …; _4; …; _3; …; _2; …; _1; …; _0; …]
         assigns ! (of-opd ! (load ! (from ! (hop ! (look ! 11 refl) (stop !))) (look-raw ! 0 refl))) (from ! (stop !)) (init ! 9 refl (LL.lawful T.the-type T′.the-laws 𝓤 H A W .typed elem (mach ∷ []) g .0)) $
         assigns ! (of-opd ! (load ! (from ! (stop !)) (look ! 9 refl))) (from ! (stop !)) (init ! 19 refl (LL.lawful T.the-type T′.the-laws 𝓤 H A W .typed elem (mach ∷ []) g .0)) $
         elem-back ! T.the-row q′ ys i noStruct (mach ∷ []) b o l $ shuts-slice ! tt T.the-row q′ ys b o $

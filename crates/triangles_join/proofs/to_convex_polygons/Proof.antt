@@ -1,5 +1,6 @@
--- `triangles_join::to_convex_polygons` meets its contract: PartsBySize.antt over `join_tiny`, `join_small` and `join_large`. Said here, once for any size: what these ask and tell; then where the locals lie, and how the walk of the MIR, by
--- hand, begins and ends. Assumes nothing.
+-- `triangles_join::to_convex_polygons` meets its contract: PartsBySize.antt over `join_tiny`,
+-- `join_small` and `join_large`. Said here, once for any size: what these ask and tell; then where
+-- the locals lie, and how the walk of the MIR, by hand, begins and ends. Assumes nothing.
 use mathlib.Core.Path.{_≡_, refl, sym}
 use Prim.Native.Nat.{ℕ, _≤_, _<_, _^_}
 use native.Mathlib.Nat.{suc-ne-zero}
@@ -220,7 +221,8 @@ module _ {M : Type 1} (𝓤 : URA M) (H : Heap 𝓤) (A : Atoms 𝓤) (W : Given
       said = rest-said;
     }
 
-    -- [what the answer owns; the tokens; what mesh owns; starts' and corners' last lists; _12, …, _9, _5; _8, _4, …, _0; _16, …, _13, _6; _20, …, _17, _7; the ends of _20, …, _0]
+    -- [what the answer owns; the tokens; what mesh owns; starts' and corners' last lists; _12, …,
+    -- _9, _5; _8, _4, …, _0; _16, …, _13, _6; _20, …, _17, _7; the ends of _20, …, _0]
     freeing : Frees 𝓤 H A W mem run 𝓣 κ κ₁ κ₂ q q₁ q₂ s x y Told Post En shared Γ₀ of-tiny Others
     freeing r w f g lf lg so =
         move ! (15 ∷ 46 ∷ 14 ∷ 45 ∷ 13 ∷ 44 ∷ 12 ∷ 43 ∷ 11 ∷ 42 ∷ 9 ∷ 41 ∷ 20 ∷ 40 ∷ 25 ∷ 39 ∷ 10 ∷ 38 ∷ 8 ∷ 37 ∷ 7 ∷ 36 ∷ 6 ∷ 35 ∷ 5 ∷ 34 ∷ 19 ∷ 33 ∷ 18 ∷ 32 ∷ 17 ∷ 31 ∷ 16 ∷ 30 ∷ 24 ∷ 29 ∷ 23 ∷ 28 ∷ 22 ∷ 27 ∷ 21 ∷ 26 ∷ []) $

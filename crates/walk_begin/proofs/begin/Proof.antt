@@ -1,4 +1,5 @@
--- `walk_begin::begin` meets its contract: `begin-7`, `begin-2` of Begins, and what `begin_checked` ensures. Assumes nothing.
+-- `walk_begin::begin` meets its contract: `begin-7`, `begin-2` of Begins, and what `begin_checked`
+-- ensures. Assumes nothing.
 use mathlib.Core.Path.{sym, _∙_, subst}
 use Rattle.walk.specs.Contracts.{BegunBy}
 use Rattle.walk.proofs.Promises.{begun-by}

@@ -1,4 +1,5 @@
--- `walk_begin::begin_checked` meets its contract: `begin-20`, `begin-8`, `begin-at` of Begins. Assumes nothing.
+-- `walk_begin::begin_checked` meets its contract: `begin-20`, `begin-8`, `begin-at` of Begins.
+-- Assumes nothing.
 use mathlib.Core.Path.{sym, _∙_, ap}
 use mir.Syntax.{w64}
 use Rattle.integers.proofs.Bits.{kept}

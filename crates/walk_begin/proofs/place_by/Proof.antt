@@ -1,4 +1,5 @@
--- `walk_begin::place_by` meets its contract: the sign of the winding, as the definition tests it. Assumes nothing.
+-- `walk_begin::place_by` meets its contract: the sign of the winding, as the definition tests it.
+-- Assumes nothing.
 use mathlib.Core.Path.{_≡_, refl, sym, _∙_, ap}
 use mathlib.Core.Bool.{Bool, true, false, cond}
 use mathlib.Core.List.{List}

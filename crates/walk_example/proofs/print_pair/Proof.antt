@@ -1,4 +1,5 @@
--- `walk_example::print_pair` ends: the measure is the steps left, and one for the end. Assumes nothing.
+-- `walk_example::print_pair` ends: the measure is the steps left, and one for the end. Assumes
+-- nothing.
 use mathlib.Core.Path.{_≡_, refl}
 use mathlib.Core.Bool.{Bool, true, false, cond}
 use Prim.Native.Nat.{ℕ, suc, _<_}

@@ -1,4 +1,5 @@
--- `walk_extremes::below` meets its contract: the code's tests are the definition's, each field read back as it was. Assumes nothing.
+-- `walk_extremes::below` meets its contract: the code's tests are the definition's, each field read
+-- back as it was. Assumes nothing.
 use mathlib.Core.Path.{_≡_}
 use mathlib.Core.Bool.{Bool, true, false}
 use lib.IntN.{ℤ}

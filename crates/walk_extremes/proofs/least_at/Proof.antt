@@ -1,4 +1,5 @@
--- `walk_extremes::least_at` meets its contract. The loop's invariant: the search goes on from the best corner so far. Assumes nothing.
+-- `walk_extremes::least_at` meets its contract. The loop's invariant: the search goes on from the
+-- best corner so far. Assumes nothing.
 use mathlib.Core.Path.{_≡_, sym, _∙_}
 use Prim.Native.Nat.{_<_, _-_}
 use native.Mathlib.Omega.{arith}

@@ -1,7 +1,9 @@
--- `walk_held::advance` meets its contract: a walk of its MIR, by hand. The struct is taken apart, `advanced` is called on the contour, the place and the lent number, and a
--- struct is made of the contour and the place that it returned. All that the proof knows of `advanced` is that it meets its contract.
--- The struct is Copy: what it owns is had three times, for the callee, for the result and for the exit. The lent number goes to the callee at its own lifetime, share and
--- name, and what the callee says of its last value is what `advance` says (`gave-ref`). Assumes nothing.
+-- `walk_held::advance` meets its contract: a walk of its MIR, by hand. The struct is taken apart,
+-- `advanced` is called on the contour, the place and the lent number, and a struct is made of the
+-- contour and the place that it returned. All that the proof knows of `advanced` is that it meets
+-- its contract. The struct is Copy: what it owns is had three times, for the callee, for the result
+-- and for the exit. The lent number goes to the callee at its own lifetime, share and name, and
+-- what the callee says of its last value is what `advance` says (`gave-ref`). Assumes nothing.
 use mathlib.Core.Path.{_≡_, refl, ap, subst}
 use Prim.Native.Nat.{ℕ}
 use mathlib.Core.List.{List, [], _∷_}
@@ -132,14 +134,16 @@ module _ {M : Type 1} (𝓤 : URA M) (H : Heap 𝓤) (A : Atoms 𝓤) (W : Given
   twice : ent 𝓤 (sem 𝓤 H A Own) (sep 𝓤 (sem 𝓤 H A Own) (sem 𝓤 H A Own))
   twice = LL.copy D (T′.the-copy (namedLft 2 0 tt κs)) 𝓤 H A W .twice d (mach ∷ [])
 
-  -- what the struct and the lent number own gives what the callee asks, and what the struct owns is kept twice
+  -- what the struct and the lent number own gives what the callee asks, and what the struct owns is
+  -- kept twice
   apart : ent 𝓤 (onEntry 𝓤 H A self.signature κs (q, (q′, tt)) (d, (x, tt)) vals) (sep 𝓤 (Callee 𝓤 H A mem run .pre to) (sep 𝓤 (sem 𝓤 H A Own) (sem 𝓤 H A Own)))
   apart =
       qed W ((‵ (flft κ q) ⊛ ‵ (flft κ′ q′) ⊛ ‵ ftrue) ∷ ‵ (owns (B κs ∷ MutRef (named 1) κ′ u32 ∷ []) (d, (x, tt)) vals) ∷ []) ∵
       move ! (1 ∷ []) $ fsplit ! $ use1 W (‵ Own ⊛ ‵ Own) twice $ split ! $ use1 W (‵ Own ⊛ ‵ Own) twice $ split ! $
       -- [what the struct owns, three times; what the lent number owns; the tokens]
       use1 W (given (mach ∷ [] ≡ mach ∷ []) (‵ (all-own (D .parts) L vd))) (own-open 𝓤 H A W D L vd mach) $ learn ! (λ _. fsplit ! $ move ! (1 ∷ []) $ fsplit ! $ move ! (1 ∷ []) $ drop ! $
-      -- [what the place owns; what the contour owns; the struct; the struct; the lent number; the tokens]
+      -- [what the place owns; what the contour owns; the struct; the struct; the lent number; the
+      -- tokens]
       move ! (0 ∷ 4 ∷ []) $ fjoin ! $ move ! (1 ∷ 0 ∷ []) $ fjoin ! $
       move ! (3 ∷ 0 ∷ []) $ use2 W (raw (Callee 𝓤 H A mem run .pre to)) asked $ frame ! $ frame ! $ done !)
 

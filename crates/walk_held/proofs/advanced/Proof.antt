@@ -1,4 +1,5 @@
--- `walk_held::advanced` meets its contract: each case of the step's answer gives the number and the place. Assumes nothing.
+-- `walk_held::advanced` meets its contract: each case of the step's answer gives the number and the
+-- place. Assumes nothing.
 use mathlib.Core.Path.{_≡_, sym, _∙_, ap, subst}
 use mathlib.Core.List.{List}
 use lib.IntN.{ℤ}

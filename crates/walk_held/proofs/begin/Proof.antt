@@ -1,7 +1,9 @@
--- `walk_held::begin` meets its contract: a walk of its MIR, by hand. `begun` is called on the contour, the flag and the lent number, and a struct is made of the contour and
--- the place that it returned. All that the proof knows of `begun` is that it meets its contract.
--- The contour is Copy: what it owns is had three times, for the callee, for the result and for the exit. The lent number goes to the callee at its own lifetime, share and
--- name, and what the callee says of its last value is what `begin` says (`gave-ref`). Assumes nothing.
+-- `walk_held::begin` meets its contract: a walk of its MIR, by hand. `begun` is called on the
+-- contour, the flag and the lent number, and a struct is made of the contour and the place that it
+-- returned. All that the proof knows of `begun` is that it meets its contract. The contour is Copy:
+-- what it owns is had three times, for the callee, for the result and for the exit. The lent number
+-- goes to the callee at its own lifetime, share and name, and what the callee says of its last
+-- value is what `begin` says (`gave-ref`). Assumes nothing.
 use mathlib.Core.Path.{refl, ap, subst}
 use Prim.Native.Nat.{ℕ}
 use mathlib.Core.Bool.{Bool}

@@ -1,4 +1,5 @@
--- `walk_held::begun` meets its contract: each case of the answer gives the number and the place. Assumes nothing.
+-- `walk_held::begun` meets its contract: each case of the answer gives the number and the place.
+-- Assumes nothing.
 use mathlib.Core.Path.{_≡_, refl, sym, _∙_, ap}
 use mathlib.Core.Bool.{Bool, true, false, cond}
 use mathlib.Core.List.{List, [], _∷_}

@@ -1,4 +1,5 @@
--- `walk_merge::run` meets its contract. The loop's invariant: it will stop where the steps from s do. Assumes nothing.
+-- `walk_merge::run` meets its contract. The loop's invariant: it will stop where the steps from s
+-- do. Assumes nothing.
 use mathlib.Core.Path.{_≡_, refl, sym, _∙_}
 use Rattle.corners.specs.Corners.{pointsOf}
 use Rattle.walk_merge.specs.Merging.{MayStep, finalOf, stepsToCome}

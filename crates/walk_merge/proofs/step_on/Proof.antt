@@ -1,4 +1,5 @@
--- `walk_merge::step_on` meets its contract: none is left, an edge that belongs is taken, or one that does not is left. Assumes nothing.
+-- `walk_merge::step_on` meets its contract: none is left, an edge that belongs is taken, or one
+-- that does not is left. Assumes nothing.
 use mathlib.Core.Path.{sym, _∙_, ap, subst}
 use Rattle.corners.specs.Corners.{pointsOf}
 use Rattle.walk_pick.specs.Picking.{pickOf, StepShort}

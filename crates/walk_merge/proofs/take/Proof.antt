@@ -1,4 +1,5 @@
--- `walk_merge::take` meets its contract: a direction once set stays, and a zero edge sets none. Assumes nothing.
+-- `walk_merge::take` meets its contract: a direction once set stays, and a zero edge sets none.
+-- Assumes nothing.
 use Rattle.walk_merge.proofs.Runs.{took-headed, took-fresh}
 use borrow.Author.Needs.{needs}
 use Rattle.walk_merge.proofs.take.Statement.{statement}

@@ -1,4 +1,5 @@
--- `walk_move::edge_of` meets its contract: the corners at its place and at the next, one less the other. Assumes nothing.
+-- `walk_move::edge_of` meets its contract: the corners at its place and at the next, one less the
+-- other. Assumes nothing.
 use mathlib.Core.Path.{_≡_, sym, _∙_, ap}
 use mathlib.Core.Bool.{true, false}
 use mathlib.Core.List.{List, [], _∷_}

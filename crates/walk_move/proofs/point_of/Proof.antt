@@ -1,4 +1,5 @@
--- `walk_move::point_of` meets its contract: the corner, turned where the walk is reflected. Assumes nothing.
+-- `walk_move::point_of` meets its contract: the corner, turned where the walk is reflected. Assumes
+-- nothing.
 use mathlib.Core.Path.{_≡_, _∙_, ap}
 use mathlib.Core.Bool.{true, false}
 use mathlib.Core.List.{List}

@@ -1,4 +1,5 @@
--- `walk_next::add_points` meets its contract: two coordinates below 2^30 in size add up below 2^31. Assumes nothing.
+-- `walk_next::add_points` meets its contract: two coordinates below 2^30 in size add up below 2^31.
+-- Assumes nothing.
 use mathlib.Core.Path.{_≡_, _∙_}
 use mathlib.Core.List.{[], _∷_}
 use lib.IntN.{ℤ, _+ℤ_}

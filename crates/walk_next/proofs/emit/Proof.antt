@@ -1,4 +1,5 @@
--- `walk_next::emit` meets its contract: the sum of the points, and whether an edge was begun. Assumes nothing.
+-- `walk_next::emit` meets its contract: the sum of the points, and whether an edge was begun.
+-- Assumes nothing.
 use mathlib.Core.Path.{_∙_}
 use Rattle.plane.specs.Plane.{_+ᵖ_}
 use Rattle.corners.specs.Corners.{pointsOf}

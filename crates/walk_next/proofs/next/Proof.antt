@@ -1,4 +1,5 @@
--- `walk_next::next` meets its contract: refused and as they came, or what `emit` ensures. Assumes nothing.
+-- `walk_next::next` meets its contract: refused and as they came, or what `emit` ensures. Assumes
+-- nothing.
 use mathlib.Core.Path.{sym, _∙_, subst}
 use Rattle.walk.specs.Contracts.{NextBy}
 use Rattle.walk_next.proofs.Promises.{judged-by, next-refused, next-given, next-by}

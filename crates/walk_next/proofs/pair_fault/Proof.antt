@@ -1,4 +1,5 @@
--- `walk_next::pair_fault` meets its contract: each kind is told where those before it do not hold. Assumes nothing.
+-- `walk_next::pair_fault` meets its contract: each kind is told where those before it do not hold.
+-- Assumes nothing.
 use mathlib.Core.Path.{sym, _∙_, ap}
 use Rattle.walk.specs.Calls.{misplaced}
 use Rattle.walk_next.proofs.Promises.{fault-left-7, fault-right-7, fault-left-23, fault-right-23, fault-left-2, fault-right-2, fault-none}

@@ -1,4 +1,5 @@
--- `walk_pair::begin_pair` meets its contract: 7 and 2 of either walk, and what `pair_checked` ensures. Assumes nothing.
+-- `walk_pair::begin_pair` meets its contract: 7 and 2 of either walk, and what `pair_checked`
+-- ensures. Assumes nothing.
 use mathlib.Core.Path.{sym, _∙_, subst}
 use Rattle.walk.specs.Contracts.{PairedBy}
 use Rattle.walk.proofs.Promises.{paired-by}

@@ -1,4 +1,5 @@
--- `walk_read::misplaced` meets its contract: the code's tests are the definition's. Assumes nothing.
+-- `walk_read::misplaced` meets its contract: the code's tests are the definition's. Assumes
+-- nothing.
 use mathlib.Core.Path.{_≡_}
 use mathlib.Core.Bool.{true, false}
 use Prim.Native.Nat.{ℕ, _≤_, _<_}

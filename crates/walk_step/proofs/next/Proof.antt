@@ -1,4 +1,5 @@
--- `walk_step::next` meets its contract: refused and as it came, or the edge and one step on. Assumes nothing.
+-- `walk_step::next` meets its contract: refused and as it came, or the edge and one step on.
+-- Assumes nothing.
 use mathlib.Core.Path.{sym, _∙_, ap, subst}
 use Rattle.pair.specs.Walk.{advance}
 use Rattle.walk.specs.Contracts.{SteppedBy}

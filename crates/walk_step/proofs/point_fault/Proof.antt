@@ -1,4 +1,5 @@
--- `walk_step::point_fault` meets its contract: each kind is told where those before it do not hold. Assumes nothing.
+-- `walk_step::point_fault` meets its contract: each kind is told where those before it do not hold.
+-- Assumes nothing.
 use mathlib.Core.Path.{sym, _∙_, ap}
 use Rattle.walk.specs.Calls.{misplaced}
 use Rattle.walk.proofs.Answers.{index-inside}

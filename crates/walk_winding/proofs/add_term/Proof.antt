@@ -1,4 +1,5 @@
--- `walk_winding::add_term` meets its contract: t > 2^63 - 1 - k is t + k > 2^63 - 1, and t < -2^63 - k is t + k < -2^63. Assumes nothing.
+-- `walk_winding::add_term` meets its contract: t > 2^63 - 1 - k is t + k > 2^63 - 1, and t <
+-- -2^63 - k is t + k < -2^63. Assumes nothing.
 use mathlib.Core.Path.{_≡_, sym, _∙_, ap}
 use mathlib.Core.Bool.{Bool, true, false}
 use lib.IntN.{ℤ, pos, negsuc, _+ℤ_, _-ℤ_}

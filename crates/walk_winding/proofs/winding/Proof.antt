@@ -1,4 +1,5 @@
--- `walk_winding::winding` meets its contract. The loop's invariant: the winding is that of the total so far and the terms to come. Assumes nothing.
+-- `walk_winding::winding` meets its contract. The loop's invariant: the winding is that of the
+-- total so far and the terms to come. Assumes nothing.
 use mathlib.Core.Path.{_≡_, refl, sym, _∙_, ap, subst}
 use Prim.Native.Nat.{_+_, _≤_, _-_}
 use native.Mathlib.Omega.{arith}

@@ -1,4 +1,5 @@
--- `wide::absolute` meets its contract: a number at least 0 is its size, and 0 less another is. Assumes nothing.
+-- `wide::absolute` meets its contract: a number at least 0 is its size, and 0 less another is.
+-- Assumes nothing.
 use mathlib.Core.Path.{_≡_, sym, _∙_, ap}
 use mathlib.Core.Bool.{true, false}
 use Prim.Native.Nat.{_^_, _<_}

@@ -1,4 +1,5 @@
--- `wide::add` meets its contract: magnitudes of one sign are added, those of two signs taken from each other. Assumes nothing.
+-- `wide::add` meets its contract: magnitudes of one sign are added, those of two signs taken from
+-- each other. Assumes nothing.
 use mathlib.Core.Path.{_≡_, refl, sym, _∙_, ap}
 use mathlib.Core.Bool.{Bool, true, false, not, Bool·beq}
 use Prim.Native.Nat.{ℕ, _+_}

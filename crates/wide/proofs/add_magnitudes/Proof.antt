@@ -1,4 +1,5 @@
--- `wide::add_magnitudes` meets its contract: the low words' carry goes to the high word, which has room. Assumes nothing.
+-- `wide::add_magnitudes` meets its contract: the low words' carry goes to the high word, which has
+-- room. Assumes nothing.
 use borrow.Author.Needs.{needs}
 use native.Mathlib.Omega.{arith}
 use Rattle.wide.proofs.add_magnitudes.Statement.{statement}

@@ -1,4 +1,5 @@
--- `wide::add_opposite` meets its contract: the sum has the greater's sign, and the difference for its magnitude. Assumes nothing.
+-- `wide::add_opposite` meets its contract: the sum has the greater's sign, and the difference for
+-- its magnitude. Assumes nothing.
 use mathlib.Core.Path.{_≡_, sym, _∙_}
 use mathlib.Core.Bool.{Bool, true, false}
 use Prim.Native.Nat.{ℕ, _≤_}

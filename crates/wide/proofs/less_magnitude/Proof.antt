@@ -1,4 +1,5 @@
--- `wide::less_magnitude` meets its contract: the high words decide unless they are equal. Assumes nothing.
+-- `wide::less_magnitude` meets its contract: the high words decide unless they are equal. Assumes
+-- nothing.
 use Rattle.wide.proofs.Pairs.{less-low, less-high}
 use Rattle.wide.proofs.less_magnitude.Statement.{statement}
 use Rattle.wide.proofs.less_magnitude.Tie as tie

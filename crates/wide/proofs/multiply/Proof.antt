@@ -1,4 +1,5 @@
--- `wide::multiply` meets its contract: the product of the sizes, with the product's sign. Assumes nothing.
+-- `wide::multiply` meets its contract: the product of the sizes, with the product's sign. Assumes
+-- nothing.
 use mathlib.Core.Path.{_≡_, _∙_, ap₂}
 use mathlib.Core.Bool.{true, false}
 use Prim.Native.Nat.{ℕ, _*_, _^_, _<_}

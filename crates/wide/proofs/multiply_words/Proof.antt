@@ -1,4 +1,5 @@
--- `wide::multiply_words` meets its contract: no product of halves wraps, and their sum is the product. Assumes nothing.
+-- `wide::multiply_words` meets its contract: no product of halves wraps, and their sum is the
+-- product. Assumes nothing.
 use borrow.Author.Needs.{needs}
 use native.Mathlib.Omega.{arith}
 use Prim.Native.Nat.{_/_, _%_}

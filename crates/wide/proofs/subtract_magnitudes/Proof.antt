@@ -1,4 +1,5 @@
--- `wide::subtract_magnitudes` meets its contract: where the low word is the lesser it lends from the high one. Assumes nothing.
+-- `wide::subtract_magnitudes` meets its contract: where the low word is the lesser it lends from
+-- the high one. Assumes nothing.
 use borrow.Author.Needs.{needs}
 use native.Mathlib.Omega.{arith}
 use Rattle.wide.proofs.Pairs.{lent-fits, high-less, high-lends, plain, borrowed}

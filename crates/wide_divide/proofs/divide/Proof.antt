@@ -1,4 +1,5 @@
--- `wide_divide::divide` meets its contract: one word as it is, two words with dividend and divisor scaled. Assumes nothing.
+-- `wide_divide::divide` meets its contract: one word as it is, two words with dividend and divisor
+-- scaled. Assumes nothing.
 use mathlib.Core.Path.{_≡_, _∙_}
 use Prim.Native.Nat.{ℕ, _+_, _*_, _-_, _/_, _%_, _^_, _≤_, _<_}
 use native.Mathlib.Omega.{arith}

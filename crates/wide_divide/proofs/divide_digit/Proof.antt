@@ -1,5 +1,5 @@
--- `wide_divide::divide_digit` meets its contract. The loop's invariant: the guess with its rest makes u, and one more is too large (`Guess`); the measure is
--- the guess. Assumes nothing.
+-- `wide_divide::divide_digit` meets its contract. The loop's invariant: the guess with its rest
+-- makes u, and one more is too large (`Guess`); the measure is the guess. Assumes nothing.
 use Prim.Native.Nat.{ℕ, _+_, _*_, _-_, _/_, _^_, _<_}
 use native.Mathlib.Omega.{arith}
 use mir.Syntax.{w64}

@@ -1,4 +1,5 @@
--- `wide_divide::divide_with_rounding` meets its contract: one more where the remainder is at least what it lacks to the divisor. Assumes nothing.
+-- `wide_divide::divide_with_rounding` meets its contract: one more where the remainder is at least
+-- what it lacks to the divisor. Assumes nothing.
 use mathlib.Core.Path.{_≡_}
 use Prim.Native.Nat.{ℕ, _+_, _^_, _<_}
 use borrow.Author.Needs.{needs}

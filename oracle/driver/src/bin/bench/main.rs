@@ -1,6 +1,6 @@
 //! `bench [ROUNDS [joining|structs|splits|pairs|placement|crate|contours]]`: times our calls, the
-//! Rust's and, of all pairs and of a place by contours, C++ ones from this one program on
-//! the same inputs, in turn, and prints our time over theirs. docs/BENCHMARKS.md says what they show.
+//! Rust's and, of all pairs and of a place by contours, C++ ones from this one program on the same
+//! inputs, in turn, and prints our time over theirs. docs/BENCHMARKS.md says what they show.
 
 mod bindings;
 mod meshes;
