@@ -19,7 +19,8 @@ use Rattle.integers.proofs.Order.{zarith, neg-parts}
 use Rattle.integers.proofs.Tests.{<-ltZ, ≤-ltZ, ≤-leZ, <-leZ}
 use Rattle.plane.specs.Plane.{Pt, O}
 use Rattle.table.specs.declared.IntRect.{IntRect}
-use Rattle.table.specs.Table.{pointsOf, resultBroken, offRange, partCount}
+use Rattle.table.specs.Table.{resultBroken, partCount}
+use Rattle.corners.specs.Corners.{pointsOf, offRange, ragged}
 use Rattle.wide.specs.declared.SignedProduct.{SignedProduct}
 use Rattle.wide.specs.Words.{twoWords, signed, value}
 use Rattle.pair.specs.Walk.{cornerAt, inWord}
@@ -83,17 +84,17 @@ value-above p h e = rw (e, h) (ap pos (zero-add (p .words .low)))
 -- ---- the faults
 
 module _ (c : List ℤ) where
-  pub contour-7 : (length c % 2 ≡ 0 → ⊥) → faultRules ≡ contourFault c
+  pub contour-7 : ragged c ≡ true → faultRules ≡ contourFault c
   unfolding contourFault
-  contour-7 h = sym (first-this faultRules _ _ (ap not (ne-eqb _ 0 h)))
+  contour-7 h = sym (first-this faultRules _ _ h)
 
-  pub contour-2 : length c % 2 ≡ 0 → offRange c ≡ true → faultRange ≡ contourFault c
+  pub contour-2 : ragged c ≡ false → offRange c ≡ true → faultRange ≡ contourFault c
   unfolding contourFault
-  contour-2 h o = sym (first-next faultRules _ _ (ap not (eq-eqb _ 0 h)) ∙ first-this faultRange _ [] o)
+  contour-2 h o = sym (first-next faultRules _ _ h ∙ first-this faultRange _ [] o)
 
-  pub contour-none : length c % 2 ≡ 0 → offRange c ≡ false → 0 ≡ contourFault c
+  pub contour-none : ragged c ≡ false → offRange c ≡ false → 0 ≡ contourFault c
   unfolding contourFault
-  contour-none h o = sym (first-next faultRules _ _ (ap not (eq-eqb _ 0 h)) ∙ first-next faultRange _ [] o ∙ first-empty)
+  contour-none h o = sym (first-next faultRules _ _ h ∙ first-next faultRange _ [] o ∙ first-empty)
 
   pub contour-ranged : contourFault c ≡ 0 → offRange c ≡ false
   unfolding contourFault

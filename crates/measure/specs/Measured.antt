@@ -11,7 +11,8 @@ use lib.IntN.{ℤ, pos}
 use Rattle.integers.specs.Faults.{firstFault, faultRules, faultRange, faultTotal, faultPart}
 use Rattle.plane.specs.Contour.{contourArea}
 use Rattle.table.specs.declared.IntRect.{IntRect}
-use Rattle.table.specs.Table.{pointsOf, tableParts, partCount, resultBroken, offRange}
+use Rattle.table.specs.Table.{tableParts, partCount, resultBroken}
+use Rattle.corners.specs.Corners.{pointsOf, offRange, ragged}
 use Rattle.pair.specs.Walk.{inWord}
 use Rattle.mesh_bounds.specs.Bounds.{boundsOf}
 use Rattle.table_areas.specs.Areas.{totalArea}
@@ -22,7 +23,7 @@ use Rattle.measure.specs.declared.Bounded.{Bounded}
 
 -- 7 for a number without its fellow, 2 for a coordinate out of range
 unfoldable pub contourFault : List ℤ → ℕ
-contourFault contour = firstFault ((faultRules, not (eqb (length contour % 2) 0)) ∷ (faultRange, offRange contour) ∷ [])
+contourFault contour = firstFault ((faultRules, ragged contour) ∷ (faultRange, offRange contour) ∷ [])
 
 -- 7 for starts or corners against a pair result's rules
 unfoldable pub tableFault : List ℕ → List ℤ → ℕ

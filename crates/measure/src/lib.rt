@@ -4,16 +4,16 @@
 // definition's (specs/Measured.antt). A part table will do and a pair result: the limits of a part
 // table do not bind. An area is exact and has a sign, below 0 where contours run clockwise; one
 // that leaves signed 64 bits is refused with 11. Leans on table_areas, mesh_bounds (bounds that a
-// point is brought into), walk_read and table.
+// point is brought into), corners and table.
 ghost use mathlib.Core.Path.{_≡_};
 ghost use lib.IntN.{pos, negℤ};
 ghost use Rattle.wide.specs.Words.{value};
-ghost use Rattle.table.specs.Table.{pointsOf};
+ghost use Rattle.corners.specs.Corners.{pointsOf};
 ghost use Rattle.mesh_bounds.specs.Bounds.{boundsOf};
 ghost use Rattle.measure.specs.Measured.{areaRefused, areaTold, contourFault, tableFault, partFault, contourMeasured, partMeasured, tableMeasured, boundsTold};
+use corners::corner_at;
+use corners::corner_count;
 use table::IntRect;
-use walk_read::corner_at;
-use walk_read::corner_count;
 use wide::SignedProduct;
 
 // The fault number, 0 for none, and a doubled area, 0 where there is a fault.
@@ -86,10 +86,10 @@ fn told(total: SignedProduct) -> Measured
 fn contour_fault(contour: &[i32]) -> u32
     ensures { λ r. ⌜ r ≡ contourFault (now (contour .entry)) ⌝ }
 {
-    if contour.len() % 2 != 0 {
+    if corners::ragged(contour) {
         return integers::fault::RULES;
     }
-    if table::off_range(contour) {
+    if corners::off_range(contour) {
         return integers::fault::RANGE;
     }
     0
@@ -102,7 +102,7 @@ fn table_fault(starts: &[u32], corners: &[i32]) -> u32
     if table::result_broken(starts, corners) {
         return integers::fault::RULES;
     }
-    if table::off_range(corners) {
+    if corners::off_range(corners) {
         return integers::fault::RANGE;
     }
     0

@@ -8,7 +8,7 @@ use native.Mathlib.Omega.{arith}
 use borrow.Author.Tests.{lt-ltb, le-ltb}
 use lib.Dec.{ltb}
 use lib.ListN.{length, take, drop, drop-of-length-le}
-use Rattle.fields.specs.Fields.{runOf, inRun, linesOf}
+use Rattle.fields.specs.Fields.{runLength, inRun, linesOf}
 use Rattle.fields.specs.declared.Run.the-variants as run
 use Rattle.fields.proofs.Lines.{lines-none}
 use Rattle.mesh_text.specs.Text.{markEnd, linesIn}
@@ -27,7 +27,7 @@ pub seeking-begins : (text : List ℕ) (n : ℕ) {from : ℕ} → from ≡ markE
 seeking-begins text n e h = record { said = ap (λ m. saidAt n 0 (linesOf (drop m text))) (sym e); near = omega arith; within = omega arith }
 
 module _ {text : List ℕ} {n from left count : ℕ} (g : Seeking text n from left count) where
-  module _ {e : ℕ} (h : from < length text) (q : e ≡ from + runOf (inRun run.Line) (drop from text)) (u : e ≤ length text) where
+  module _ {e : ℕ} (h : from < length text) (q : e ≡ from + runLength (inRun run.Line) (drop from text)) (u : e ≤ length text) where
     abbrev line : List ℕ
     line = take (e - from) (drop from text)
 

@@ -15,7 +15,8 @@ use Rattle.integers.proofs.Order.{by-test}
 use Rattle.integers.proofs.Elements.{any-map}
 use Rattle.mesh.specs.Mesh.{meshKinds}
 use Rattle.table.specs.Stored.{wordAt}
-use Rattle.table.specs.Table.{offRange, boundsList, partCount}
+use Rattle.table.specs.Table.{boundsList, partCount}
+use Rattle.corners.specs.Corners.{offRange}
 use Rattle.text.specs.Text.{refusal}
 use Rattle.minkowski.specs.Pairs.{Operand, resultBounds}
 use Rattle.listing.specs.File.{meshOf, headerKinds, fileFault}

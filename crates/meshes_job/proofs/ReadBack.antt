@@ -20,11 +20,12 @@ use Rattle.integers.specs.Faults.{firstFault}
 use Rattle.integers.proofs.Faults.{first-none}
 use Rattle.integers.proofs.Elements.{all-map, all-append, all-image, getD-all}
 use Rattle.table.specs.declared.IntRect.{IntRect}
-use Rattle.table.specs.Table.{tableBroken, offRange, boundsList, partCount}
+use Rattle.table.specs.Table.{tableBroken, boundsList, partCount}
+use Rattle.corners.specs.Corners.{offRange}
 use Rattle.table.specs.Stored.{wordsOf, wordBytes, wordAt, signed}
 use Rattle.table.proofs.Rules.{Sound, sound}
 use Rattle.table.proofs.Words.{Word, length-wordBytes, words-wordBytes, signed-unsigned}
-use Rattle.table.proofs.StoredForm.{fit-all}
+use Rattle.corners.proofs.Range.{fit-all}
 use Rattle.minkowski.specs.Pairs.{Operand, operandOff, resultBounds, pairKinds}
 use Rattle.split_operand.specs.Operand.{Unfaulted}
 use Rattle.split_operand.proofs.Operand.{split-pairs}

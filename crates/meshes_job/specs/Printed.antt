@@ -11,7 +11,8 @@ use lib.Dec.{eqb}
 use lib.ListN.{length, drop}
 use Rattle.integers.specs.Lists.{Any}
 use Rattle.integers.specs.Faults.{firstFault, faultTriangles, faultRange, faultStray, faultNaming, faultEdge, faultFlat, faultTotal, faultFile, faultResult, faultEmpty}
-use Rattle.table.specs.Table.{offRange, boundsList, partCount}
+use Rattle.table.specs.Table.{boundsList, partCount}
+use Rattle.corners.specs.Corners.{offRange}
 use Rattle.text.specs.Text.{refusal}
 use Rattle.minkowski.specs.Pairs.{Operand, operandParts, pairContours, resultBounds}
 use Rattle.pair_lines.specs.Lines.{pairsHead, pairLines}

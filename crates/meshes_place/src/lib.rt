@@ -84,9 +84,9 @@ pub fn placed(bytes: &[u8]) -> Placed
     pairs_place::place_operands(
         difference,
         &left_starts[..left.parts + 1],
-        &left_corners[..2 * left.corners],
+        &left_corners[..corners::WIDTH * left.corners],
         &right_starts[..right.parts + 1],
-        &right_corners[..2 * right.corners],
+        &right_corners[..corners::WIDTH * right.corners],
         z,
     )
 }

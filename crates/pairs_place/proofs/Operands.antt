@@ -18,13 +18,13 @@ use Rattle.plane.specs.Plane.{Pt, onGrid}
 use Rattle.table.specs.Table.{startsOf, roomKinds, partCount}
 use Rattle.minkowski.specs.Pairs.{pairContours, pairKinds, pairsFault}
 use Rattle.minkowski_pairs.proofs.Bounds.{result-within}
-use Rattle.minkowski_work.specs.Scratch.{Call, Walked}
+use Rattle.minkowski_work.specs.Scratch.{Call, BothWalked}
 use Rattle.minkowski_work.proofs.Faults.{operands-none}
-use Rattle.minkowski_work.proofs.Walked.{unrolleds, contours-in}
+use Rattle.minkowski_work.proofs.BothWalked.{unrolleds, contours-in}
 use Rattle.pair_walks.specs.Walks.{contoursIn}
 use Rattle.pair_numbers.specs.Numbers.{Keyed}
 use Rattle.pairs_work.specs.declared.Begun.{Begun}
-use Rattle.pairs_work.specs.Begun.{callFault, begunOf, CallBegins, refusedBegun, acceptedBegun}
+use Rattle.pairs_work.specs.Begun.{callFault, jobBegun, CallBegins, refusedBegun, acceptedBegun}
 use Rattle.placement.specs.declared.Contact.{Contact}
 use Rattle.placement.specs.declared.Placed.the-variants.{At, Refused}
 use Rattle.placement.specs.Placement.{contactBy}
@@ -56,11 +56,11 @@ module _ (x : Call) (e : callFault x ≡ 0) where
 
 module _ (x : Call) {points : List (List ℤ)} {firsts numbers : List ℕ} {b : Begun} (h : CallBegins x points firsts numbers b) where
   fault-is : b .fault ≡ callFault x
-  unfolding begunOf
+  unfolding jobBegun
   fault-is =
       by-test (eqb (callFault x) 0)
-      (λ t. let y : begunOf x (callFault x) ≡ acceptedBegun x = rw t in ap (λ a. a .fault) (h .answer ∙ y) ∙ sym (eqb-true (callFault x) 0 t))
-      (λ t. let y : begunOf x (callFault x) ≡ refusedBegun (callFault x) = rw t in ap (λ a. a .fault) (h .answer ∙ y))
+      (λ t. let y : jobBegun x (callFault x) ≡ acceptedBegun x = rw t in ap (λ a. a .fault) (h .answer ∙ y) ∙ sym (eqb-true (callFault x) 0 t))
+      (λ t. let y : jobBegun x (callFault x) ≡ refusedBegun (callFault x) = rw t in ap (λ a. a .fault) (h .answer ∙ y))
 
   pub told-refused : (z : Pt) → (b .fault ≡ 0 → ⊥) → Refused (b .fault) ≡ placedBy x z
   unfolding placedBy
@@ -71,8 +71,8 @@ module _ (x : Call) {points : List (List ℤ)} {firsts numbers : List ℕ} {b : 
     none = sym fault-is ∙ q
 
     accepted-is : b ≡ acceptedBegun x
-    unfolding begunOf
-    accepted-is = let y : begunOf x (callFault x) ≡ acceptedBegun x = rw (eq-eqb (callFault x) 0 none) in h .answer ∙ y
+    unfolding jobBegun
+    accepted-is = let y : jobBegun x (callFault x) ≡ acceptedBegun x = rw (eq-eqb (callFault x) 0 none) in h .answer ∙ y
 
     contours-are : contoursIn firsts points (b .left) (b .right) ≡ pairContours (x .reflected) (x .left) (x .right)
     contours-are = (λ i. contoursIn firsts points (accepted-is i .left) (accepted-is i .right)) ∙ contours-in x (h .walked none)

@@ -14,15 +14,16 @@ use Rattle.integers.proofs.Elements.{all-getD}
 use Rattle.integers.proofs.Overlay.{overlay-nil, take-overlay}
 use Rattle.integers.proofs.Tests.{both-true}
 use Rattle.plane.specs.Plane.{Pt, inRange, onGrid}
-use Rattle.table.specs.Table.{maxContour, numbersOf, offRange}
-use Rattle.table.proofs.Corners.{length-numbers}
+use Rattle.table.specs.Table.{maxContour}
+use Rattle.corners.specs.Corners.{numbersOf, offRange}
+use Rattle.corners.proofs.Corners.{length-numbers}
 use Rattle.pair_points.specs.Points.{mergedOf}
 use Rattle.pair_points.proofs.Merged.{length-merged}
-use Rattle.pair_merge.specs.Putting.{Put}
+use Rattle.pair_merge.specs.Putting.{CornersPut}
 use Rattle.pair_walks.specs.Walks.{walkIn, leftsIn, rightsIn, contoursIn, pairIn}
 use Rattle.pair_walks.proofs.Walks.{walk-short}
 use Rattle.pair_walks.proofs.Operands.{left-walk, right-walk, lefts-count, rights-count, contours-count}
-use Rattle.minkowski_chains.proofs.Contours.{pairs-at}
+use Rattle.minkowski_order.proofs.Pairs.{pairs-at}
 use Rattle.pairs_place.specs.Place.{Gridded, Walkable, Placing, Merging}
 
 -- ---- a pair by its number
@@ -72,7 +73,7 @@ unfolding offRange numbersOf onGrid
 grid-range [] h = refl
 grid-range (p ∷ l) h = let b = both-true (inRange (p .x)) _ (h .0) in rw (b .0, b .1) (grid-range l (h .1))
 
-pub front-range : {ps : List Pt} {o o′ : List ℤ} {k : ℕ} → Put ps o 0 o′ k → Gridded ps → offRange (take (2 * k) o′) ≡ false
+pub front-range : {ps : List Pt} {o o′ : List ℤ} {k : ℕ} → CornersPut ps o 0 o′ k → Gridded ps → offRange (take (2 * k) o′) ≡ false
 unfolding numbersOf
 front-range {ps} {o} {o′} {k} p g =
     let e : o′ ≡ overlay (numbersOf ps) o = p .written [] o refl (sym (overlay-nil o)) in
@@ -80,7 +81,7 @@ front-range {ps} {o} {o′} {k} p g =
     ap offRange (ap₂ take n e ∙ take-overlay (numbersOf ps) o) ∙ grid-range ps g
 
 module _ {firsts : List ℕ} {points : List (List ℤ)} {numbers : List ℕ} {left right p q : ℕ} {work : List ℤ} (h : Merging firsts points numbers left right p q work) where
-  pub front-fits : {o o′ : List ℤ} {k : ℕ} → length work ≡ length o → Put (pairIn firsts points left right p q) o 0 o′ k → (2 * k ≤ length o′) × (k ≤ 2 * maxContour)
+  pub front-fits : {o o′ : List ℤ} {k : ℕ} → length work ≡ length o → CornersPut (pairIn firsts points left right p q) o 0 o′ k → (2 * k ≤ length o′) × (k ≤ 2 * maxContour)
   front-fits {o} {o′} {k} f m =
       let few : length (pairIn firsts points left right p q) ≤ 2 * maxContour =
       omega (

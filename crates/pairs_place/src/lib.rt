@@ -3,7 +3,7 @@
 // `place_operands` takes any two tables with bounds and a place on the grid; it tells the pairs'
 // first fault (7, 2, 9, 8, 10, 20), or where the place lies, and stops at a contour that the place
 // lies strictly inside. Its answer is `placedBy` of specs/Place.antt. Leans on pairs_work,
-// minkowski_chains and placement.
+// minkowski_order and placement.
 ghost use mathlib.Core.Path.{_≡_};
 ghost use Prim.Native.Nat.{_<_};
 ghost use Rattle.plane.specs.Machine.{point, OnGrid};
@@ -20,7 +20,7 @@ use placement::Placed;
 use plane::IntPoint;
 
 // The numbers of a work buffer that holds the corners of any pair.
-const WORK: usize = 4 * table::MAX_CONTOUR;
+const WORK: usize = corners::WIDTH * (2 * table::MAX_CONTOUR);
 
 // Where z lies by the contour of left walk p and right walk q, which is left in the work buffer.
 fn placed_pair(
@@ -37,8 +37,8 @@ fn placed_pair(
     requires { ⌜ Merging (now firsts) (now points) (now numbers) left right p q (now work) × OnGrid z ⌝ }
     ensures { λ r. ⌜ r ≡ contactIn (point z) (pairIn (now (firsts .entry)) (now (points .entry)) left right p q) ⌝ }
 {
-    let count = minkowski_chains::merge_one(firsts, points, numbers, left, right, p, q, work);
-    placement::placed_in(&work[..2 * count], z)
+    let count = minkowski_order::merge_pair(firsts, points, numbers, left, right, p, q, work);
+    placement::placed_in(&work[..corners::WIDTH * count], z)
 }
 
 // Where z lies by the contours of all pairs of walks.

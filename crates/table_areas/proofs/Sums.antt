@@ -9,7 +9,7 @@ use Prim.Native.Nat.{ℕ, suc, _+_, _*_, _-_, _/_, _^_, _≤_, _<_}
 use native.Mathlib.Nat.{zero-add}
 use native.Mathlib.Numerals.{add-one}
 use native.Mathlib.Omega.{arith}
-use lib.ListN.{length, take, drop, getD, drop-of-length-le, length-take}
+use lib.ListN.{length, take, drop, getD, drop-of-length-le, length-take, length-drop}
 use lib.Seq.{drop-cons}
 use lib.IntN.{ℤ, pos, negℤ, natAbs, _+ℤ_, +ℤ-idl, +ℤ-idr, +ℤ-assoc, +ℤ-comm}
 use lib.Signed.{ltZ}
@@ -27,8 +27,8 @@ use Rattle.plane.proofs.Edges.{links-last}
 use Rattle.wide.specs.declared.SignedProduct.{SignedProduct}
 use Rattle.wide.specs.Words.{twoWords, magnitude, signed, value}
 use Rattle.wide.proofs.Signs.{signed-size}
-use Rattle.table.specs.Table.{pointsOf}
-use Rattle.table.proofs.Corners.{length-points}
+use Rattle.corners.specs.Corners.{pointsOf, cornersBetween}
+use Rattle.corners.proofs.Corners.{length-points, points-slice}
 use Rattle.pair.specs.Walk.{cornerAt}
 use Rattle.table_areas.specs.Areas.{totalArea, Terms}
 
@@ -113,11 +113,11 @@ no-corners (p ∷ l) h = absurd (omega (arith, h))
 
 -- contour k as the machine takes it has as many corners as lie between its starts, or fewer
 pub taken-terms : (starts : List ℕ) (corners : List ℤ) (k : ℕ) {p : SignedProduct}
-    → Terms (length (pointsOf (take (2 * getD starts (k + 1) 0 - 2 * getD starts k 0) (drop (2 * getD starts k 0) corners)))) p → Terms (getD starts (k + 1) 0 - getD starts k 0) p
-taken-terms s c k {p} t = of _ _ (getD s (k + 1) 0) (getD s k 0) (length-points (take (2 * getD s (k + 1) 0 - 2 * getD s k 0) (drop (2 * getD s k 0) c))) (omega (arith, length-take (2 * getD s (k + 1) 0 - 2 * getD s k 0) (drop (2 * getD s k 0) c))) t
+    → Terms (length (pointsOf (cornersBetween (getD starts k 0) (getD starts (k + 1) 0) corners))) p → Terms (getD starts (k + 1) 0 - getD starts k 0) p
+taken-terms s c k {p} t = of _ (getD s (k + 1) 0) (getD s k 0) (ap length (points-slice (getD s k 0) (getD s (k + 1) 0) c) ∙ length-drop (getD s k 0) (take (getD s (k + 1) 0) (pointsOf c))) (omega (arith, length-take (getD s (k + 1) 0) (pointsOf c))) t
   where
-    of : (n m b a : ℕ) → n ≡ m / 2 → m ≤ 2 * b - 2 * a → Terms n p → Terms (b - a) p
-    of n m b a e h t = let l : n ≤ b - a = omega arith in record { most = omega (arith, t .most) }
+    of : (n b a : ℕ) {m : ℕ} → n ≡ m - a → m ≤ b → Terms n p → Terms (b - a) p
+    of n b a e h t = let l : n ≤ b - a = omega arith in record { most = omega (arith, t .most) }
 
 module _ (ps : List (List Pt)) where
   -- the total, and the areas from contour k on, make the whole; n corners are before it

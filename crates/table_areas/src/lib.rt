@@ -2,7 +2,7 @@
 // (`contour_area`), of contour k (`area_at`) and of all (`total_area`), each exactly as the
 // shoelace formula has it, whichever way the contours run. A sum may leave 64 bits, so it has two
 // words and a sign. One pass over the corners. Leans on wide, placement (what such starts are),
-// walk_read (a corner of lent numbers), table and plane.
+// corners, table and plane.
 ghost use mathlib.Core.Path.{_≡_};
 ghost use mathlib.Core.Bool.{false};
 ghost use mathlib.Core.List.{[]};
@@ -13,13 +13,14 @@ ghost use Rattle.plane.specs.Plane.{cross};
 ghost use Rattle.plane.specs.Contour.{contourArea};
 ghost use Rattle.plane.specs.Machine.{CrossSize};
 ghost use Rattle.wide.specs.Words.{value};
-ghost use Rattle.table.specs.Table.{pointsOf, offRange, tableParts, partCount};
+ghost use Rattle.table.specs.Table.{tableParts, partCount};
+ghost use Rattle.corners.specs.Corners.{pointsOf, offRange};
 ghost use Rattle.pair.specs.Walk.{cornerAt};
 ghost use Rattle.placement.specs.Placement.{EdgeAt, Placeable};
 ghost use Rattle.table_areas.specs.Areas.{totalArea, Terms};
+use corners::corner_at;
+use corners::corner_count;
 use plane::IntPoint;
-use walk_read::corner_at;
-use walk_read::corner_count;
 use wide::SignedProduct;
 use wide::Words;
 
@@ -87,9 +88,9 @@ pub fn area_at(starts: &[u32], corners: &[i32], k: usize) -> SignedProduct
     ensures sum { λ r. ⌜ value r ≡ contourArea (getD (tableParts (now (starts .entry)) (now (corners .entry))) k []) ⌝ }
     ensures size { λ r. ⌜ Terms (getD (now (starts .entry)) (k + 1) 0 - getD (now (starts .entry)) k 0) r ⌝ }
 {
-    let from = 2 * (starts[k] as usize);
-    let to = 2 * (starts[k + 1] as usize);
-    contour_area(&corners[from..to])
+    let from = starts[k] as usize;
+    let to = starts[k + 1] as usize;
+    contour_area(corners::part(corners, from, to))
 }
 
 // The doubled areas of all contours, added.

@@ -17,7 +17,8 @@ use Rattle.integers.proofs.Order.{zarith, by-test, ≤-trans, <-≤}
 use Rattle.integers.proofs.Tests.{≤-ltZ, ≤-leZ, ltZ-<, ltZ-≤}
 use Rattle.plane.specs.Plane.{Pt}
 use Rattle.table.specs.declared.IntRect.{IntRect}
-use Rattle.table.specs.Table.{pointsOf, withinBounds, someOutside, boundsBroken}
+use Rattle.table.specs.Table.{withinBounds, someOutside, boundsBroken}
+use Rattle.corners.specs.Corners.{pointsOf}
 use Rattle.table.specs.Stored.{wordsOf, wordAt, signed}
 use Rattle.table.proofs.Words.{length-words}
 use Rattle.pairs_job.specs.Job.{cornersAt, tableWords}

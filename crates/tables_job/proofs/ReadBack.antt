@@ -16,7 +16,8 @@ use Rattle.integers.specs.Faults.{firstFault}
 use Rattle.integers.proofs.Order.{by-test}
 use Rattle.integers.proofs.Tests.{either-false}
 use Rattle.integers.proofs.Faults.{first-none, first-next}
-use Rattle.table.specs.Table.{tableBroken, pointsOf, offRange, boundsList, boundsBroken, partCount}
+use Rattle.table.specs.Table.{tableBroken, boundsList, boundsBroken, partCount}
+use Rattle.corners.specs.Corners.{pointsOf, offRange}
 use Rattle.table.specs.Stored.{wordsOf, wordBytes, wordAt, signed, storedStarts, storedCorners}
 use Rattle.table.proofs.Words.{Word, length-words, length-wordBytes, words-wordBytes, words-small}
 use Rattle.minkowski.specs.Pairs.{operandOff, operandParts, someWindingLeaves, resultBounds, pairKinds}

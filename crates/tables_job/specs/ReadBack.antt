@@ -11,7 +11,8 @@ use lib.ListN.{length}
 use Rattle.integers.specs.Lists.{All}
 use Rattle.integers.specs.Faults.{Kind, firstFault, faultEmpty, faultRange, faultResult, faultWinding}
 use Rattle.table.specs.declared.IntRect.{IntRect}
-use Rattle.table.specs.Table.{pointsOf, offRange, boundsList, boundsBroken, partCount}
+use Rattle.table.specs.Table.{boundsList, boundsBroken, partCount}
+use Rattle.corners.specs.Corners.{pointsOf, offRange}
 use Rattle.table.specs.Stored.{wordAt, signed}
 use Rattle.minkowski.specs.Pairs.{Operand, operandParts, operandOff, someWindingLeaves, resultBounds}
 use Rattle.pairs_job.specs.Job.{startsAt, cornersAt, tableWords, reflectedOf, leftOf, rightOf, jobFault}

@@ -5,7 +5,7 @@ use Prim.Native.Nat.{_≤_, _<_, _-_}
 use native.Mathlib.Omega.{arith}
 use borrow.Author.Needs.{needs}
 use lib.ListN.{length, drop}
-use Rattle.table.specs.Table.{pointsOf}
+use Rattle.corners.specs.Corners.{pointsOf}
 use Rattle.mesh_bounds.specs.Bounds.{widenedBy, boundsOf}
 use Rattle.measure.proofs.Answers.{bounds-none, bounds-begin, bounds-more, bounds-done}
 use Rattle.measure.proofs.corner_bounds.Statement.{statement}

@@ -1,29 +1,17 @@
 -- `placement::placed_at` meets its contract: contour k lies within the corners. Assumes nothing.
-use mathlib.Core.Path.{_≡_, _∙_, ap}
-use mathlib.Core.List.{List, []}
-use Prim.Native.Nat.{ℕ, _+_, _*_, _<_}
-use native.Mathlib.Numerals.{add-one}
-use lib.IntN.{ℤ}
+use mathlib.Core.Path.{_∙_, ap}
+use Prim.Native.Nat.{_+_, _*_}
 use lib.ListN.{getD}
-use lib.Seq.{slice}
 use native.Mathlib.Omega.{arith}
 use Rattle.plane.specs.Machine.{point}
-use Rattle.corners.specs.Corners.{pointsOf, offRange, cornersBetween}
+use Rattle.corners.specs.Corners.{pointsOf, offRange}
 use Rattle.corners.proofs.Corners.{length-points}
 use Rattle.corners.proofs.Range.{off-slice}
-use Rattle.table.specs.Table.{tableParts, partCount}
-use Rattle.table.specs.Shown.{partNumbers}
-use Rattle.table.proofs.Shown.{part-is}
 use Rattle.placement.specs.Placement.{contactIn}
-use Rattle.placement.proofs.Contours.{lies}
+use Rattle.placement.proofs.Contours.{lies, contour-at}
 use borrow.Author.Needs.{needs}
 use Rattle.placement.proofs.placed_at.Statement.{statement}
 use Rattle.placement.proofs.placed_at.Tie as tie
-
--- the corners from start k to the next are contour k
-contour-at : (starts : List ℕ) (corners : List ℤ) (k : ℕ) → k < partCount starts → pointsOf (cornersBetween (getD starts k 0) (getD starts (k + 1) 0) corners) ≡ getD (tableParts starts corners) k []
-unfolding partNumbers
-contour-at s c k h = ap (λ m. pointsOf (slice (2 * getD s k 0) (2 * getD s m 0) c)) (add-one k) ∙ part-is s c k h
 
 mul-from : tie.Need-mul-from
 mul-from c = search needs

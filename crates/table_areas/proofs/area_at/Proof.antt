@@ -1,11 +1,15 @@
 -- `table_areas::area_at` meets its contract: contour k lies within the corners. Assumes nothing.
-use mathlib.Core.Path.{_∙_, ap}
+use mathlib.Core.Path.{_∙_, ap, subst}
+use Prim.Native.Nat.{_+_, _*_}
+use lib.ListN.{getD, length}
 use native.Mathlib.Omega.{arith}
 use borrow.Author.Needs.{needs}
 use Rattle.plane.specs.Contour.{contourArea}
-use Rattle.table.specs.Table.{pointsOf, offRange}
-use Rattle.table.proofs.Shown.{numbers-taken, part-is, part-ranged}
-use Rattle.placement.proofs.Contours.{lies}
+use Rattle.corners.specs.Corners.{pointsOf, offRange}
+use Rattle.corners.proofs.Corners.{length-points}
+use Rattle.corners.proofs.Range.{off-slice}
+use Rattle.placement.proofs.Contours.{lies, contour-at}
+use Rattle.table_areas.specs.Areas.{Terms}
 use Rattle.table_areas.proofs.Sums.{taken-terms}
 use Rattle.table_areas.proofs.area_at.Statement.{statement}
 use Rattle.table_areas.proofs.area_at.Tie as tie
@@ -19,9 +23,6 @@ shared-slice-read-from c = search needs
 cast-from : tie.Need-cast-from
 cast-from c = let p = lies _ _ _ (c .before .before .pre .0) (c .before .before .pre .1) in omega arith
 
-mul-from-2 : tie.Need-mul-from-2
-mul-from-2 c = let p = lies _ _ _ (c .before .before .pre .0) (c .before .before .pre .1) in omega arith
-
 add-to : tie.Need-add-to
 add-to c = search needs
 
@@ -34,33 +35,24 @@ shared-slice-read-to c = search needs
 cast-to : tie.Need-cast-to
 cast-to c = let p = lies _ _ _ (c .before .before .before .pre .0) (c .before .before .before .pre .1) in omega arith
 
-mul-to-2 : tie.Need-mul-to-2
-mul-to-2 c = let p = lies _ _ _ (c .before .before .before .pre .0) (c .before .before .before .pre .1) in omega arith
-
-mul-contour-area : tie.Need-mul-contour-area
-mul-contour-area c = let p = lies _ _ _ (c .before .before .before .pre .0) (c .before .before .before .pre .1) in omega arith
-
-sub-contour-area : tie.Need-sub-contour-area
-sub-contour-area c = let p = lies _ _ _ (c .before .before .before .pre .0) (c .before .before .before .pre .1) in omega arith
-
-part-contour-area-start : tie.Need-part-contour-area-start
-part-contour-area-start c = let p = lies _ _ _ (c .before .before .before .pre .0) (c .before .before .before .pre .1) in omega arith
-
-part-contour-area-end : tie.Need-part-contour-area-end
-part-contour-area-end c = let p = lies _ _ _ (c .before .before .before .pre .0) (c .before .before .before .pre .1) in omega arith
+part-requires : tie.Need-part-requires
+part-requires c κs =
+    let s = c .before .before .before in
+    let p = lies _ _ _ (s .pre .0) (s .pre .1) in
+    (p .rises, omega (arith, p .within, length-points (s .args .corners .now)))
 
 contour-area-requires : tie.Need-contour-area-requires
 contour-area-requires c κs =
     let s = c .before .before .before .before in
-    let p = lies _ _ _ (s .pre .0) (s .pre .1) in
-    ap offRange (numbers-taken (s .args .starts .now) (s .args .corners .now) (s .args .k) (p .rises)) ∙ part-ranged _ _ _ (s .pre .0 .ranged)
+    let g = s .args in
+    ap offRange (c .part .ensures .0) ∙ off-slice (2 * getD (g .starts .now) (g .k) 0) (2 * getD (g .starts .now) (g .k + 1) 0) (g .corners .now) (s .pre .0 .ranged)
 
 returns : tie.Need-returns
 returns c =
     let s = c .before .before .before .before .before in
-    let p = lies _ _ _ (s .pre .0) (s .pre .1) in (
-      c .contour-area .ensures .0 ∙ ap contourArea (ap pointsOf (numbers-taken (s .args .starts .now) (s .args .corners .now) (s .args .k) (p .rises)) ∙ part-is _ _ _ (s .pre .1)),
-      taken-terms (s .args .starts .now) (s .args .corners .now) (s .args .k) (c .contour-area .ensures .1),
+    let g = s .args in (
+      c .contour-area .ensures .0 ∙ ap contourArea (ap pointsOf (c .before .part .ensures .0) ∙ contour-at _ _ _ (s .pre .1)),
+      taken-terms (g .starts .now) (g .corners .now) (g .k) (subst (λ l. Terms (length (pointsOf l)) _) (c .before .part .ensures .0) (c .contour-area .ensures .1)),
     )
 
 pub area-at-spec : {M : Type 1} → statement M
@@ -70,15 +62,10 @@ area-at-spec =
     mul-from
     shared-slice-read-from
     cast-from
-    mul-from-2
     add-to
     mul-to
     shared-slice-read-to
     cast-to
-    mul-to-2
-    mul-contour-area
-    sub-contour-area
-    part-contour-area-start
-    part-contour-area-end
+    part-requires
     contour-area-requires
     returns)

@@ -8,8 +8,8 @@ use lib.ListN.{length}
 use mir.Syntax.{w64}
 use Rattle.integers.proofs.Bits.{got}
 use Rattle.plane.specs.Machine.{CrossSize}
-use Rattle.table.specs.Table.{pointsOf}
-use Rattle.table.proofs.Corners.{length-points}
+use Rattle.corners.specs.Corners.{pointsOf}
+use Rattle.corners.proofs.Corners.{length-points}
 use Rattle.table_areas.proofs.Sums.{Summing, high-of-terms, sums-start, sums-turn, sums-end, no-corners}
 use Rattle.table_areas.proofs.contour_area.Statement.{statement}
 use Rattle.table_areas.proofs.contour_area.Tie as tie

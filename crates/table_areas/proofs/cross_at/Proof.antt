@@ -7,7 +7,7 @@ use mir.Syntax.{w64}
 use Rattle.integers.proofs.Bits.{got}
 use Rattle.plane.specs.Plane.{O, areaTwo}
 use Rattle.plane.specs.Machine.{CrossSize}
-use Rattle.table.specs.Table.{pointsOf}
+use Rattle.corners.specs.Corners.{pointsOf}
 use Rattle.pair.specs.Walk.{cornerAt}
 use Rattle.walk_read.proofs.Grid.{grid-at}
 use Rattle.table_areas.proofs.Sums.{origin-area}
