@@ -460,6 +460,13 @@ class Viewer(unittest.TestCase):
         self.click("#message button")
         self.assertEqual(self.message(), "")
 
+    def test_a_mesh_as_text_may_have_no_limit_and_a_mark_in_front(self):
+        self.drop(mesh__txt="\ufefflimit none ear\n(0,0) (4,0) (0,4) none none none\n")
+        self.assertEqual(self.message(), "")
+        self.assertIn("no corner limit, split ear", self.text("body"))
+        self.drop(mesh__txt="limit 3 fan\n(0,0) (4,0) (0,4) none none none\n")
+        self.assertIn("corner limit 3, split fan", self.text("body"))
+
     def test_a_file_past_the_limit_is_refused(self):
         self.drop(dart__out=DART)
         self.js("""const data = new DataTransfer();
