@@ -112,9 +112,9 @@ no-corners (p ∷ l) h = absurd (omega (arith, h))
 -- ---- a table
 
 -- contour k as the machine takes it has as many corners as lie between its starts, or fewer
-pub taken-terms : (starts : List ℕ) (corners : List ℤ) (k : ℕ) {p : SignedProduct}
-    → Terms (length (pointsOf (cornersBetween (getD starts k 0) (getD starts (k + 1) 0) corners))) p → Terms (getD starts (k + 1) 0 - getD starts k 0) p
-taken-terms s c k {p} t = of _ (getD s (k + 1) 0) (getD s k 0) (ap length (points-slice (getD s k 0) (getD s (k + 1) 0) c) ∙ length-drop (getD s k 0) (take (getD s (k + 1) 0) (pointsOf c))) (omega (arith, length-take (getD s (k + 1) 0) (pointsOf c))) t
+pub taken-terms : (starts : List ℕ) (corners : List ℤ) (k : ℕ) {l : List ℤ} {p : SignedProduct}
+    → l ≡ cornersBetween (getD starts k 0) (getD starts (k + 1) 0) corners → Terms (length (pointsOf l)) p → Terms (getD starts (k + 1) 0 - getD starts k 0) p
+taken-terms s c k {l} {p} e t = of _ (getD s (k + 1) 0) (getD s k 0) (ap (λ m. length (pointsOf m)) e ∙ ap length (points-slice (getD s k 0) (getD s (k + 1) 0) c) ∙ length-drop (getD s k 0) (take (getD s (k + 1) 0) (pointsOf c))) (omega (arith, length-take (getD s (k + 1) 0) (pointsOf c))) t
   where
     of : (n b a : ℕ) {m : ℕ} → n ≡ m - a → m ≤ b → Terms n p → Terms (b - a) p
     of n b a e h t = let l : n ≤ b - a = omega arith in record { most = omega (arith, t .most) }

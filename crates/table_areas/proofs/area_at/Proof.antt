@@ -1,7 +1,7 @@
 -- `table_areas::area_at` meets its contract: contour k lies within the corners. Assumes nothing.
-use mathlib.Core.Path.{_∙_, ap, subst}
+use mathlib.Core.Path.{_∙_, ap}
 use Prim.Native.Nat.{_+_, _*_}
-use lib.ListN.{getD, length}
+use lib.ListN.{getD}
 use native.Mathlib.Omega.{arith}
 use borrow.Author.Needs.{needs}
 use Rattle.plane.specs.Contour.{contourArea}
@@ -9,7 +9,6 @@ use Rattle.corners.specs.Corners.{pointsOf, offRange}
 use Rattle.corners.proofs.Corners.{length-points}
 use Rattle.corners.proofs.Range.{off-slice}
 use Rattle.placement.proofs.Contours.{lies, contour-at}
-use Rattle.table_areas.specs.Areas.{Terms}
 use Rattle.table_areas.proofs.Sums.{taken-terms}
 use Rattle.table_areas.proofs.area_at.Statement.{statement}
 use Rattle.table_areas.proofs.area_at.Tie as tie
@@ -52,7 +51,7 @@ returns c =
     let s = c .before .before .before .before .before in
     let g = s .args in (
       c .contour-area .ensures .0 ∙ ap contourArea (ap pointsOf (c .before .part .ensures .0) ∙ contour-at _ _ _ (s .pre .1)),
-      taken-terms (g .starts .now) (g .corners .now) (g .k) (subst (λ l. Terms (length (pointsOf l)) _) (c .before .part .ensures .0) (c .contour-area .ensures .1)),
+      taken-terms (g .starts .now) (g .corners .now) (g .k) (c .before .part .ensures .0) (c .contour-area .ensures .1),
     )
 
 pub area-at-spec : {M : Type 1} → statement M
