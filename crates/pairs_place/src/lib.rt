@@ -114,7 +114,11 @@ pub fn place_operands(
     z: IntPoint,
 ) -> Placed
     requires { ⌜ OnGrid z ⌝ }
-    ensures { λ r. ⌜ r ≡ placedBy (callOf operation (now («left_starts» .entry)) (now («left_corners» .entry)) (now («right_starts» .entry)) (now («right_corners» .entry))) (point z) ⌝ }
+    ensures { λ r.
+        let s = now («left_starts» .entry) in
+        let c = now («left_corners» .entry) in
+        let x = callOf operation s c (now («right_starts» .entry)) (now («right_corners» .entry)) in
+        ⌜ r ≡ placedBy x (point z) ⌝ }
 {
     let mut points = [[0i32; 2]; POINTS];
     let mut firsts = [0u32; FIRSTS];
