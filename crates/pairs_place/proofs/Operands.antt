@@ -20,7 +20,7 @@ use Rattle.minkowski.specs.Pairs.{pairContours, pairKinds, pairsFault}
 use Rattle.minkowski_pairs.proofs.Bounds.{result-within}
 use Rattle.minkowski_work.specs.Scratch.{Call, BothWalked}
 use Rattle.minkowski_work.proofs.Faults.{operands-none}
-use Rattle.minkowski_work.proofs.BothWalked.{unrolleds, contours-in}
+use Rattle.minkowski_work.proofs.Walked.{unrolleds, contours-in}
 use Rattle.pair_walks.specs.Walks.{contoursIn}
 use Rattle.pair_numbers.specs.Numbers.{Keyed}
 use Rattle.pairs_work.specs.declared.Begun.{Begun}
