@@ -5,7 +5,8 @@ use mathlib.Core.List.{List, _++_}
 use Prim.Native.Nat.{ℕ, _+_, _*_}
 use lib.ListN.{length}
 use Rattle.mesh.specs.Mesh.{maxTriangles}
+use Rattle.mesh.specs.Rows.{rowBytes}
 use Rattle.listing.specs.Listing.{areasOf}
 
 abbrev pub MoreInput : Type 0
-MoreInput = (bytes more : List ℕ) → length bytes ≡ 20 + 36 * maxTriangles + 1 → areasOf (bytes ++ more) ≡ areasOf bytes
+MoreInput = (bytes more : List ℕ) → length bytes ≡ 20 + rowBytes * maxTriangles + 1 → areasOf (bytes ++ more) ≡ areasOf bytes

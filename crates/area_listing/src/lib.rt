@@ -12,7 +12,7 @@ use file_parts::NUMBERS;
 use file_parts::STARTS;
 
 // The longest good file and one byte more, so that a longer one is seen to be too long.
-pub const INPUT: usize = mesh_file::HEADER + mesh_file::RECORD * mesh::MAX_TRIANGLES + 1;
+pub const INPUT: usize = mesh_file::HEADER + mesh::ROW_BYTES * mesh::MAX_TRIANGLES + 1;
 
 // As many bytes as the longest listing has: 50 of the first line, 36 of each part's line beside its
 // corners, 26 of each corner, of which a triangle has at most six.

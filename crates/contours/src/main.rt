@@ -7,7 +7,7 @@ use meshes_job::JOB;
 use table_words::WORD;
 
 // As many bytes as the longest good file has.
-const FILE: usize = mesh_file::HEADER + mesh_file::RECORD * mesh::MAX_TRIANGLES;
+const FILE: usize = mesh_file::HEADER + mesh::ROW_BYTES * mesh::MAX_TRIANGLES;
 
 // An operation, two of the longest good files and one byte more, so that a longer input is seen to
 // be too long.

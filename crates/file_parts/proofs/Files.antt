@@ -18,7 +18,7 @@ use Rattle.integers.proofs.Faults.{first-next, first-empty, append-some, append
 use Rattle.integers.proofs.Overlay.{take-overlay, length-overlay}
 use Rattle.plane.specs.Plane.{Pt}
 use Rattle.mesh.specs.Mesh.{Mesh, meshKinds}
-use Rattle.mesh.specs.Rows.{rowsMesh}
+use Rattle.mesh.specs.Rows.{rowBytes, rowsMesh}
 use Rattle.table.specs.Stored.{wordsOf}
 use Rattle.table.specs.Table.{startsOf, cornersOf, countsOf, written, roomKinds}
 use Rattle.table.specs.declared.Counts.{Counts}
@@ -58,7 +58,7 @@ module _ (how : ConvexSplitStrategy) (m : ℕ) (mesh : Mesh) where
 
 module _ (bytes : List ℕ) (rows : List (List ℤ)) (h : firstFault (headerKinds bytes) ≡ 0) (n : length rows ≡ triangleCount bytes) where
   -- the bytes past the header hold as many records as there are rows
-  pub records-there : 36 * length rows ≤ length (take (length bytes - 20) (drop 20 bytes))
+  pub records-there : rowBytes * length rows ≤ length (take (length bytes - 20) (drop 20 bytes))
   records-there =
       let s = sound bytes h in
       let d : length bytes - 20 ≤ length (drop 20 bytes) = omega (arith, length-drop 20 bytes) in

@@ -11,6 +11,7 @@ use lib.ListN.{length, getD, length-append, List·getD-append}
 use Rattle.integers.specs.Faults.{firstFault}
 use Rattle.integers.proofs.Faults.{first-this, first-next}
 use Rattle.mesh.specs.Mesh.{maxTriangles}
+use Rattle.mesh.specs.Rows.{rowBytes}
 use Rattle.table.specs.Stored.{wordOf, wordAt}
 use Rattle.table.proofs.Words.{words-at}
 use Rattle.listing.specs.File.{triangleCount, headerBroken, headerKinds, fileFault}
@@ -26,7 +27,7 @@ not-accepted true e = omega arith
 not-accepted false e = omega arith
 
 -- 1 or 13, by the count alone: 20 + 36 · 1,024 < 36,885
-module _ (l : List ℕ) (h : 20 + 36 * maxTriangles + 1 ≤ length l) where
+module _ (l : List ℕ) (h : 20 + rowBytes * maxTriangles + 1 ≤ length l) where
   by-count : (t : Bool) → t ≡ ltb maxTriangles (triangleCount l) → firstFault (headerKinds l) ≡ cond t 1 13
   by-count true e = first-next 13 _ _ (le-ltb (length l) 20 (omega arith)) ∙ first-this 1 _ _ (sym e)
   by-count false e =
@@ -49,7 +50,7 @@ word-kept bytes more k h =
     ∙ (λ t. wordOf (at (4 * k) (omega arith) t) (at (4 * k + 1) (omega arith) t) (at (4 * k + 2) (omega arith) t) (at (4 * k + 3) (omega arith) t))
     ∙ sym (words-at bytes k h)
 
-pub more-fault : (bytes more : List ℕ) → length bytes ≡ 20 + 36 * maxTriangles + 1 → fileFault (bytes ++ more) ≡ fileFault bytes
+pub more-fault : (bytes more : List ℕ) → length bytes ≡ 20 + rowBytes * maxTriangles + 1 → fileFault (bytes ++ more) ≡ fileFault bytes
 more-fault bytes more e =
     too-long (bytes ++ more) (omega (arith, length-append bytes more))
     ∙ ap (λ n. cond (ltb maxTriangles n) 1 13) (word-kept bytes more 1 (omega arith))

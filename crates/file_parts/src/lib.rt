@@ -18,7 +18,7 @@ pub const NUMBERS: usize = corners::WIDTH * (6 * mesh::MAX_TRIANGLES);
 // The split parts of a file whose header is sound, its mesh read into as many rows.
 fn split_sound(
     bytes: &[u8],
-    rows: &mut [[i32; 9]],
+    rows: &mut [mesh::Row],
     starts: &mut [u32],
     corners: &mut [i32],
 ) -> Counts
@@ -52,6 +52,6 @@ pub fn split_file(bytes: &[u8], starts: &mut [u32; STARTS], corners: &mut [i32; 
         return convex_gather::refusal(fault);
     }
     let n = mesh_file::triangle_count(bytes) as usize;
-    let mut rows = [[0i32; 9]; mesh::MAX_TRIANGLES];
+    let mut rows = [[0i32; mesh::ROW]; mesh::MAX_TRIANGLES];
     split_sound(bytes, &mut rows[..n], starts, corners)
 }

@@ -13,6 +13,7 @@ use Rattle.integers.specs.Faults.{firstFault}
 use Rattle.integers.proofs.Faults.{first-none, append-some, append-none}
 use Rattle.integers.proofs.Tests.{either-false}
 use Rattle.mesh.specs.Mesh.{maxTriangles, meshKinds}
+use Rattle.mesh.specs.Rows.{rowBytes}
 use Rattle.corners.proofs.Range.{was-taken}
 use Rattle.listing.specs.File.{totalBytes, triangleCount, recordOffset, splitNumber, meshOf, headerBroken, headerKinds, fileFault}
 
@@ -33,14 +34,14 @@ module _ (bytes : List ℕ) where
 pub record Sound (bytes : List ℕ) : Type 0 where
   pub enough : 20 ≤ length bytes
   pub few : triangleCount bytes ≤ maxTriangles
-  pub whole : length bytes ≡ 20 + 36 * triangleCount bytes
+  pub whole : length bytes ≡ 20 + rowBytes * triangleCount bytes
 
-pub unbroken : (bytes : List ℕ) → headerBroken bytes ≡ false → length bytes ≡ 20 + 36 * triangleCount bytes
+pub unbroken : (bytes : List ℕ) → headerBroken bytes ≡ false → length bytes ≡ 20 + rowBytes * triangleCount bytes
 unfolding headerBroken
 unbroken bytes e =
     let a = was-taken (eqb (recordOffset bytes) 20) _ e in
     let b = either-false (ltb 2 (splitNumber bytes)) _ (a .1) in
-    let c = was-taken (eqb (totalBytes bytes) (20 + 36 * triangleCount bytes)) _ (b .1) in
+    let c = was-taken (eqb (totalBytes bytes) (20 + rowBytes * triangleCount bytes)) _ (b .1) in
     sym (eqb-true (totalBytes bytes) (length bytes) (not-false _ (c .1))) ∙ eqb-true _ _ (c .0)
 
 pub sound : (bytes : List ℕ) → firstFault (headerKinds bytes) ≡ 0 → Sound bytes

@@ -9,6 +9,7 @@ use lib.ListN.{length, getD, drop}
 use Rattle.integers.specs.Faults.{Kind, firstFault, faultFile, faultTriangles}
 use Rattle.plane.specs.Plane.{Pt}
 use Rattle.mesh.specs.Mesh.{Triangle, Mesh, meshKinds, maxTriangles}
+use Rattle.mesh.specs.Rows.{rowWidth, rowBytes}
 use Rattle.table.specs.Stored.{wordsOf, wordAt, signed}
 use Rattle.split.specs.declared.ConvexSplitStrategy.{ConvexSplitStrategy}
 use Rattle.split.specs.declared.ConvexSplitStrategy.the-variants.{EarClipping, Fan, Centroid}
@@ -46,10 +47,10 @@ pointAt words k = record { x = signed (getD words k 0); y = signed (getD words (
 abbrev pub recordOf : List ℕ → Triangle
 recordOf ws = record { v0 = pointAt ws 0; v1 = pointAt ws 2; v2 = pointAt ws 4; n0 = getD ws 6 0; n1 = getD ws 7 0; n2 = getD ws 8 0 }
 
--- n records, nine words each
+-- n records, each as wide as a row
 unfoldable pub recordsOf : ℕ → List ℕ → Mesh
 recordsOf zero ws = []
-recordsOf (suc n) ws = recordOf ws ∷ recordsOf n (drop 9 ws)
+recordsOf (suc n) ws = recordOf ws ∷ recordsOf n (drop rowWidth ws)
 
 unfoldable pub meshOf : List ℕ → Mesh
 meshOf bytes = recordsOf (triangleCount bytes) (drop 5 (wordsOf bytes))
@@ -66,7 +67,7 @@ unfoldable pub headerBroken : List ℕ → Bool
 headerBroken bytes =
     cond (eqb (recordOffset bytes) 20)
     (cond (ltb 2 (splitNumber bytes)) true
-    (cond (eqb (totalBytes bytes) (20 + 36 * triangleCount bytes)) (not (eqb (totalBytes bytes) (length bytes))) true))
+    (cond (eqb (totalBytes bytes) (20 + rowBytes * triangleCount bytes)) (not (eqb (totalBytes bytes) (length bytes))) true))
     true
 
 -- "Under 20 bytes gives 13; then a count above 1,024 gives 1; then .. 13."

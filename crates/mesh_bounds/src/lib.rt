@@ -6,6 +6,7 @@ ghost use mathlib.Core.Path.{_≡_};
 ghost use Rattle.plane.specs.Machine.{point};
 ghost use Rattle.mesh.specs.Rows.{rowTriangle, rowsMesh};
 ghost use Rattle.mesh_bounds.specs.Bounds.{lesser, greater, pointBounds, widened, widenedBy, corners, meshBounds};
+use mesh::Row;
 use plane::IntPoint;
 use table::IntRect;
 
@@ -54,7 +55,7 @@ pub fn with_point(b: IntRect, p: IntPoint) -> IntRect
 }
 
 // Bounds that the three vertices of a row are brought into.
-fn with_row(b: IntRect, row: [i32; 9]) -> IntRect
+fn with_row(b: IntRect, row: Row) -> IntRect
     ensures { λ r. ⌜ r ≡ widenedBy b (corners (rowTriangle row)) ⌝ }
 {
     let one = with_point(b, mesh::vertex_of(row, 0));
@@ -63,7 +64,7 @@ fn with_row(b: IntRect, row: [i32; 9]) -> IntRect
 }
 
 // The least and greatest x and y of all vertices; 0 where there are none.
-pub fn mesh_bounds(rows: &[[i32; 9]]) -> IntRect
+pub fn mesh_bounds(rows: &[Row]) -> IntRect
     ensures { λ r. ⌜ r ≡ meshBounds (rowsMesh (now (rows .entry))) ⌝ }
 {
     if rows.len() == 0 {

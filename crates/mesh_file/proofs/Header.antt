@@ -10,6 +10,7 @@ use lib.ListN.{length}
 use Rattle.integers.specs.Faults.{firstFault}
 use Rattle.integers.proofs.Faults.{first-this, first-next, first-empty}
 use Rattle.mesh.specs.Mesh.{maxTriangles}
+use Rattle.mesh.specs.Rows.{rowBytes}
 use Rattle.table.specs.Stored.{wordAt}
 use Rattle.listing.specs.File.{headerBroken, headerKinds}
 
@@ -24,11 +25,11 @@ module _ (bytes : List ℕ) where
     other-split h = rw (← p, eq-eqb _ 20 a, ← q, lt-ltb 2 s h)
 
     module _ (b : s ≤ 2) {t : ℕ} (r : t ≡ wordAt bytes 0) {n : ℕ} (u : n ≡ wordAt bytes 1) where
-      pub other-total : (t ≡ 20 + 36 * n → ⊥) → true ≡ headerBroken bytes
+      pub other-total : (t ≡ 20 + rowBytes * n → ⊥) → true ≡ headerBroken bytes
       unfolding headerBroken
       other-total h = rw (← p, eq-eqb _ 20 a, ← q, le-ltb 2 s b, ← r, ← u, ne-eqb _ _ h)
 
-      pub by-length : t ≡ 20 + 36 * n → not (eqb t (length bytes)) ≡ headerBroken bytes
+      pub by-length : t ≡ 20 + rowBytes * n → not (eqb t (length bytes)) ≡ headerBroken bytes
       unfolding headerBroken
       by-length h = rw (← p, eq-eqb _ 20 a, ← q, le-ltb 2 s b, ← r, ← u, eq-eqb _ _ h)
 

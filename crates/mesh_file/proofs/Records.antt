@@ -12,7 +12,7 @@ use mir.Syntax.{w32}
 use mir.ValLaws.{ofZ-toZ}
 use Rattle.integers.specs.Word.{unsigned}
 use Rattle.mesh.specs.Mesh.{Triangle}
-use Rattle.mesh.specs.Rows.{rowTriangle, rowsMesh}
+use Rattle.mesh.specs.Rows.{rowWidth, rowTriangle, rowsMesh}
 use Rattle.table.specs.Stored.{wordsOf, wordAt, signed}
 use Rattle.listing.specs.File.{triangleCount, recordOf, recordsOf, meshOf}
 
@@ -51,24 +51,24 @@ row-record ws k pa pb pc pd pe pf pg rg ph rh pi ri =
 
 -- ---- records
 
-pub records-more : (k : ℕ) (ws : List ℕ) → recordsOf (suc k) ws ≡ recordsOf k ws ++ (recordOf (drop (9 * k) ws) ∷ [])
+pub records-more : (k : ℕ) (ws : List ℕ) → recordsOf (suc k) ws ≡ recordsOf k ws ++ (recordOf (drop (rowWidth * k) ws) ∷ [])
 unfolding recordsOf
 records-more zero ws = refl
 records-more (suc k) ws =
-    let e : 9 + 9 * k ≡ 9 * suc k = omega arith in
-    ap (λ l. recordOf ws ∷ l) (records-more k (drop 9 ws))
-    ∙ ap (λ l. recordOf ws ∷ (recordsOf k (drop 9 ws) ++ (recordOf l ∷ []))) (drop-drop (9 * k) 9 ws ∙ ap (λ m. drop m ws) e)
+    let e : rowWidth + rowWidth * k ≡ rowWidth * suc k = omega arith in
+    ap (λ l. recordOf ws ∷ l) (records-more k (drop rowWidth ws))
+    ∙ ap (λ l. recordOf ws ∷ (recordsOf k (drop rowWidth ws) ++ (recordOf l ∷ []))) (drop-drop (rowWidth * k) rowWidth ws ∙ ap (λ m. drop m ws) e)
 
 pub no-records : (rows : List (List ℤ)) (ws : List ℕ) → rowsMesh (take 0 rows) ≡ recordsOf 0 ws
 unfolding rowsMesh recordsOf
 no-records rows ws = refl
 
 module _ (ws : List ℕ) (rows : List (List ℤ)) where
-  pub row-more : (k : ℕ) → k < length rows → rowsMesh (take k rows) ≡ recordsOf k ws → (v : List ℤ) → rowTriangle v ≡ recordOf (drop (9 * k) ws)
+  pub row-more : (k : ℕ) → k < length rows → rowsMesh (take k rows) ≡ recordsOf k ws → (v : List ℤ) → rowTriangle v ≡ recordOf (drop (rowWidth * k) ws)
       → rowsMesh (take (k + 1) (set rows k v)) ≡ recordsOf (k + 1) ws
   unfolding rowsMesh
   row-more k h p v q =
-      rw (add-one, take-suc-set rows k v h, map-append, q, records-more k ws) (ap (λ l. l ++ (recordOf (drop (9 * k) ws) ∷ [])) p)
+      rw (add-one, take-suc-set rows k v h, map-append, q, records-more k ws) (ap (λ l. l ++ (recordOf (drop (rowWidth * k) ws) ∷ [])) p)
 
   pub rows-all : (n k : ℕ) → k ≡ n → length rows ≡ n → rowsMesh (take k rows) ≡ recordsOf k ws → rowsMesh rows ≡ recordsOf n ws
   rows-all n k e l p = sym (ap (λ m. rowsMesh (take m rows)) (e ∙ sym l) ∙ ap rowsMesh (take-length rows)) ∙ p ∙ ap (λ m. recordsOf m ws) e

@@ -8,16 +8,17 @@ ghost use Prim.Native.Nat.{_+_, _*_, _≤_};
 ghost use lib.ListN.{length, drop};
 ghost use Rattle.integers.specs.Word.{unsigned};
 ghost use Rattle.integers.specs.Faults.{firstFault};
-ghost use Rattle.mesh.specs.Rows.{rowTriangle, rowsMesh};
+ghost use Rattle.mesh.specs.Rows.{rowWidth, rowBytes, rowTriangle, rowsMesh};
 ghost use Rattle.table.specs.Stored.{wordsOf, wordAt, signed};
 ghost use Rattle.listing.specs.File.{triangleCount, cornerLimit, splitNumber, strategyOf, recordOf, recordsOf, headerBroken, headerKinds};
+use mesh::ROW;
+use mesh::ROW_BYTES;
+use mesh::Row;
 use split::ConvexSplitStrategy;
 use table_words::word_at;
 
-// The bytes of the header, which is also where the records begin, and of a record.
+// The bytes of the header, which is also where the records begin; a record has the bytes of a row.
 pub const HEADER: usize = 20;
-
-pub const RECORD: usize = 36;
 
 // The last split's number: "0 ear, 1 fan, 2 centroid" (document 01).
 const LAST_SPLIT: u32 = 2;
@@ -59,7 +60,7 @@ fn header_broken(bytes: &[u8]) -> bool
         return true;
     }
     let total = word_at(bytes, 0) as usize;
-    if total != HEADER + RECORD * (triangle_count(bytes) as usize) {
+    if total != HEADER + ROW_BYTES * (triangle_count(bytes) as usize) {
         return true;
     }
     total != bytes.len()
@@ -91,11 +92,11 @@ fn number_at(bytes: &[u8], k: usize) -> i32
 }
 
 // Record k as a row, of bytes that begin with record 0.
-fn row_at(bytes: &[u8], k: usize) -> [i32; 9]
-    requires { ⌜ 36 * k + 36 ≤ length (now bytes) ⌝ }
-    ensures { λ r. ⌜ rowTriangle r ≡ recordOf (drop (9 * k) (wordsOf (now (bytes .entry)))) ⌝ }
+fn row_at(bytes: &[u8], k: usize) -> Row
+    requires { ⌜ rowBytes * k + rowBytes ≤ length (now bytes) ⌝ }
+    ensures { λ r. ⌜ rowTriangle r ≡ recordOf (drop (rowWidth * k) (wordsOf (now (bytes .entry)))) ⌝ }
 {
-    let at = 9 * k;
+    let at = ROW * k;
     [
         number_at(bytes, at),
         number_at(bytes, at + 1),
@@ -110,8 +111,8 @@ fn row_at(bytes: &[u8], k: usize) -> [i32; 9]
 }
 
 // The first records as rows, as many as have room, of bytes that begin with record 0.
-pub fn read_rows(bytes: &[u8], rows: &mut [[i32; 9]])
-    requires { ⌜ 36 * length (now rows) ≤ length (now bytes) ⌝ }
+pub fn read_rows(bytes: &[u8], rows: &mut [Row])
+    requires { ⌜ rowBytes * length (now rows) ≤ length (now bytes) ⌝ }
     ensures { λ _. ⌜ rowsMesh (now (rows .exit)) ≡ recordsOf (length (now (rows .entry))) (wordsOf (now (bytes .entry))) ⌝ }
 {
     let mut k = 0;

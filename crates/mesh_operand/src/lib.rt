@@ -20,7 +20,7 @@ pub struct Taken {
 }
 
 // The bounds of an accepted file's mesh, read into as many rows.
-fn bounds_within(bytes: &[u8], rows: &mut [[i32; 9]]) -> IntRect
+fn bounds_within(bytes: &[u8], rows: &mut [mesh::Row]) -> IntRect
     requires { ⌜ RowsFor (now bytes) (now rows) ⌝ }
     ensures { λ r. ⌜ r ≡ meshBounds (meshOf (now (bytes .entry))) ⌝ }
 {
@@ -34,7 +34,7 @@ pub fn file_bounds(bytes: &[u8]) -> IntRect
     ensures { λ r. ⌜ r ≡ meshBounds (meshOf (now (bytes .entry))) ⌝ }
 {
     let n = mesh_file::triangle_count(bytes) as usize;
-    let mut rows = [[0i32; 9]; mesh::MAX_TRIANGLES];
+    let mut rows = [[0i32; mesh::ROW]; mesh::MAX_TRIANGLES];
     bounds_within(bytes, &mut rows[..n])
 }
 

@@ -4,7 +4,7 @@
 use parts_file::PARTS;
 
 // The longest good file and one byte more, so that a longer one is seen to be too long.
-const INPUT: usize = mesh_file::HEADER + mesh_file::RECORD * mesh::MAX_TRIANGLES + 1;
+const INPUT: usize = mesh_file::HEADER + mesh::ROW_BYTES * mesh::MAX_TRIANGLES + 1;
 
 fn main() {
     let mut bytes = [0u8; INPUT];
