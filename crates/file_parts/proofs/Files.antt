@@ -26,7 +26,7 @@ use Rattle.table.proofs.Answers.{refused-counts, refused-buffer, accepted-count
 use Rattle.table.proofs.Parts.{length-starts}
 use Rattle.corners.proofs.Corners.{length-numbers}
 use Rattle.split.specs.declared.ConvexSplitStrategy.{ConvexSplitStrategy}
-use Rattle.split.specs.Splitting.{splitParts, splitFault, splitCounts, splitStarts, splitCorners}
+use Rattle.split.specs.Splitting.{splitParts, splitFault, SplitAnswered}
 use Rattle.split.proofs.Sizes.{split-table}
 use Rattle.listing.specs.File.{triangleCount, cornerLimit, splitNumber, strategyOf, recordsOf, meshOf, headerKinds, fileFault, fileParts}
 use Rattle.listing.proofs.File.{header-told, mesh-told, accepted-mesh, sound}
@@ -128,13 +128,13 @@ module _ (bytes : List ℕ) (rows : List (List ℤ)) (s : List ℕ) (c : List �
       (λ t. splitFault how m (rowsMesh rows′) (room .for-starts t) (room .for-corners t)) ∙ split-fault how m (rowsMesh rows′)
       ∙ ap (λ x. firstFault (meshKinds x)) (rows-read bytes rows (room .header) (room .for-rows) rows′ e) ∙ sym (mesh-told bytes (room .header))
 
-  pub sound-left : {r : Counts} {s′ : List ℕ} {c′ : List ℤ} → r ≡ splitCounts how m (rowsMesh rows′) s c → s′ ≡ splitStarts how m (rowsMesh rows′) s c → c′ ≡ splitCorners how m (rowsMesh rows′) s c
-      → Left bytes s c r s′ c′
-  sound-left {r} {s′} {c′} er es ec =
-      let starts-are : s′ ≡ written (fileFault bytes) (startsOf (fileParts bytes)) s = es ∙ (λ t. written (fault-of t) (startsOf (parts-of t)) s) in
-      let corners-are : c′ ≡ written (fileFault bytes) (cornersOf (fileParts bytes)) c = ec ∙ (λ t. written (fault-of t) (cornersOf (parts-of t)) c) in (
-        er ∙ (λ t. countsOf (fault-of t) (parts-of t)),
-        (starts-are, (corners-are, λ z. all-within bytes s c (er ∙ (λ t. countsOf (fault-of t) (parts-of t))) starts-are corners-are z (room .for-starts) (room .for-corners))),
+  pub sound-left : {r : Counts} {s′ : List ℕ} {c′ : List ℤ} → SplitAnswered how m (rowsMesh rows′) s c r s′ c′ → Left bytes s c r s′ c′
+  sound-left {r} {s′} {c′} a =
+      let counts-are : r ≡ countsOf (fileFault bytes) (fileParts bytes) = a .counts ∙ (λ t. countsOf (fault-of t) (parts-of t)) in
+      let starts-are : s′ ≡ written (fileFault bytes) (startsOf (fileParts bytes)) s = a .starts ∙ (λ t. written (fault-of t) (startsOf (parts-of t)) s) in
+      let corners-are : c′ ≡ written (fileFault bytes) (cornersOf (fileParts bytes)) c = a .corners ∙ (λ t. written (fault-of t) (cornersOf (parts-of t)) c) in (
+        counts-are,
+        (starts-are, (corners-are, λ z. all-within bytes s c counts-are starts-are corners-are z (room .for-starts) (room .for-corners))),
       )
 
 -- ---- any file

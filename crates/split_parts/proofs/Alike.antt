@@ -13,7 +13,7 @@ use Rattle.table.specs.declared.Counts.{Counts}
 use Rattle.table.specs.Table.{roomKinds, Answered}
 use Rattle.convex.specs.Joining.{parts, partsFault, PartsAnswered}
 use Rattle.split.specs.declared.ConvexSplitStrategy.{ConvexSplitStrategy}
-use Rattle.split.specs.Splitting.{raised, splitContour, splitParts, splitFault, SplitAnswered, splitCounts, splitStarts, splitCorners}
+use Rattle.split.specs.Splitting.{raised, splitContour, splitParts, splitFault, SplitAnswered}
 use Rattle.split.proofs.Sizes.{split-whole}
 
 module _ (how : ConvexSplitStrategy) (limit : ℕ) (m : Mesh) (s : List ℕ) (c : List ℤ) {r : Counts} {s′ : List ℕ} {c′ : List ℤ} where
@@ -24,7 +24,3 @@ module _ (how : ConvexSplitStrategy) (limit : ℕ) (m : Mesh) (s : List ℕ) (c 
   pub same-limit : (k : ℕ) → raised k ≡ raised limit → SplitAnswered how k m s c r s′ c′ → SplitAnswered how limit m s c r s′ c′
   unfolding splitFault splitParts
   same-limit k e = subst (λ ps. Answered (firstFault (meshKinds m ++ roomKinds ps (length s) (length c))) ps s c r s′ c′) (ap (λ n. flatten (map (splitContour how n) (parts m))) e)
-
-  -- each of the three by itself
-  pub each : SplitAnswered how limit m s c r s′ c′ → (r ≡ splitCounts how limit m s c) × ((s′ ≡ splitStarts how limit m s c) × (c′ ≡ splitCorners how limit m s c))
-  each a = (a .counts, (a .starts, a .corners))

@@ -1,10 +1,10 @@
 // Joining with parts past a corner limit split (advanced/convex.rs):
-// `to_convex_polygons_with_max_vertices`, with no `requires`. Its answer and both lent buffers
-// equal `splitCounts`, `splitStarts` and `splitCorners` of split/specs/Splitting.antt. Where a mesh
-// is tiny and no part can have more corners than the limit, that is joining. Else the joined parts
-// are gathered, each is split into further buffers, and all are handed out once there is room. The
-// work arrays come in four sizes by the mesh's, so that a small mesh does not wait for the filling
-// of large ones. Leans on convex_join, convex_regions, split_contour and convex_gather.
+// `to_convex_polygons_with_max_vertices`, with no `requires`. Its answer and both lent buffers are
+// those of `SplitAnswered` of split/specs/Splitting.antt. Where a mesh is tiny and no part can have
+// more corners than the limit, that is joining. Else the joined parts are gathered, each is split
+// into further buffers, and all are handed out once there is room. The work arrays come in four
+// sizes by the mesh's, so that a small mesh does not wait for the filling of large ones. Leans on
+// convex_join, convex_regions, split_contour and convex_gather.
 ghost use mathlib.Core.Path.{_≡_};
 ghost use Prim.Native.Nat.{_+_, _<_, _≤_};
 ghost use lib.ListN.{length, getD};
@@ -13,7 +13,7 @@ ghost use Rattle.integers.specs.Faults.{firstFault};
 ghost use Rattle.mesh.specs.Mesh.{maxTriangles, meshKinds};
 ghost use Rattle.mesh.specs.Rows.{rowsMesh};
 ghost use Rattle.convex_regions.specs.Parts.{tiny, small, medium};
-ghost use Rattle.split.specs.Splitting.{splitContour, SplitAnswered, splitCounts, splitStarts, splitCorners};
+ghost use Rattle.split.specs.Splitting.{splitContour, SplitAnswered};
 ghost use Rattle.points.specs.Gathered.{Gathered, RoomFor, PartsAppended};
 ghost use Rattle.split_parts.specs.Parts.{partsIn, Splittable, splitEach, WorkRoom};
 use convex_regions::MEDIUM;
@@ -250,9 +250,8 @@ pub fn to_convex_polygons_with_max_vertices(
     starts: &mut [u32],
     corners: &mut [i32],
 ) -> Counts
-    ensures counts { λ r. ⌜ r ≡ splitCounts strategy limit (rowsMesh (now (mesh .entry))) (now (starts .entry)) (now (corners .entry)) ⌝ }
-    ensures starts { λ r. ⌜ now (starts .exit) ≡ splitStarts strategy limit (rowsMesh (now (mesh .entry))) (now (starts .entry)) (now (corners .entry)) ⌝ }
-    ensures corners { λ r. ⌜ now (corners .exit) ≡ splitCorners strategy limit (rowsMesh (now (mesh .entry))) (now (starts .entry)) (now (corners .entry)) ⌝ }
+    ensures { λ r. ⌜ SplitAnswered strategy limit (rowsMesh (now (mesh .entry))) (now (starts .entry)) (now (corners .entry))
+        r (now (starts .exit)) (now (corners .exit)) ⌝ }
 {
     let fault = mesh_faults::mesh_fault(mesh);
     if fault != 0 {

@@ -9,7 +9,7 @@ use Rattle.mesh.proofs.Rows.{length-rows}
 use Rattle.split.specs.Splitting.{splitParts, splitFault}
 use Rattle.convex_gather.proofs.Answer.{mesh-refused}
 use borrow.Author.Needs.{needs}
-use Rattle.split_parts.proofs.Alike.{left-whole, same-limit, each}
+use Rattle.split_parts.proofs.Alike.{left-whole, same-limit}
 use Rattle.split_parts.proofs.to_convex_polygons_with_max_vertices.Statement.{statement}
 use Rattle.split_parts.proofs.to_convex_polygons_with_max_vertices.Tie as tie
 
@@ -25,7 +25,7 @@ returns c =
     let s = c .before .before .before .before in
     let g = s .args in
     let m = rowsMesh (g .mesh .now) in
-    each (g .strategy) (g .limit) m (g .starts .now) (g .corners .now) (mesh-refused m (splitParts (g .strategy) (g .limit) m) (g .starts .now) (g .corners .now) (c .before .before .mesh-fault .ensures) (c .before .if1 .taken) (c .refusal .ensures))
+    mesh-refused m (splitParts (g .strategy) (g .limit) m) (g .starts .now) (g .corners .now) (c .before .before .mesh-fault .ensures) (c .before .if1 .taken) (c .refusal .ensures)
 
 raised-requires : tie.Need-raised-requires
 raised-requires c κs = search needs
@@ -53,7 +53,7 @@ returns-2 c =
     let g = f .before .before .before .args in
     let a = sym (f .before .mesh-fault .ensures) ∙ f .if1 .left in
     let m = rowsMesh (g .mesh .now) in
-    each (g .strategy) (g .limit) m (g .starts .now) (g .corners .now) (left-whole (g .strategy) (g .limit) m (g .starts .now) (g .corners .now) a (omega (arith, length-rows (g .mesh .now), l .if3 .taken, l .before .raised .ensures)) (j .join-tiny .ensures))
+    left-whole (g .strategy) (g .limit) m (g .starts .now) (g .corners .now) a (omega (arith, length-rows (g .mesh .now), l .if3 .taken, l .before .raised .ensures)) (j .join-tiny .ensures)
 
 split-tiny-requires : tie.Need-split-tiny-requires
 split-tiny-requires c κs = search needs
@@ -65,9 +65,7 @@ same-length-4 : tie.Need-same-length-4
 same-length-4 c = search needs
 
 returns-3 : tie.Need-returns-3
-returns-3 c =
-    let j = c .before .before .before in
-    (j .split-tiny .ensures .counts, (j .split-tiny .ensures .starts, j .split-tiny .ensures .corners))
+returns-3 c = c .before .before .before .split-tiny .ensures
 
 split-more-requires : tie.Need-split-more-requires
 split-more-requires c κs = let f = c .before .before .before .before in sym (f .before .mesh-fault .ensures) ∙ f .if1 .left
@@ -84,7 +82,7 @@ returns-4 c =
     let l = j .before .before .before in
     let g = l .before .before .before .before .before .args in
     let m = rowsMesh (g .mesh .now) in
-    each (g .strategy) (g .limit) m (g .starts .now) (g .corners .now) (same-limit (g .strategy) (g .limit) m (g .starts .now) (g .corners .now) 3 (omega (arith, l .if4 .taken)) (j .split-more .ensures))
+    same-limit (g .strategy) (g .limit) m (g .starts .now) (g .corners .now) 3 (omega (arith, l .if4 .taken)) (j .split-more .ensures)
 
 split-more-requires-2 : tie.Need-split-more-requires-2
 split-more-requires-2 c κs = let f = c .before .before .before .before in sym (f .before .mesh-fault .ensures) ∙ f .if1 .left
@@ -96,9 +94,7 @@ same-length-8 : tie.Need-same-length-8
 same-length-8 c = search needs
 
 returns-5 : tie.Need-returns-5
-returns-5 c =
-    let j = c .before .before .before in
-    (j .split-more2 .ensures .counts, (j .split-more2 .ensures .starts, j .split-more2 .ensures .corners))
+returns-5 c = c .before .before .before .split-more2 .ensures
 
 pub to-convex-polygons-with-max-vertices-spec : {M : Type 1} → statement M
 to-convex-polygons-with-max-vertices-spec =
