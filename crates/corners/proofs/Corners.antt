@@ -1,8 +1,8 @@
 -- Corners as numbers, "x, y in turn", and as points: laws of `pointsOf` and `numbersOf` of
 -- `specs/Corners.antt`.
--- In order: lengths (`is-ragged`, `not-ragged`); round trips; parts (`points-drop`, `points-take`,
--- `points-slice`, `take-drop`); point k (`points-at`, `numbers-at`) and put (`points-put`,
--- `length-put`); numbers of parts (`numbers-slice`) and of joined lists.
+-- In order: lengths (`whole-corners`, `is-ragged`, `not-ragged`); round trips; parts
+-- (`points-drop`, `points-take`, `points-slice`, `take-drop`); point k (`points-at`, `numbers-at`)
+-- and put (`points-put`, `length-put`); numbers of parts (`numbers-slice`) and of joined lists.
 -- Assumes nothing.
 use mathlib.Core.Path.{_≡_, refl, _∙_, ap}
 use mathlib.Core.Bool.{true, false}
@@ -29,6 +29,10 @@ pub length-numbers : (ps : List Pt) → length (numbersOf ps) ≡ 2 * length ps
 unfolding numbersOf
 length-numbers [] = refl
 length-numbers (p ∷ ps) = omega (arith, length-numbers ps)
+
+-- n corners are there where 2 n numbers are
+pub whole-corners : (n : ℕ) (l : List ℤ) → 2 * n ≤ length l → n ≤ length (pointsOf l)
+whole-corners n l h = omega (arith, length-points l)
 
 -- a last x without its y, or none
 pub is-ragged : (l : List ℤ) → ragged l ≡ true → eqb (length l % 2) 0 ≡ false

@@ -1,10 +1,11 @@
 -- A list of corners (document 01, "Tables the desks exchange": "x, y in turn") as numbers and as
--- points; one put, a piece of it, where a corner lies; a number out of range. Assumes nothing.
+-- points; one put, a piece of it, its front, where a corner lies; a number out of range. Assumes
+-- nothing.
 use mathlib.Core.Bool.{Bool, true, false, not, cond}
 use mathlib.Core.List.{List, [], _∷_}
 use Prim.Native.Nat.{ℕ, _+_, _*_, _%_}
 use lib.Dec.{eqb}
-use lib.ListN.{length, set}
+use lib.ListN.{length, take, set}
 use lib.Seq.{slice}
 use lib.IntN.{ℤ}
 use Rattle.plane.specs.Plane.{Pt, inRange}
@@ -30,6 +31,10 @@ withCorner l k p = set (set l (2 * k) (p .x)) (2 * k + 1) (p .y)
 -- the numbers of the corners from a to before b
 abbrev pub cornersBetween : ℕ → ℕ → List ℤ → List ℤ
 cornersBetween a b l = slice (2 * a) (2 * b) l
+
+-- the numbers of the first n corners
+abbrev pub frontCorners : ℕ → List ℤ → List ℤ
+frontCorners n l = take (2 * n) l
 
 -- where corner k lies, of corners that lie at a place: a block of memory and the bytes before it in
 -- that block; a corner is two numbers of four bytes

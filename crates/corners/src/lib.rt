@@ -1,6 +1,7 @@
-// A lent list of corners, x and y in turn: how many it has, one read, one put, a piece of it, and
-// whether a number is out of range. No other crate knows its form: all code reads and stores such a
-// list through these functions, and a length or a place in it is a number of corners times `WIDTH`.
+// A lent list of corners, x and y in turn: how many it has, one read, one put, a piece of it, its
+// front, and whether a number is out of range. No other crate knows its form: all code counts,
+// cuts, reads and stores such a list through these functions; `WIDTH` is for the size of a list
+// that is made and for a list in bytes.
 // The definitions are in specs/Corners.antt, their laws in proofs/ (proofs/Lib.antt is the index).
 // Leans on plane and integers.
 ghost use mathlib.Core.Path.{_≡_};
@@ -9,7 +10,7 @@ ghost use Prim.Native.Nat.{_<_, _≤_};
 ghost use lib.ListN.{length, getD};
 ghost use Rattle.plane.specs.Plane.{O, inRange};
 ghost use Rattle.plane.specs.Machine.{point};
-ghost use Rattle.corners.specs.Corners.{pointsOf, offRange, ragged, withCorner, cornersBetween, cornerPlace};
+ghost use Rattle.corners.specs.Corners.{pointsOf, offRange, ragged, withCorner, cornersBetween, frontCorners, cornerPlace};
 use plane::IntPoint;
 
 // How many numbers a corner is.
@@ -61,6 +62,16 @@ pub fn part<'a>(corners: &'a [i32], from: usize, to: usize) -> &'a [i32]
     let first = WIDTH * from;
     let end = WIDTH * to;
     &corners[first..end]
+}
+
+// The first `count` corners, where they lie.
+pub fn front<'a>(corners: &'a [i32], count: usize) -> &'a [i32]
+    requires { ⌜ count ≤ length (pointsOf (now corners)) ⌝ }
+    ensures numbers { λ r. ⌜ now r ≡ frontCorners count (now (corners .entry)) ⌝ }
+    ensures placed { λ r. ⌜ r .ptr ≡ corners .entry .ptr ⌝ }
+{
+    let end = WIDTH * count;
+    &corners[..end]
 }
 
 // Whether z is out of range, or one before was.
