@@ -14,7 +14,7 @@ use Rattle.plane.specs.Plane.{Pt, O, _+ᵖ_, _-ᵖ_, cross, areaTwo}
 use Rattle.plane.specs.Contour.{contourArea}
 use Rattle.mesh.specs.Mesh.{Mesh, meshKinds, meshArea, maxTriangles}
 use Rattle.table.specs.declared.Counts.{Counts}
-use Rattle.table.specs.Table.{roomKinds, countsOf, written, startsOf, cornersOf, Answered, tableBroken, maxParts}
+use Rattle.table.specs.Table.{roomKinds, startsOf, cornersOf, Answered, tableBroken, maxParts}
 use Rattle.convex.specs.Joining.{parts}
 use Rattle.split.specs.declared.ConvexSplitStrategy.{ConvexSplitStrategy}
 use Rattle.split.specs.declared.ConvexSplitStrategy.the-variants.{EarClipping, Fan, Centroid}
@@ -157,16 +157,6 @@ splitFault how m mesh starts corners = firstFault (meshKinds mesh ++ roomKinds (
 -- what a call answers and leaves in the lent starts and corners, which held s and c
 abbrev pub SplitAnswered : ConvexSplitStrategy → ℕ → Mesh → List ℕ → List ℤ → Counts → List ℕ → List ℤ → Type 0
 SplitAnswered how m mesh s c r s′ c′ = Answered (splitFault how m mesh (length s) (length c)) (splitParts how m mesh) s c r s′ c′
-
--- the same, each by itself
-abbrev pub splitCounts : ConvexSplitStrategy → ℕ → Mesh → List ℕ → List ℤ → Counts
-splitCounts how m mesh s c = countsOf (splitFault how m mesh (length s) (length c)) (splitParts how m mesh)
-
-abbrev pub splitStarts : ConvexSplitStrategy → ℕ → Mesh → List ℕ → List ℤ → List ℕ
-splitStarts how m mesh s c = written (splitFault how m mesh (length s) (length c)) (startsOf (splitParts how m mesh)) s
-
-abbrev pub splitCorners : ConvexSplitStrategy → ℕ → Mesh → List ℕ → List ℤ → List ℤ
-splitCorners how m mesh s c = written (splitFault how m mesh (length s) (length c)) (cornersOf (splitParts how m mesh)) c
 
 -- the doubled areas of an accepted mesh's parts add up to the mesh's, for any limit and split
 abbrev pub SplitKeepsArea : Type 0
