@@ -69,7 +69,7 @@ fn first_number(starts: &[u32], corners: &[i32], k: usize) -> usize
     requires { ⌜ (tableBroken (now starts) (now corners) ≡ false) × (k < partCount (now starts)) ⌝ }
     ensures { λ r. ⌜ r ≡ 2 * getD (now (starts .entry)) k 0 ⌝ }
 {
-    corners::WIDTH * (starts[k] as usize)
+    corners::front(corners, starts[k] as usize).len()
 }
 
 // table_shown::show_part: the part shown by where it lies in the lent corners of the operand asked

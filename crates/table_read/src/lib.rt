@@ -6,7 +6,7 @@
 ghost use mathlib.Core.Path.{_≡_};
 ghost use mathlib.Core.Bool.{false};
 ghost use mathlib.Core.List.{map};
-ghost use lib.ListN.{drop};
+ghost use lib.ListN.{length, drop};
 ghost use Rattle.corners.specs.Corners.{offRange};
 ghost use Rattle.table.specs.Table.{startsBroken, maxContour};
 ghost use Rattle.table.specs.Stored.{wordsOf, wordAt, signed, storedStarts, lengthBroken, storedBroken, readFault};
@@ -85,10 +85,9 @@ fn stored_off_range(bytes: &[u8], from: usize) -> bool
     false
 }
 
-// The fault of reading the bytes into so many places for starts and for corners' numbers; 0 for
-// none.
-fn read_fault(bytes: &[u8], starts: usize, corners: usize) -> u32
-    ensures { λ r. ⌜ r ≡ readFault (now (bytes .entry)) starts corners ⌝ }
+// The fault of reading the bytes into so many places for starts and into lent corners; 0 for none.
+fn read_fault(bytes: &[u8], starts: usize, corners: &[i32]) -> u32
+    ensures { λ r. ⌜ r ≡ readFault (now (bytes .entry)) starts (length (now (corners .entry))) ⌝ }
 {
     if stored_broken(bytes) {
         return integers::fault::RULES;
@@ -101,7 +100,7 @@ fn read_fault(bytes: &[u8], starts: usize, corners: usize) -> u32
     if starts < parts + 1 {
         return integers::fault::START_ROOM;
     }
-    if corners / corners::WIDTH < count {
+    if corners::corner_count(corners) < count {
         return integers::fault::CORNER_ROOM;
     }
     0
@@ -114,7 +113,7 @@ pub fn read_table(bytes: &[u8], starts: &mut [u32], corners: &mut [i32]) -> Coun
     ensures starts { λ r. ⌜ now (starts .exit) ≡ startsRead (now (bytes .entry)) (now (starts .entry)) (now (corners .entry)) ⌝ }
     ensures corners { λ r. ⌜ now (corners .exit) ≡ cornersRead (now (bytes .entry)) (now (starts .entry)) (now (corners .entry)) ⌝ }
 {
-    let fault = read_fault(bytes, starts.len(), corners.len());
+    let fault = read_fault(bytes, starts.len(), corners);
     if fault != 0 {
         return Counts {
             fault: fault,

@@ -76,7 +76,7 @@ pub fn write_table(starts: &[u32], corners: &[i32], bytes: &mut [u8]) -> Stored
             length: 0,
         };
     }
-    let count = corners.len() / corners::WIDTH;
+    let count = corners::corner_count(corners);
     put_word(bytes, 0, (starts.len() - 1) as u32);
     put_word(bytes, 1, count as u32);
     write_words(starts, 2, bytes);

@@ -1,25 +1,40 @@
 -- `boundary_table::first_number` meets its contract: part k of a table that is not broken begins
 -- within its corners. Assumes nothing.
+use mathlib.Core.Path.{_∙_, ap}
 use native.Mathlib.Omega.{arith}
 use borrow.Author.Needs.{needs}
+use lib.ListN.{length}
+use lib.Seq.{length-take-le}
+use Rattle.corners.proofs.Corners.{whole-corners}
 use Rattle.table.proofs.Shown.{placed}
 use Rattle.boundary_table.proofs.first_number.Statement.{statement}
 use Rattle.boundary_table.proofs.first_number.Tie as tie
 
-mul-result : tie.Need-mul-result
-mul-result c = search needs
+mul-front : tie.Need-mul-front
+mul-front c = search needs
 
-shared-slice-read-result : tie.Need-shared-slice-read-result
-shared-slice-read-result c = search needs
+shared-slice-read-front : tie.Need-shared-slice-read-front
+shared-slice-read-front c = search needs
 
-cast-result : tie.Need-cast-result
-cast-result c = let p = placed _ _ _ (c .before .pre .0) (c .before .pre .1) in omega arith
+cast-front : tie.Need-cast-front
+cast-front c = let p = placed _ _ _ (c .before .before .pre .0) (c .before .before .pre .1) in omega arith
 
-mul-result-2 : tie.Need-mul-result-2
-mul-result-2 c = let p = placed _ _ _ (c .before .pre .0) (c .before .pre .1) in omega arith
+front-requires : tie.Need-front-requires
+front-requires c κs =
+    let s = c .before .before in
+    let p = placed _ _ _ (s .pre .0) (s .pre .1) in
+    whole-corners _ _ (omega (arith, p .rises, p .within))
 
 returns : tie.Need-returns
-returns c = search needs
+returns c =
+    let s = c .before .before .before in
+    let p = placed _ _ _ (s .pre .0) (s .pre .1) in
+    ap length (c .front .ensures .0) ∙ length-take-le _ _ (omega (arith, p .rises, p .within))
 
 pub first-number-spec : {M : Type 1} → statement M
-first-number-spec = tie.close (tie.spec mul-result shared-slice-read-result cast-result mul-result-2 returns)
+first-number-spec = tie.close (tie.spec
+    mul-front
+    shared-slice-read-front
+    cast-front
+    front-requires
+    returns)

@@ -8,6 +8,7 @@ use native.Mathlib.Omega.{arith}
 use borrow.Author.Needs.{needs}
 use lib.ListN.{drop}
 use Rattle.corners.specs.Corners.{offRange}
+use Rattle.corners.proofs.Corners.{length-points}
 use Rattle.table.specs.Stored.{wordsOf, wordAt, signed, storedCorners}
 use Rattle.table.proofs.StoredForm.{sized, whole-bytes}
 use Rattle.table_read.proofs.Reading.{fault-7, fault-2, fault-22, fault-21, no-fault-read}
@@ -61,27 +62,30 @@ returns-3 c =
     let w = whole-bytes _ h in
     sym (fault-22 _ _ _ h (w .0) (w .1) (ranged _ (p .word-at .ensures) (o .stored-off-range .ensures) ∙ c .before .if2 .left) (omega (arith, c .if3 .taken, p .word-at .ensures)))
 
+corner-count-requires : tie.Need-corner-count-requires
+corner-count-requires c κs = search needs
+
 returns-4 : tie.Need-returns-4
 returns-4 c =
-    let o = c .before .before .before in
+    let o = c .before .before .before .before in
     let n = o .before in
     let p = n .before in
     let b = p .before in
     let h = sym (b .before .stored-broken .ensures) ∙ b .if1 .left in
     let w = whole-bytes _ h in
-    sym (fault-21 _ _ _ h (w .0) (w .1) (ranged _ (p .word-at .ensures) (o .stored-off-range .ensures) ∙ c .before .before .if2 .left)
-    (omega (arith, c .before .if3 .left, p .word-at .ensures)) (omega (arith, c .if4 .taken, n .word-at2 .ensures)))
+    sym (fault-21 _ _ _ h (w .0) (w .1) (ranged _ (p .word-at .ensures) (o .stored-off-range .ensures) ∙ c .before .before .before .if2 .left)
+    (omega (arith, c .before .before .if3 .left, p .word-at .ensures)) (omega (arith, c .if4 .taken, n .word-at2 .ensures, c .before .corner-count .ensures, length-points (b .before .before .before .args .corners .now))))
 
 returns-5 : tie.Need-returns-5
 returns-5 c =
-    let o = c .before .before .before in
+    let o = c .before .before .before .before in
     let n = o .before in
     let p = n .before in
     let b = p .before in
     let h = sym (b .before .stored-broken .ensures) ∙ b .if1 .left in
     let w = whole-bytes _ h in
-    sym (no-fault-read _ _ _ h (w .0) (w .1) (ranged _ (p .word-at .ensures) (o .stored-off-range .ensures) ∙ c .before .before .if2 .left)
-    (omega (arith, c .before .if3 .left, p .word-at .ensures)) (omega (arith, c .if4 .left, n .word-at2 .ensures)))
+    sym (no-fault-read _ _ _ h (w .0) (w .1) (ranged _ (p .word-at .ensures) (o .stored-off-range .ensures) ∙ c .before .before .before .if2 .left)
+    (omega (arith, c .before .before .if3 .left, p .word-at .ensures)) (omega (arith, c .if4 .left, n .word-at2 .ensures, c .before .corner-count .ensures, length-points (b .before .before .before .args .corners .now))))
 
 pub read-fault-spec : {M : Type 1} → statement M
 read-fault-spec =
@@ -98,5 +102,6 @@ read-fault-spec =
     returns-2
     add-if3
     returns-3
+    corner-count-requires
     returns-4
     returns-5)

@@ -11,9 +11,12 @@ use Rattle.table_read.proofs.read_table.Tie as tie
 read-fault-requires : tie.Need-read-fault-requires
 read-fault-requires c κs = search needs
 
+same-length : tie.Need-same-length
+same-length c = search needs
+
 returns : tie.Need-returns
 returns c =
-    let s = c .before .before .before .before .args in
+    let s = c .before .before .before .before .before .args in
     let r = refused-read (s .bytes .now) (s .starts .now) (s .corners .now) (c .before .read-fault .ensures) (λ z. omega (arith, c .if1 .taken)) in
     (r .0, (r .1, r .2))
 
@@ -54,11 +57,11 @@ read-numbers-requires c κs =
     let r = room _ _ _ _ _ (sym (f .before .read-fault .ensures) ∙ f .if1 .left) (p .word-at .ensures) (n .word-at2 .ensures) in
     (r .corners-lie, r .corners-fit)
 
-same-length : tie.Need-same-length
-same-length c = search needs
-
 same-length-2 : tie.Need-same-length-2
 same-length-2 c = search needs
+
+same-length-3 : tie.Need-same-length-3
+same-length-3 c = search needs
 
 returns-2 : tie.Need-returns-2
 returns-2 c =
@@ -67,7 +70,7 @@ returns-2 c =
     let n = t .before .before in
     let p = n .before in
     let f = p .before in
-    let s = f .before .before .before .before .args in
+    let s = f .before .before .before .before .before .args in
     let r = accepted-read (s .bytes .now) (s .starts .now) (s .corners .now) (f .before .read-fault .ensures) (f .if1 .left) (p .word-at .ensures) (n .word-at2 .ensures) (t .read-words .ensures) (z .read-numbers .ensures) in
     (r .0, (r .1, r .2))
 
@@ -76,6 +79,7 @@ read-table-spec =
     tie.close
     (tie.spec
     read-fault-requires
+    same-length
     returns
     word-at-requires
     word-at-requires-2
@@ -86,6 +90,6 @@ read-table-spec =
     cast-read-numbers
     mul-read-numbers
     read-numbers-requires
-    same-length
     same-length-2
+    same-length-3
     returns-2)

@@ -3,6 +3,7 @@
 use mathlib.Core.Path.{refl, sym, _∙_}
 use native.Mathlib.Omega.{arith}
 use borrow.Author.Needs.{needs}
+use Rattle.corners.proofs.Corners.{length-points}
 use Rattle.table.proofs.Rules.{sound}
 use Rattle.table_write.proofs.Writing.{writes, put-whole-length, put-table, refused-write, accepted-write}
 use Rattle.table_write.proofs.write_table.Statement.{statement}
@@ -14,37 +15,40 @@ write-fault-requires c κs = search needs
 returns : tie.Need-returns
 returns c = refused-write _ _ _ (c .before .write-fault .ensures) (λ z. omega (arith, c .if1 .taken))
 
+corner-count-requires : tie.Need-corner-count-requires
+corner-count-requires c κs = search needs
+
 sub-put-word : tie.Need-sub-put-word
 sub-put-word c =
-    let f = c .before in
+    let f = c .before .before in
     let w = writes _ _ _ (sym (f .before .write-fault .ensures) ∙ f .if1 .left) in
     let t = sound _ _ (w .whole) in
     omega arith
 
 cast-put-word : tie.Need-cast-put-word
 cast-put-word c =
-    let f = c .before in
+    let f = c .before .before in
     let w = writes _ _ _ (sym (f .before .write-fault .ensures) ∙ f .if1 .left) in
     let t = sound _ _ (w .whole) in
     omega arith
 
 put-word-requires : tie.Need-put-word-requires
 put-word-requires c κs =
-    let f = c .before in
+    let f = c .before .before in
     let w = writes _ _ _ (sym (f .before .write-fault .ensures) ∙ f .if1 .left) in
     omega arith
 
 cast-put-word-2 : tie.Need-cast-put-word-2
 cast-put-word-2 c =
-    let f = c .before .before .before .before .before in
+    let f = c .before .before .before .before .before .before in
     let w = writes _ _ _ (sym (f .before .write-fault .ensures) ∙ f .if1 .left) in
     let t = sound _ _ (w .whole) in
-    omega arith
+    omega (arith, c .before .before .before .before .before .corner-count .ensures, length-points (f .before .before .before .before .args .corners .now))
 
 put-word-requires-2 : tie.Need-put-word-requires-2
 put-word-requires-2 c κs =
     let p = c .before .before .before in
-    let f = p .before .before in
+    let f = p .before .before .before in
     let w = writes _ _ _ (sym (f .before .write-fault .ensures) ∙ f .if1 .left) in
     omega (arith, put-whole-length 0 _ _ (omega arith) (p .put-word .ensures))
 
@@ -52,7 +56,7 @@ write-words-requires : tie.Need-write-words-requires
 write-words-requires c κs =
     let q = c .before .before .before in
     let p = q .before .before .before .before in
-    let f = p .before .before in
+    let f = p .before .before .before in
     let w = writes _ _ _ (sym (f .before .write-fault .ensures) ∙ f .if1 .left) in
     let l₁ = put-whole-length 0 _ _ (omega arith) (p .put-word .ensures) in
     let l₂ = put-whole-length 1 _ _ (omega arith) (q .put-word2 .ensures) in
@@ -66,7 +70,7 @@ write-corners-requires c κs =
     let s = c .before .before .before in
     let q = s .before .before .before .before in
     let p = q .before .before .before .before in
-    let f = p .before .before in
+    let f = p .before .before .before in
     let w = writes _ _ _ (sym (f .before .write-fault .ensures) ∙ f .if1 .left) in
     let l₁ = put-whole-length 0 _ _ (omega arith) (p .put-word .ensures) in
     let l₂ = put-whole-length 1 _ _ (omega arith) (q .put-word2 .ensures) in
@@ -88,7 +92,7 @@ add-t22 c =
     let s = z .before .before .before .before in
     let q = s .before .before .before .before in
     let p = q .before .before .before .before in
-    let f = p .before .before in
+    let f = p .before .before .before in
     let w = writes _ _ _ (sym (f .before .write-fault .ensures) ∙ f .if1 .left) in
     let t = sound _ _ (w .whole) in
     omega arith
@@ -102,11 +106,11 @@ returns-2 c =
     let s = z .before .before .before .before in
     let q = s .before .before .before .before in
     let p = q .before .before .before .before in
-    let f = p .before .before in
+    let f = p .before .before .before in
     let a = f .before .before .before .before .args in
     let w = writes _ _ _ (sym (f .before .write-fault .ensures) ∙ f .if1 .left) in
     accepted-write (a .starts .now) (a .corners .now) (a .bytes .now) (f .before .write-fault .ensures) (f .if1 .left)
-    (put-table (a .starts .now) (a .corners .now) (a .bytes .now) (w .fits) refl refl (p .put-word .ensures) (q .put-word2 .ensures) (s .write-words .ensures) (z .write-corners .ensures))
+    (put-table (a .starts .now) (a .corners .now) (a .bytes .now) (w .fits) refl (p .before .before .corner-count .ensures ∙ length-points (a .corners .now)) (p .put-word .ensures) (q .put-word2 .ensures) (s .write-words .ensures) (z .write-corners .ensures))
 
 pub write-table-spec : {M : Type 1} → statement M
 write-table-spec =
@@ -114,6 +118,7 @@ write-table-spec =
     (tie.spec
     write-fault-requires
     returns
+    corner-count-requires
     sub-put-word
     cast-put-word
     put-word-requires
