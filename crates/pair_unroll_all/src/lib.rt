@@ -23,9 +23,9 @@ fn unroll_part(
         let part = getD (tableParts (now (starts .entry)) (now (corners .entry))) p [] in
         ⌜ UnrolledBy reflected part (now (points .entry)) from (now (points .exit)) r ⌝ }
 {
-    let a = corners::WIDTH * (starts[p] as usize);
-    let e = corners::WIDTH * (starts[p + 1] as usize);
-    pair_unroll::unroll(&corners[a..e], reflected, points, from)
+    let a = starts[p] as usize;
+    let e = starts[p + 1] as usize;
+    pair_unroll::unroll(corners::part(corners, a, e), reflected, points, from)
 }
 
 // All parts unrolled after the first `done` walks, which end at firsts[done]; answers whether some

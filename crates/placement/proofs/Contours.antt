@@ -9,15 +9,14 @@ use native.Mathlib.Numerals.{add-one}
 use native.Mathlib.Omega.{arith}
 use borrow.Author.Tests.{eq-eqb, ne-eqb}
 use lib.ListN.{length, drop, getD, drop-of-length-le}
-use lib.Seq.{drop-cons, slice}
+use lib.Seq.{drop-cons}
 use lib.IntN.{ℤ}
 use Rattle.plane.specs.Plane.{Pt}
 use Rattle.corners.specs.Corners.{pointsOf, cornersBetween}
 use Rattle.table.specs.Table.{partsOf, tableParts, partCount}
-use Rattle.table.specs.Shown.{partNumbers}
 use Rattle.table.proofs.Parts.{length-parts}
 use Rattle.table.proofs.Rules.{result-ascends}
-use Rattle.table.proofs.Shown.{part-is}
+use Rattle.table.proofs.Shown.{part-is, numbers-between}
 use Rattle.placement.proofs.Bools.{or-none, or-all}
 use Rattle.placement.specs.declared.Contact.the-variants.{Apart, Touching, Overlapping}
 use Rattle.placement.specs.Placement.{some, insideAt, strictlyInsideAt, contactIn, contactBy, placeFault, placedOf, Placeable}
@@ -136,5 +135,4 @@ told-at s c z e h = rw (← e, eq-eqb _ 0 h)
 
 -- the corners from start k to the next are contour k
 pub contour-at : (starts : List ℕ) (corners : List ℤ) (k : ℕ) → k < partCount starts → pointsOf (cornersBetween (getD starts k 0) (getD starts (k + 1) 0) corners) ≡ getD (tableParts starts corners) k []
-unfolding partNumbers
-contour-at s c k h = ap (λ m. pointsOf (slice (2 * getD s k 0) (2 * getD s m 0) c)) (add-one k) ∙ part-is s c k h
+contour-at s c k h = ap pointsOf (numbers-between s c k) ∙ part-is s c k h

@@ -1,24 +1,25 @@
 -- The part shown: laws of `shownFault`, `partNumbers` and `shownPart` of `specs/Shown.antt`.
 -- In order: the fault by the tests that code makes; what no fault tells (`Shows`); where part k
--- lies in the numbers (`Placed`); a part of a slice as the machine takes it; the part shown is part
--- k of the operand (`part-is`), in range where all numbers are (`part-ranged`). Assumes nothing.
+-- lies in the numbers (`Placed`); the corners between two starts (`numbers-between`); the part
+-- shown is part k of the operand (`part-is`), in range where all numbers are (`part-ranged`).
+-- Assumes nothing.
 use mathlib.Core.Path.{_≡_, refl, sym, _∙_, ap}
 use mathlib.Core.Bool.{Bool, true, false, cond}
 use mathlib.Core.List.{List, [], _∷_}
-use Prim.Native.Nat.{ℕ, zero, suc, _+_, _*_, _-_, _<_, _≤_}
+use Prim.Native.Nat.{ℕ, zero, suc, _+_, _*_, _<_, _≤_}
 use native.Mathlib.Numerals.{add-one}
 use native.Mathlib.Omega.{arith}
 use borrow.Author.Tests.{leb-false, le-leb, lt-leb, eq-eqb, ne-eqb}
 use lib.Dec.{leb}
-use lib.ListN.{length, take, drop, getD}
+use lib.ListN.{length, getD}
 use lib.Seq.{slice}
 use lib.IntN.{ℤ}
 use Rattle.plane.specs.Plane.{Pt}
-use Rattle.corners.specs.Corners.{pointsOf, offRange}
+use Rattle.corners.specs.Corners.{pointsOf, cornersBetween, offRange}
 use Rattle.table.specs.Table.{partsOf, tableParts, partCount, tableBroken, maxCorners}
 use Rattle.table.specs.Shown.{shownFault, partNumbers, shownPart}
 use Rattle.integers.proofs.Faults.{first-this, first-next, first-empty, first-none}
-use Rattle.corners.proofs.Corners.{points-slice, take-drop}
+use Rattle.corners.proofs.Corners.{points-slice}
 use Rattle.corners.proofs.Range.{off-slice}
 use Rattle.table.proofs.Rules.{sound}
 
@@ -79,12 +80,11 @@ placed s c k e h =
     let t = sound s c e in
     rw add-one (record { rises = t .rises k (omega arith); within = omega (arith, t .bounded (suc k) (omega arith)); few = omega (arith, t .bounded (suc k) (omega arith), t .few-corners) })
 
--- ---- a part of a slice, as the machine takes it
+-- ---- the corners between two starts, as the code takes them
 
-pub numbers-taken : (starts : List ℕ) (corners : List ℤ) (k : ℕ) → getD starts k 0 ≤ getD starts (k + 1) 0
-    → take (2 * getD starts (k + 1) 0 - 2 * getD starts k 0) (drop (2 * getD starts k 0) corners) ≡ partNumbers starts corners k
+pub numbers-between : (starts : List ℕ) (corners : List ℤ) (k : ℕ) → cornersBetween (getD starts k 0) (getD starts (k + 1) 0) corners ≡ partNumbers starts corners k
 unfolding partNumbers
-numbers-taken s c k h = rw (← add-one k) (take-drop (2 * getD s k 0) (2 * getD s (k + 1) 0) c (omega arith))
+numbers-between s c k = ap (λ m. slice (2 * getD s k 0) (2 * getD s m 0) c) (add-one k)
 
 -- ---- the part shown is part k
 

@@ -4,7 +4,8 @@ use borrow.Author.Needs.{needs}
 use mathlib.Core.Path.{_∙_, ap}
 use native.Mathlib.Omega.{arith}
 use Rattle.corners.specs.Corners.{pointsOf}
-use Rattle.table.proofs.Shown.{placed, numbers-taken, part-is}
+use Rattle.corners.proofs.Corners.{length-points}
+use Rattle.table.proofs.Shown.{placed, numbers-between, part-is}
 use Rattle.pair_unroll_all.proofs.Parts.{unrollable-at, unrolled-at}
 use Rattle.pair_unroll_all.proofs.unroll_part.Statement.{statement}
 use Rattle.pair_unroll_all.proofs.unroll_part.Tie as tie
@@ -18,9 +19,6 @@ shared-slice-read-a c = search needs
 cast-a : tie.Need-cast-a
 cast-a c = let p = placed _ _ _ (c .before .before .pre .whole) (c .before .before .pre .inside) in omega arith
 
-mul-a-2 : tie.Need-mul-a-2
-mul-a-2 c = let p = placed _ _ _ (c .before .before .pre .whole) (c .before .before .pre .inside) in omega arith
-
 add-e : tie.Need-add-e
 add-e c = search needs
 
@@ -33,26 +31,16 @@ shared-slice-read-e c = search needs
 cast-e : tie.Need-cast-e
 cast-e c = let p = placed _ _ _ (c .before .before .before .pre .whole) (c .before .before .before .pre .inside) in omega arith
 
-mul-e-2 : tie.Need-mul-e-2
-mul-e-2 c = let p = placed _ _ _ (c .before .before .before .pre .whole) (c .before .before .before .pre .inside) in omega arith
-
-mul-unroll : tie.Need-mul-unroll
-mul-unroll c = let p = placed _ _ _ (c .before .before .before .pre .whole) (c .before .before .before .pre .inside) in omega arith
-
-sub-unroll : tie.Need-sub-unroll
-sub-unroll c = let p = placed _ _ _ (c .before .before .before .pre .whole) (c .before .before .before .pre .inside) in omega arith
-
-part-unroll-start : tie.Need-part-unroll-start
-part-unroll-start c = let p = placed _ _ _ (c .before .before .before .pre .whole) (c .before .before .before .pre .inside) in omega arith
-
-part-unroll-end : tie.Need-part-unroll-end
-part-unroll-end c = let p = placed _ _ _ (c .before .before .before .pre .whole) (c .before .before .before .pre .inside) in omega arith
+part-requires : tie.Need-part-requires
+part-requires c κs =
+    let s = c .before .before .before in
+    let p = placed _ _ _ (s .pre .whole) (s .pre .inside) in
+    (p .rises, omega (arith, p .within, length-points (s .args .corners .now)))
 
 unroll-requires : tie.Need-unroll-requires
 unroll-requires c κs =
     let s = c .before .before .before .before .before in
-    let p = placed _ _ _ (s .pre .whole) (s .pre .inside) in
-    unrollable-at (numbers-taken _ _ _ (p .rises)) (s .pre)
+    unrollable-at (c .before .part .ensures .0 ∙ numbers-between _ _ _) (s .pre)
 
 same-length : tie.Need-same-length
 same-length c = search needs
@@ -60,8 +48,7 @@ same-length c = search needs
 returns : tie.Need-returns
 returns c =
     let s = c .before .before .before .before .before .before .before in
-    let p = placed _ _ _ (s .pre .whole) (s .pre .inside) in
-    unrolled-at (ap pointsOf (numbers-taken _ _ _ (p .rises)) ∙ part-is _ _ _ (s .pre .inside)) (c .before .unroll .ensures)
+    unrolled-at (ap pointsOf (c .before .before .before .part .ensures .0 ∙ numbers-between _ _ _) ∙ part-is _ _ _ (s .pre .inside)) (c .before .unroll .ensures)
 
 pub unroll-part-spec : {M : Type 1} → statement M
 unroll-part-spec =
@@ -70,16 +57,11 @@ unroll-part-spec =
     mul-a
     shared-slice-read-a
     cast-a
-    mul-a-2
     add-e
     mul-e
     shared-slice-read-e
     cast-e
-    mul-e-2
-    mul-unroll
-    sub-unroll
-    part-unroll-start
-    part-unroll-end
+    part-requires
     unroll-requires
     same-length
     returns)

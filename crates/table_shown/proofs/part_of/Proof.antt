@@ -1,27 +1,19 @@
 -- `table_shown::part_of` meets its contract: part k of a table that is not broken lies within its
 -- corners. Assumes nothing.
-use mathlib.Core.Path.{_≡_, refl, _∙_, ap}
+use mathlib.Core.Path.{_≡_, refl, _∙_}
 use mathlib.Core.List.{List}
-use Prim.Native.Nat.{ℕ, suc, _+_, _*_}
-use lib.IntN.{ℤ}
+use Prim.Native.Nat.{ℕ}
 use lib.ListN.{getD}
-use lib.Seq.{slice}
-use native.Mathlib.Numerals.{add-one}
 use native.Mathlib.Omega.{arith}
 use borrow.Author.Needs.{needs}
-use Rattle.corners.specs.Corners.{cornersBetween, cornerPlace}
+use Rattle.corners.specs.Corners.{cornerPlace}
 use Rattle.corners.proofs.Corners.{length-points}
-use Rattle.table.specs.Shown.{partNumbers}
-use Rattle.table.proofs.Shown.{placed}
+use Rattle.table.proofs.Shown.{placed, numbers-between}
 use Rattle.table_shown.specs.Place.{partPlace}
 use Rattle.table_shown.proofs.part_of.Statement.{statement}
 use Rattle.table_shown.proofs.part_of.Tie as tie
 
 module _ (starts : List ℕ) (k : ℕ) where
-  numbers-at : (corners : List ℤ) → cornersBetween (getD starts k 0) (getD starts (k + 1) 0) corners ≡ partNumbers starts corners k
-  unfolding partNumbers
-  numbers-at corners = ap (λ m. slice (2 * getD starts k 0) (2 * getD starts m 0) corners) (add-one k)
-
   placed-at : (place : ℕ × ℕ) → cornerPlace place (getD starts k 0) ≡ partPlace starts place k
   unfolding partPlace
   placed-at place = refl
@@ -56,7 +48,7 @@ part-requires c κs =
 returns : tie.Need-returns
 returns c =
     let p = c .part .ensures in
-    (p .0 ∙ numbers-at _ _ _, p .1 ∙ placed-at _ _ _)
+    (p .0 ∙ numbers-between _ _ _, p .1 ∙ placed-at _ _ _)
 
 pub part-of-spec : {M : Type 1} → statement M
 part-of-spec =
