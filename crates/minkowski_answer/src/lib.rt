@@ -75,7 +75,7 @@ pub fn hand_out(
         left,
         right,
         most,
-        corners.len() / corners::WIDTH,
+        corners::corner_count(corners),
     ) {
         return refusal(integers::fault::CORNER_ROOM);
     }

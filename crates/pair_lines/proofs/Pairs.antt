@@ -1,6 +1,6 @@
 -- The pair of two walks in a buffer: its corners stand on the front of the work buffer
 -- (`merged-front`), their numbers have 32 bits (`pair-words`), they are few (`pair-few`), so that a
--- line has room (`pair-room`); as code has them (`pair-count`, `pair-inside`); and it is the
+-- line has room (`pair-room`); as code has them (`pair-inside`); and it is the
 -- contour of the parts that were unrolled (`line-of-pair`). Assumes nothing.
 use mathlib.Core.Path.{_≡_, refl, sym, _∙_, ap, ap₂}
 use mathlib.Core.Bool.{Bool, true, false}
@@ -17,7 +17,7 @@ use Rattle.plane.specs.Machine.{Coordinate}
 use Rattle.plane.proofs.Size.{on-grid-both}
 use Rattle.corners.specs.Corners.{pointsOf, numbersOf}
 use Rattle.table.specs.Table.{maxContour}
-use Rattle.corners.proofs.Corners.{length-numbers, points-numbers}
+use Rattle.corners.proofs.Corners.{whole-corners, length-numbers, points-numbers}
 use Rattle.text.proofs.Sizes.{Word32s}
 use Rattle.pair.specs.Pair.{pairContour}
 use Rattle.pair_points.specs.Points.{unrolled, mergedOf}
@@ -79,11 +79,11 @@ module _ (firsts : List ℕ) (points : List (List ℤ)) (numbers : List ℕ) (le
 
   -- merged into a buffer as long as the work buffer
   module _ {o o′ : List ℤ} {k : ℕ} (m : CornersPut (pairIn firsts points left right p q) o 0 o′ k) where
-    pub pair-count : k ≤ 2 * maxContour
+    pair-count : k ≤ 2 * maxContour
     pair-count = omega (arith, m .count, pair-few)
 
-    pub pair-inside : length work ≡ length o → 2 * k ≤ length o′
-    pair-inside f = omega (arith, pair-count, m .size, h .for-corners, f)
+    pub pair-inside : length work ≡ length o → k ≤ length (pointsOf o′)
+    pair-inside f = whole-corners k o′ (omega (arith, pair-count, m .size, h .for-corners, f))
 
 unrolled-none : (reflected : Bool) → unrolled reflected [] ≡ []
 unfolding unrolled

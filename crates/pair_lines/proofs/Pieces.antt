@@ -1,16 +1,15 @@
 -- The lines in their pieces: how long each line is (`bounds-length`, `head-length`, `line-length`),
 -- and that its pieces put one after another are the line (`bounds-pieces`, `head-pieces`,
 -- `line-pieces`). A number z that code reads back is u. Assumes nothing.
-use mathlib.Core.Path.{_≡_, refl, sym, _∙_, ap}
+use mathlib.Core.Path.{_≡_, refl, _∙_, ap}
 use mathlib.Core.List.{List, [], _∷_, _++_}
-use Prim.Native.Nat.{ℕ, _+_, _/_, _≤_}
+use Prim.Native.Nat.{ℕ, _+_, _≤_}
 use native.Mathlib.Omega.{arith}
 use lib.IntN.{ℤ}
 use lib.ListN.{length, length-append}
 use Rattle.plane.specs.Plane.{Pt}
 use Rattle.table.specs.declared.IntRect.{IntRect}
 use Rattle.corners.specs.Corners.{pointsOf}
-use Rattle.corners.proofs.Corners.{length-points}
 use Rattle.text.specs.Text.{decimal, signedDecimal, space, newline, cornersWord, cornersText}
 use Rattle.text.specs.Put.{PutText}
 use Rattle.text.proofs.Puts.{put-after, put-as}
@@ -54,10 +53,10 @@ module _ (i j : ℕ) where
   line-length ps = simp length-append (omega arith)
 
   pub line-pieces :
-      (l : List ℤ) {k m x y r : ℕ} {o o₁ o₂ o₃ o₄ o₅ : List ℕ} →
-      PutText (decimal i) 0 o o₁ k → PutText (space ++ decimal j) k o₁ o₂ m → PutText (space ++ decimal (length l / 2)) m o₂ o₃ x → PutText (cornersText (pointsOf l)) x o₃ o₄ y → PutText newline y o₄ o₅ r →
+      (l : List ℤ) {n k m x y r : ℕ} {o o₁ o₂ o₃ o₄ o₅ : List ℕ} → n ≡ length (pointsOf l) →
+      PutText (decimal i) 0 o o₁ k → PutText (space ++ decimal j) k o₁ o₂ m → PutText (space ++ decimal n) m o₂ o₃ x → PutText (cornersText (pointsOf l)) x o₃ o₄ y → PutText newline y o₄ o₅ r →
       PutText (pairLine i j (pointsOf l)) 0 o o₅ r
   unfolding pairLine
-  line-pieces l p q s t u =
-      put-as (ap (λ n. decimal i ++ (space ++ decimal j) ++ (space ++ decimal n) ++ cornersText (pointsOf l) ++ newline) (sym (length-points l)))
+  line-pieces l e p q s t u =
+      put-as (ap (λ n. decimal i ++ (space ++ decimal j) ++ (space ++ decimal n) ++ cornersText (pointsOf l) ++ newline) e)
       (put-after (omega arith) (put-after (omega arith) (put-after (omega arith) (put-after (omega arith) p q) s) t) u)

@@ -38,7 +38,7 @@ fn put_contour(i: u64, j: u64, corners: &[i32], out: &mut [u8]) -> usize
     requires { ⌜ length (pairLine i j (pointsOf (now corners))) ≤ length (now out) ⌝ }
     ensures { λ r. ⌜ PutText (pairLine i j (pointsOf (now (corners .entry)))) 0 (now (out .entry)) (now (out .exit)) r ⌝ }
 {
-    let count = corners.len() / corners::WIDTH;
+    let count = corners::corner_count(corners);
     let left = text::put_decimal(i, out, 0);
     let right = text::put_word_decimal(b" ", j, out, left);
     let size = text::put_word_decimal(b" ", count as u64, out, right);
@@ -62,5 +62,5 @@ pub fn put_line(
     ensures { λ r. ⌜ PutText (pairLine p q (pairIn (now (firsts .entry)) (now (points .entry)) left right p q)) 0 (now (out .entry)) (now (out .exit)) r ⌝ }
 {
     let count = minkowski_order::merge_pair(firsts, points, numbers, left, right, p, q, work);
-    put_contour(p as u64, q as u64, &work[..corners::WIDTH * count], out)
+    put_contour(p as u64, q as u64, corners::front(work, count), out)
 }
