@@ -35,7 +35,7 @@ fn hand_out_keyed(
     if starts.len() < contours + 1 {
         return minkowski_answer::refusal(integers::fault::START_ROOM);
     }
-    let room = corners.len() / corners::WIDTH;
+    let room = corners::corner_count(corners);
     if minkowski_counted::no_room_keyed(firsts, points, numbers, left, right, most, room) {
         return minkowski_answer::refusal(integers::fault::CORNER_ROOM);
     }

@@ -28,7 +28,7 @@ pub fn most_corners(
 {
     let l = left_starts.len() - 1;
     let r = right_starts.len() - 1;
-    r * (left_corners.len() / corners::WIDTH) + l * (right_corners.len() / corners::WIDTH)
+    r * corners::corner_count(left_corners) + l * corners::corner_count(right_corners)
 }
 
 // Unrolls two operands that 7, 2 and 9 are not told of, each part to points once, and judges the
