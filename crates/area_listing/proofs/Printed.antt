@@ -2,7 +2,7 @@
 -- parts, which stand on the front of the arrays. Assumes nothing.
 use mathlib.Core.Path.{_≡_, sym, _∙_, ap, subst}
 use mathlib.Core.List.{List}
-use Prim.Native.Nat.{ℕ, _+_, _*_, _≤_}
+use Prim.Native.Nat.{ℕ, _+_, _≤_}
 use native.Mathlib.Omega.{arith}
 use borrow.Author.Tests.{eq-eqb, ne-eqb}
 use lib.ListN.{length, take, drop, length-append}
@@ -11,6 +11,7 @@ use Rattle.io.specs.Counts.{Counts as Counted}
 use Rattle.io.proofs.Counting.{counts as counted}
 use Rattle.integers.specs.Lists.{overlay}
 use Rattle.integers.proofs.Overlay.{overlay-eq}
+use Rattle.corners.specs.Corners.{frontCorners}
 use Rattle.table.specs.Table.{startsOf, cornersOf, tableParts}
 use Rattle.table.specs.declared.Counts.{Counts}
 use Rattle.table.proofs.Rules.{parts-table}
@@ -45,17 +46,21 @@ module _ (bytes s : List ℕ) (c : List ℤ) {told : Counts} {s′ : List ℕ} {
     none : fileFault bytes ≡ 0
     none = sym (fault-is bytes s c left) ∙ z
 
-    pub parts-listed : listingOf (tableParts (take (told .parts + 1) s′) (take (2 * told .corners) c′)) ≡ areasOf bytes
-    parts-listed =
-        (λ t. listingOf (tableParts (starts-taken bytes s c left z t) (corners-taken bytes s c left z t))) ∙ ap listingOf (parts-table (fileParts bytes)) ∙ sym (file-listed bytes none)
+    -- the corners as the code takes them
+    module _ {l : List ℤ} (e : l ≡ frontCorners (told .corners) c′) where
+      corners-are : l ≡ cornersOf (fileParts bytes)
+      corners-are = e ∙ corners-taken bytes s c left z
 
-    pub parts-listable : Listable (take (told .parts + 1) s′) (take (2 * told .corners) c′)
-    parts-listable =
-        subst (λ u. Listable u (take (2 * told .corners) c′)) (sym (starts-taken bytes s c left z))
-        (subst (Listable (startsOf (fileParts bytes))) (sym (corners-taken bytes s c left z)) (file-listable bytes none .listable))
+      pub parts-listed : listingOf (tableParts (take (told .parts + 1) s′) l) ≡ areasOf bytes
+      parts-listed = (λ t. listingOf (tableParts (starts-taken bytes s c left z t) (corners-are t))) ∙ ap listingOf (parts-table (fileParts bytes)) ∙ sym (file-listed bytes none)
 
-    pub listed-room : length (listingOf (tableParts (take (told .parts + 1) s′) (take (2 * told .corners) c′))) ≤ listingRoom
-    listed-room = omega (arith, listing-fits bytes, ap length parts-listed)
+      pub parts-listable : Listable (take (told .parts + 1) s′) l
+      parts-listable =
+          subst (λ u. Listable u l) (sym (starts-taken bytes s c left z))
+          (subst (Listable (startsOf (fileParts bytes))) (sym corners-are) (file-listable bytes none .listable))
+
+      pub listed-room : length (listingOf (tableParts (take (told .parts + 1) s′) l)) ≤ listingRoom
+      listed-room = omega (arith, listing-fits bytes, ap length parts-listed)
 
 -- text put from the front on, as the entry point promises it
 pub answered : {t out out′ : List ℕ} {r : ℕ} → PutText t 0 out out′ r → (r ≡ length t) × ((out′ ≡ overlay t out) × Counted r out′)

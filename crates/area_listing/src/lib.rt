@@ -36,7 +36,7 @@ pub fn listing(bytes: &[u8], out: &mut [u8; LISTING]) -> usize
     let count = told.corners as usize;
     listing_lines::put_listing(
         &starts[..parts + 1],
-        &corners[..corners::WIDTH * count],
+        file_parts::front(&corners, count),
         out,
     )
 }

@@ -2,8 +2,12 @@
 // bytes of a file, any bytes, reads its mesh and leaves the table of its split parts on the front
 // of lent starts and corners, or tells the file's fault and changes nothing. The lent arrays hold
 // the parts of any mesh, so that 22 and 21 cannot be. Its answer and both arrays are equations with
-// `fileFault` and `fileParts` of listing/specs/File.antt. Leans on mesh_file and split_parts.
+// `fileFault` and `fileParts` of listing/specs/File.antt. `front` takes the corners that are told
+// of from the array. Leans on mesh_file, split_parts and corners.
 ghost use mathlib.Core.Path.{_≡_};
+ghost use Prim.Native.Nat.{_≤_};
+ghost use lib.ListN.{length};
+ghost use Rattle.corners.specs.Corners.{pointsOf, frontCorners};
 ghost use Rattle.table.specs.Table.{startsOf, cornersOf, countsOf, written};
 ghost use Rattle.listing.specs.File.{fileFault, fileParts};
 ghost use Rattle.file_parts.specs.Room.{FileRoom, Within};
@@ -54,4 +58,12 @@ pub fn split_file(bytes: &[u8], starts: &mut [u32; STARTS], corners: &mut [i32; 
     let n = mesh_file::triangle_count(bytes) as usize;
     let mut rows = [[0i32; mesh::ROW]; mesh::MAX_TRIANGLES];
     split_sound(bytes, &mut rows[..n], starts, corners)
+}
+
+// The first `count` corners of the array that a file's parts were left in, where they lie.
+pub fn front<'a>(corners: &'a [i32; NUMBERS], count: usize) -> &'a [i32]
+    requires { ⌜ count ≤ length (pointsOf (now corners)) ⌝ }
+    ensures { λ r. ⌜ now r ≡ frontCorners count (now (corners .entry)) ⌝ }
+{
+    corners::front(corners, count)
 }

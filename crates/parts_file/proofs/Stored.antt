@@ -17,6 +17,7 @@ use Rattle.table.specs.Stored.{storedOf, writeFault}
 use Rattle.table.specs.declared.Counts.{Counts}
 use Rattle.table.proofs.Answers.{accepted-buffer, refused-buffer}
 use Rattle.table.proofs.Parts.{length-starts}
+use Rattle.corners.specs.Corners.{frontCorners}
 use Rattle.corners.proofs.Corners.{length-numbers}
 use Rattle.table.proofs.StoredForm.{length-stored}
 use Rattle.table_write.specs.declared.Stored.{Stored}
@@ -58,8 +59,8 @@ module _ (bytes s : List ℕ) (c : List ℤ) (old : List ℕ) {told : Counts} {s
       let a : record { fault = told .fault; length = 0 } ≡ partsAnswer bytes = rw (ne-eqb (fileFault bytes) 0 n) (λ i. record { fault = q i; length = 0 }) in
       (a, (sym (refused-buffer (fileFault bytes) n (partsBytes bytes) old), counted 0 old (omega arith)))
 
-  module _ (z : told .fault ≡ 0) (room : length old ≡ 57356) {r : Stored} {new : List ℕ}
-      (er : r ≡ answerWritten (take (told .parts + 1) s′) (take (2 * told .corners) c′) old) (eb : new ≡ bytesWritten (take (told .parts + 1) s′) (take (2 * told .corners) c′) old) where
+  module _ (z : told .fault ≡ 0) (room : length old ≡ 57356) {l : List ℤ} (e : l ≡ frontCorners (told .corners) c′) {r : Stored} {new : List ℕ}
+      (er : r ≡ answerWritten (take (told .parts + 1) s′) l old) (eb : new ≡ bytesWritten (take (told .parts + 1) s′) l old) where
     none : fileFault bytes ≡ 0
     none = sym (fault-is bytes s c left) ∙ z
 
@@ -69,13 +70,13 @@ module _ (bytes s : List ℕ) (c : List ℤ) (old : List ℕ) {told : Counts} {s
     answer-is : r ≡ partsAnswer bytes
     unfolding partsBytes
     answer-is =
-        er ∙ (λ i. answerWritten (starts-taken bytes s c left z i) (corners-taken bytes s c left z i) old)
+        er ∙ (λ i. answerWritten (starts-taken bytes s c left z i) ((e ∙ corners-taken bytes s c left z) i) old)
         ∙ ap (λ f. cond (eqb f 0) (record { fault = 0; length = length (storedOf (startsOf (fileParts bytes)) (cornersOf (fileParts bytes))) }) (record { fault = f; length = 0 })) (unfaulted ∙ sym none)
 
     bytes-are : new ≡ written (fileFault bytes) (partsBytes bytes) old
     unfolding partsBytes
     bytes-are =
-        eb ∙ (λ i. bytesWritten (starts-taken bytes s c left z i) (corners-taken bytes s c left z i) old)
+        eb ∙ (λ i. bytesWritten (starts-taken bytes s c left z i) ((e ∙ corners-taken bytes s c left z) i) old)
         ∙ ap (λ f. written f (storedOf (startsOf (fileParts bytes)) (cornersOf (fileParts bytes))) old) (unfaulted ∙ sym none)
 
     pub stored-left : Answered bytes old r new

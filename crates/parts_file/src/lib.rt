@@ -37,7 +37,7 @@ pub fn stored_parts(bytes: &[u8], out: &mut [u8; PARTS]) -> Stored
     let count = told.corners as usize;
     table_write::write_table(
         &starts[..parts + 1],
-        &corners[..corners::WIDTH * count],
+        file_parts::front(&corners, count),
         out,
     )
 }

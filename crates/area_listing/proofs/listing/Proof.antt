@@ -3,6 +3,7 @@
 use mathlib.Core.Path.{sym}
 use native.Mathlib.Omega.{arith}
 use lib.Seq.{length-take-le}
+use Rattle.corners.proofs.Corners.{whole-corners}
 use Rattle.text.proofs.Puts.{put-as}
 use Rattle.file_parts.proofs.Files.{starts-in, corners-in}
 use Rattle.area_listing.proofs.Printed.{told-refused, refused-room, parts-listed, parts-listable, listed-room, answered}
@@ -34,22 +35,19 @@ array-share-prefix-starts c = starts-in (c .before .before .before .before .befo
 slice-aggregate-put-listing : tie.Need-slice-aggregate-put-listing
 slice-aggregate-put-listing c = sym (length-take-le _ _ (starts-in (c .before .before .before .before .before .before .before .before .before .args .bytes .now) _ _ (c .before .before .before .before .before .split-file .ensures) (c .before .before .before .if1 .left)))
 
-mul-corners : tie.Need-mul-corners
-mul-corners c = search needs
-
-array-share-prefix-corners : tie.Need-array-share-prefix-corners
-array-share-prefix-corners c = corners-in (c .before .before .before .before .before .before .before .before .before .args .bytes .now) _ _ (c .before .before .before .before .before .split-file .ensures) (c .before .before .before .if1 .left)
-
-slice-aggregate-put-listing-2 : tie.Need-slice-aggregate-put-listing-2
-slice-aggregate-put-listing-2 c = sym (length-take-le _ _ (corners-in (c .before .before .before .before .before .before .before .before .before .before .args .bytes .now) _ _ (c .before .before .before .before .before .before .split-file .ensures) (c .before .before .before .before .if1 .left)))
+front-requires : tie.Need-front-requires
+front-requires c κs = whole-corners _ _ (corners-in (c .before .before .before .before .before .before .before .before .before .before .args .bytes .now) _ _ (c .before .before .before .before .before .before .split-file .ensures) (c .before .before .before .before .if1 .left))
 
 put-listing-requires : tie.Need-put-listing-requires
 put-listing-requires c κs =
-    let e = c .before .before .before .before .before .before .before .split-file .ensures in
-    (parts-listable (c .before .before .before .before .before .before .before .before .before .before .before .args .bytes .now) _ _ e (c .before .before .before .before .before .if1 .left), omega (arith, listed-room (c .before .before .before .before .before .before .before .before .before .before .before .args .bytes .now) _ _ e (c .before .before .before .before .before .if1 .left)))
+    let b = c .before .before .before .before .before .before .before .before .before .before .before .before .args .bytes .now in
+    let e = c .before .before .before .before .before .before .before .before .split-file .ensures in
+    let z = c .before .before .before .before .before .before .if1 .left in
+    let f = c .before .front .ensures in
+    (parts-listable b _ _ e z f, omega (arith, listed-room b _ _ e z f))
 
 returns-2 : tie.Need-returns-2
-returns-2 c = answered (put-as (parts-listed (c .before .before .before .before .before .before .before .before .before .before .before .before .args .bytes .now) _ _ (c .before .before .before .before .before .before .before .before .split-file .ensures) (c .before .before .before .before .before .before .if1 .left)) (c .put-listing .ensures))
+returns-2 c = answered (put-as (parts-listed (c .before .before .before .before .before .before .before .before .before .before .before .before .before .args .bytes .now) _ _ (c .before .before .before .before .before .before .before .before .before .split-file .ensures) (c .before .before .before .before .before .before .before .if1 .left) (c .before .before .front .ensures)) (c .put-listing .ensures))
 
 pub listing-spec : {M : Type 1} → statement M
 listing-spec =
@@ -63,8 +61,6 @@ listing-spec =
     add-starts
     array-share-prefix-starts
     slice-aggregate-put-listing
-    mul-corners
-    array-share-prefix-corners
-    slice-aggregate-put-listing-2
+    front-requires
     put-listing-requires
     returns-2)

@@ -2,6 +2,7 @@
 -- parts, which fits. Assumes nothing.
 use mathlib.Core.Path.{sym}
 use lib.Seq.{length-take-le}
+use Rattle.corners.proofs.Corners.{whole-corners}
 use Rattle.file_parts.proofs.Files.{starts-in, corners-in}
 use Rattle.parts_file.proofs.Stored.{refused-left, stored-left}
 use borrow.Author.Needs.{needs}
@@ -29,22 +30,17 @@ array-share-prefix-starts c = starts-in (c .before .before .before .before .befo
 slice-aggregate-write-table : tie.Need-slice-aggregate-write-table
 slice-aggregate-write-table c = sym (length-take-le _ _ (starts-in (c .before .before .before .before .before .before .before .before .before .args .bytes .now) _ _ (c .before .before .before .before .before .split-file .ensures) (c .before .before .before .if1 .left)))
 
-mul-corners : tie.Need-mul-corners
-mul-corners c = search needs
-
-array-share-prefix-corners : tie.Need-array-share-prefix-corners
-array-share-prefix-corners c = corners-in (c .before .before .before .before .before .before .before .before .before .args .bytes .now) _ _ (c .before .before .before .before .before .split-file .ensures) (c .before .before .before .if1 .left)
-
-slice-aggregate-write-table-2 : tie.Need-slice-aggregate-write-table-2
-slice-aggregate-write-table-2 c = sym (length-take-le _ _ (corners-in (c .before .before .before .before .before .before .before .before .before .before .args .bytes .now) _ _ (c .before .before .before .before .before .before .split-file .ensures) (c .before .before .before .before .if1 .left)))
+front-requires : tie.Need-front-requires
+front-requires c κs = whole-corners _ _ (corners-in (c .before .before .before .before .before .before .before .before .before .before .args .bytes .now) _ _ (c .before .before .before .before .before .before .split-file .ensures) (c .before .before .before .before .if1 .left))
 
 write-table-requires : tie.Need-write-table-requires
 write-table-requires c κs = search needs
 
 returns-2 : tie.Need-returns-2
 returns-2 c =
+    let s = c .before .before .before .before .before .before .before .before .before .before .before .before .before in
     let e = c .write-table .ensures in
-    stored-left (c .before .before .before .before .before .before .before .before .before .before .before .before .args .bytes .now) _ _ (c .before .before .before .before .before .before .before .before .before .before .before .before .args .out .now) (c .before .before .before .before .before .before .before .before .split-file .ensures) (c .before .before .before .before .before .before .if1 .left) (search needs) (e .0) (e .1)
+    stored-left (s .args .bytes .now) _ _ (s .args .out .now) (c .before .before .before .before .before .before .before .before .before .split-file .ensures) (c .before .before .before .before .before .before .before .if1 .left) (search needs) (c .before .before .front .ensures) (e .0) (e .1)
 
 pub stored-parts-spec : {M : Type 1} → statement M
 stored-parts-spec =
@@ -57,8 +53,6 @@ stored-parts-spec =
     add-starts
     array-share-prefix-starts
     slice-aggregate-write-table
-    mul-corners
-    array-share-prefix-corners
-    slice-aggregate-write-table-2
+    front-requires
     write-table-requires
     returns-2)
