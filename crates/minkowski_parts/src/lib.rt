@@ -34,7 +34,7 @@ fn fits(starts: &[u32], corners: &[i32], places: usize) -> bool
     if starts.len() > places {
         return false;
     }
-    corners.len() / corners::WIDTH <= places - starts.len()
+    corners::corner_count(corners) <= places - starts.len()
 }
 
 // Whether both have.
@@ -269,8 +269,8 @@ fn few_pairs(
     requires { ⌜ FewAsked (now «left_starts») (now «left_corners») (now «right_starts») (now «right_corners») ⌝ }
     ensures { λ r. ⌜ r ≡ fewPairs (now («left_starts» .entry)) (now («left_corners» .entry)) (now («right_starts» .entry)) (now («right_corners» .entry)) ⌝ }
 {
-    let a = left_corners.len() / corners::WIDTH;
-    let b = right_corners.len() / corners::WIDTH;
+    let a = corners::corner_count(left_corners);
+    let b = corners::corner_count(right_corners);
     right_starts.len() * a + left_starts.len() * b < 4 * (a + b)
 }
 

@@ -162,9 +162,9 @@ fn begin_shaped(
     begin_operands(
         operation,
         &left_starts[..l + 1],
-        &left_corners[..corners::WIDTH * m],
+        corners::front(left_corners, m),
         &right_starts[..r + 1],
-        &right_corners[..corners::WIDTH * n],
+        corners::front(right_corners, n),
         points,
         firsts,
         numbers,
