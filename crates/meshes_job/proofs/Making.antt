@@ -18,6 +18,7 @@ use Rattle.table.specs.Table.{startsOf, cornersOf, written}
 use Rattle.table.specs.Stored.{wordBytes, wordAt}
 use Rattle.table.proofs.Answers.{accepted-buffer, refused-buffer}
 use Rattle.table.proofs.Parts.{length-starts}
+use Rattle.corners.specs.Corners.{frontCorners}
 use Rattle.corners.proofs.Corners.{length-numbers}
 use Rattle.table.proofs.Words.{length-wordBytes}
 use Rattle.table_words.specs.Place.{putWords}
@@ -134,43 +135,45 @@ module _ (bytes : List ℕ) where
       pub few-right-parts : (t .right .parts + 1 ≤ 2049) × (2 * t .right .corners ≤ 12288)
       few-right-parts = few-held (rightFile (drop 4 bytes)) (t .right) (k .right-held y)
 
-      pub job-room : (old : List ℕ) → 114748 ≤ length old → JobRoom (take (t .left .parts + 1) ls) (take (2 * t .left .corners) lc) (take (t .right .parts + 1) rs) (take (2 * t .right .corners) rc) old
-      job-room old h =
-          let l = k .left-held y in
-          let r = k .right-held y in
-          let a = length-take-le (t .left .parts + 1) ls (l .starts-in) in
-          let b = length-take-le (2 * t .left .corners) lc (l .corners-in) in
-          let d = length-take-le (t .right .parts + 1) rs (r .starts-in) in
-          let e = length-take-le (2 * t .right .corners) rc (r .corners-in) in
-          record {
-            some-left = omega (arith, a);
-            some-right = omega (arith, d);
-            few-left-starts = omega (arith, a, few-left-parts .0);
-            few-left-numbers = omega (arith, b, few-left-parts .1);
-            few-right-starts = omega (arith, d, few-right-parts .0);
-            few-right-numbers = omega (arith, e, few-right-parts .1);
-            room = h;
-          }
+      -- the corners as the code takes them
+      module _ {lf rf : List ℤ} (el : lf ≡ frontCorners (t .left .corners) lc) (er : rf ≡ frontCorners (t .right .corners) rc) where
+        pub job-room : (old : List ℕ) → 114748 ≤ length old → JobRoom (take (t .left .parts + 1) ls) lf (take (t .right .parts + 1) rs) rf old
+        job-room old h =
+            let l = k .left-held y in
+            let r = k .right-held y in
+            let a = length-take-le (t .left .parts + 1) ls (l .starts-in) in
+            let b = ap length el ∙ length-take-le (2 * t .left .corners) lc (l .corners-in) in
+            let d = length-take-le (t .right .parts + 1) rs (r .starts-in) in
+            let e = ap length er ∙ length-take-le (2 * t .right .corners) rc (r .corners-in) in
+            record {
+              some-left = omega (arith, a);
+              some-right = omega (arith, d);
+              few-left-starts = omega (arith, a, few-left-parts .0);
+              few-left-numbers = omega (arith, b, few-left-parts .1);
+              few-right-starts = omega (arith, d, few-right-parts .0);
+              few-right-numbers = omega (arith, e, few-right-parts .1);
+              room = h;
+            }
 
-      abbrev pub leftPut : List ℕ
-      leftPut = wordsFrom (t .left .bounds) (take (t .left .parts + 1) ls) (take (2 * t .left .corners) lc)
+        abbrev pub leftPut : List ℕ
+        leftPut = wordsFrom (t .left .bounds) (take (t .left .parts + 1) ls) lf
 
-      abbrev pub rightPut : List ℕ
-      rightPut = wordsFrom (t .right .bounds) (take (t .right .parts + 1) rs) (take (2 * t .right .corners) rc)
+        abbrev pub rightPut : List ℕ
+        rightPut = wordsFrom (t .right .bounds) (take (t .right .parts + 1) rs) rf
 
-      words-are : {op : ℕ} → op ≡ wordAt bytes 0 → wordBytes (op ∷ (leftPut ++ rightPut)) ≡ jobOf bytes
-      unfolding jobOf jobBytes
-      words-are e =
-          let l = k .left-held y in
-          let r = k .right-held y in
-          (λ i. wordBytes (e i ∷ (operandWords (record { starts = l .starts i; corners = l .corners i; bounds = l .bounds i }) ++ operandWords (record { starts = r .starts i; corners = r .corners i; bounds = r .bounds i }))))
+        words-are : {op : ℕ} → op ≡ wordAt bytes 0 → wordBytes (op ∷ (leftPut ++ rightPut)) ≡ jobOf bytes
+        unfolding jobOf jobBytes
+        words-are e =
+            let l = k .left-held y in
+            let r = k .right-held y in
+            (λ i. wordBytes (e i ∷ (operandWords (record { starts = l .starts i; corners = (el ∙ l .corners) i; bounds = l .bounds i }) ++ operandWords (record { starts = r .starts i; corners = (er ∙ r .corners) i; bounds = r .bounds i }))))
 
-      pub job-answered : (old : List ℕ) → 114748 ≤ length old → {op size : ℕ} {new : List ℕ} → op ≡ wordAt bytes 0 → JobPut op leftPut rightPut old new size → Answered old (record { fault = t .fault; length = size }) new
-      job-answered old h {op} {size} {new} e p =
-          let W = op ∷ (leftPut ++ rightPut) in
-          let none : meshesFault bytes ≡ 0 = files-told z ∙ sym (k .fault) ∙ y in
-          let n : size ≡ length (jobOf bytes) = p .after ∙ sym (length-wordBytes W) ∙ ap length (words-are e) in
-          let b : new ≡ written (meshesFault bytes) (jobOf bytes) old = p .bytes ∙ put-front W old ∙ ap (λ x. overlay x old) (words-are e) ∙ sym (accepted-buffer (meshesFault bytes) none (jobOf bytes) old) in
-          let a : record { fault = t .fault; length = size } ≡ jobAnswer bytes = rw (eq-eqb (meshesFault bytes) 0 none) (λ i. record { fault = y i; length = n i }) in
-          let c : length W ≤ 28687 = few-words op (t .left .bounds) _ _ (t .right .bounds) _ _ old (job-room old h) in
-          (a, (b, counted size new (omega (arith, p .after, c, put-kept 0 W old (omega (arith, c)) (p .bytes)))))
+        pub job-answered : (old : List ℕ) → 114748 ≤ length old → {op size : ℕ} {new : List ℕ} → op ≡ wordAt bytes 0 → JobPut op leftPut rightPut old new size → Answered old (record { fault = t .fault; length = size }) new
+        job-answered old h {op} {size} {new} e p =
+            let W = op ∷ (leftPut ++ rightPut) in
+            let none : meshesFault bytes ≡ 0 = files-told z ∙ sym (k .fault) ∙ y in
+            let n : size ≡ length (jobOf bytes) = p .after ∙ sym (length-wordBytes W) ∙ ap length (words-are e) in
+            let b : new ≡ written (meshesFault bytes) (jobOf bytes) old = p .bytes ∙ put-front W old ∙ ap (λ x. overlay x old) (words-are e) ∙ sym (accepted-buffer (meshesFault bytes) none (jobOf bytes) old) in
+            let a : record { fault = t .fault; length = size } ≡ jobAnswer bytes = rw (eq-eqb (meshesFault bytes) 0 none) (λ i. record { fault = y i; length = n i }) in
+            let c : length W ≤ 28687 = few-words op (t .left .bounds) _ _ (t .right .bounds) _ _ old (job-room old h) in
+            (a, (b, counted size new (omega (arith, p .after, c, put-kept 0 W old (omega (arith, c)) (p .bytes)))))

@@ -45,7 +45,7 @@ fn put_operand(b: IntRect, starts: &[u32], corners: &[i32], k: usize, out: &mut 
     let numbers = corners.len();
     put_bounds(b, k, out);
     put_word(out, k + 4, (parts - 1) as u32);
-    put_word(out, k + 5, (numbers / corners::WIDTH) as u32);
+    put_word(out, k + 5, corners::corner_count(corners) as u32);
     table_write::write_words(starts, k + 6, out);
     table_write::write_corners(corners, k + 6 + parts, out);
     k + 6 + parts + numbers
@@ -127,10 +127,10 @@ pub fn make_job(bytes: &[u8], out: &mut [u8; JOB]) -> Stored
         op,
         left.bounds,
         &left_starts[..left.parts + 1],
-        &left_corners[..corners::WIDTH * left.corners],
+        file_parts::front(&left_corners, left.corners),
         right.bounds,
         &right_starts[..right.parts + 1],
-        &right_corners[..corners::WIDTH * right.corners],
+        file_parts::front(&right_corners, right.corners),
         out,
     );
     Stored {

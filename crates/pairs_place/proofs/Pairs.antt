@@ -15,8 +15,8 @@ use Rattle.integers.proofs.Overlay.{overlay-nil, take-overlay}
 use Rattle.integers.proofs.Tests.{both-true}
 use Rattle.plane.specs.Plane.{Pt, inRange, onGrid}
 use Rattle.table.specs.Table.{maxContour}
-use Rattle.corners.specs.Corners.{numbersOf, offRange}
-use Rattle.corners.proofs.Corners.{length-numbers}
+use Rattle.corners.specs.Corners.{pointsOf, numbersOf, offRange}
+use Rattle.corners.proofs.Corners.{whole-corners, length-numbers}
 use Rattle.pair_points.specs.Points.{mergedOf}
 use Rattle.pair_points.proofs.Merged.{length-merged}
 use Rattle.pair_merge.specs.Putting.{CornersPut}
@@ -81,7 +81,7 @@ front-range {ps} {o} {o′} {k} p g =
     ap offRange (ap₂ take n e ∙ take-overlay (numbersOf ps) o) ∙ grid-range ps g
 
 module _ {firsts : List ℕ} {points : List (List ℤ)} {numbers : List ℕ} {left right p q : ℕ} {work : List ℤ} (h : Merging firsts points numbers left right p q work) where
-  pub front-fits : {o o′ : List ℤ} {k : ℕ} → length work ≡ length o → CornersPut (pairIn firsts points left right p q) o 0 o′ k → (2 * k ≤ length o′) × (k ≤ 2 * maxContour)
+  pub front-fits : {o o′ : List ℤ} {k : ℕ} → length work ≡ length o → CornersPut (pairIn firsts points left right p q) o 0 o′ k → k ≤ length (pointsOf o′)
   front-fits {o} {o′} {k} f m =
       let few : length (pairIn firsts points left right p q) ≤ 2 * maxContour =
       omega (
@@ -90,4 +90,4 @@ module _ {firsts : List ℕ} {points : List (List ℤ)} {numbers : List ℕ} {le
         walk-short firsts points (left + right) p (h .keyed .walks) (omega (arith, h .p-inside)),
         walk-short firsts points (left + right) (left + q) (h .keyed .walks) (omega (arith, h .q-inside)),
       ) in
-      (omega (arith, m .count, m .size, few, f, h .for-corners), omega (arith, m .count, few))
+      whole-corners k o′ (omega (arith, m .count, m .size, few, f, h .for-corners))

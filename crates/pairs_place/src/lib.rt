@@ -38,7 +38,7 @@ fn placed_pair(
     ensures { λ r. ⌜ r ≡ contactIn (point z) (pairIn (now (firsts .entry)) (now (points .entry)) left right p q) ⌝ }
 {
     let count = minkowski_order::merge_pair(firsts, points, numbers, left, right, p, q, work);
-    placement::placed_in(&work[..corners::WIDTH * count], z)
+    placement::placed_in(corners::front(work, count), z)
 }
 
 // Where z lies by the contours of all pairs of walks.

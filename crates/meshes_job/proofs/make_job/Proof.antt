@@ -5,6 +5,7 @@ use Prim.Native.Nat.{_≤_}
 use native.Mathlib.Omega.{arith}
 use lib.ListN.{length}
 use lib.Seq.{length-take-le}
+use Rattle.corners.proofs.Corners.{whole-corners}
 use Rattle.meshes_job.proofs.Making.{enough, operation-refused, rest-taken, files-refused, few-left-parts, few-right-parts, job-room, job-answered}
 use borrow.Author.Needs.{needs}
 use Rattle.meshes_job.proofs.make_job.Statement.{statement}
@@ -43,42 +44,30 @@ array-share-prefix-left-starts c = (rest-taken (c .before .before .before .befor
 slice-aggregate-put-job : tie.Need-slice-aggregate-put-job
 slice-aggregate-put-job c = sym (length-take-le _ _ ((rest-taken (c .before .before .before .before .before .before .before .before .before .before .before .before .before .before .before .before .args .bytes .now) (c .before .before .before .before .before .before .before .take-two .ensures)) .left-held (c .before .before .before .before .before .if2 .left) .starts-in))
 
-mul-left-corners : tie.Need-mul-left-corners
-mul-left-corners c = omega (arith, few-left-parts (c .before .before .before .before .before .before .before .before .before .before .before .before .before .before .before .before .before .args .bytes .now) (sym (c .before .before .before .before .before .before .before .before .before .before .before .before .before .before .before .operation-fault .ensures) ∙ c .before .before .before .before .before .before .before .before .before .before .before .before .before .before .if1 .left) (rest-taken (c .before .before .before .before .before .before .before .before .before .before .before .before .before .before .before .before .before .args .bytes .now) (c .before .before .before .before .before .before .before .before .take-two .ensures)) (c .before .before .before .before .before .before .if2 .left) .1)
-
-array-share-prefix-left-corners : tie.Need-array-share-prefix-left-corners
-array-share-prefix-left-corners c = (rest-taken (c .before .before .before .before .before .before .before .before .before .before .before .before .before .before .before .before .before .args .bytes .now) (c .before .before .before .before .before .before .before .before .take-two .ensures)) .left-held (c .before .before .before .before .before .before .if2 .left) .corners-in
-
-slice-aggregate-put-job-2 : tie.Need-slice-aggregate-put-job-2
-slice-aggregate-put-job-2 c = sym (length-take-le _ _ ((rest-taken (c .before .before .before .before .before .before .before .before .before .before .before .before .before .before .before .before .before .before .args .bytes .now) (c .before .before .before .before .before .before .before .before .before .take-two .ensures)) .left-held (c .before .before .before .before .before .before .before .if2 .left) .corners-in))
+front-requires : tie.Need-front-requires
+front-requires c κs = whole-corners _ _ (rest-taken (c .before .before .before .before .before .before .before .before .before .before .before .before .before .before .before .before .before .args .bytes .now) (c .before .before .before .before .before .before .before .before .take-two .ensures) .left-held (c .before .before .before .before .before .before .if2 .left) .corners-in)
 
 add-right-starts : tie.Need-add-right-starts
 add-right-starts c = omega (arith, few-right-parts (c .before .before .before .before .before .before .before .before .before .before .before .before .before .before .before .before .before .before .before .args .bytes .now) (sym (c .before .before .before .before .before .before .before .before .before .before .before .before .before .before .before .before .before .operation-fault .ensures) ∙ c .before .before .before .before .before .before .before .before .before .before .before .before .before .before .before .before .if1 .left) (rest-taken (c .before .before .before .before .before .before .before .before .before .before .before .before .before .before .before .before .before .before .before .args .bytes .now) (c .before .before .before .before .before .before .before .before .before .before .take-two .ensures)) (c .before .before .before .before .before .before .before .before .if2 .left) .0)
 
 array-share-prefix-right-starts : tie.Need-array-share-prefix-right-starts
-array-share-prefix-right-starts c = (rest-taken (c .before .before .before .before .before .before .before .before .before .before .before .before .before .before .before .before .before .before .before .args .bytes .now) (c .before .before .before .before .before .before .before .before .before .before .take-two .ensures)) .right-held (c .before .before .before .before .before .before .before .before .if2 .left) .starts-in
+array-share-prefix-right-starts c = rest-taken (c .before .before .before .before .before .before .before .before .before .before .before .before .before .before .before .before .before .before .before .args .bytes .now) (c .before .before .before .before .before .before .before .before .before .before .take-two .ensures) .right-held (c .before .before .before .before .before .before .before .before .if2 .left) .starts-in
 
-slice-aggregate-put-job-3 : tie.Need-slice-aggregate-put-job-3
-slice-aggregate-put-job-3 c = sym (length-take-le _ _ ((rest-taken (c .before .before .before .before .before .before .before .before .before .before .before .before .before .before .before .before .before .before .before .before .args .bytes .now) (c .before .before .before .before .before .before .before .before .before .before .before .take-two .ensures)) .right-held (c .before .before .before .before .before .before .before .before .before .if2 .left) .starts-in))
+slice-aggregate-put-job-2 : tie.Need-slice-aggregate-put-job-2
+slice-aggregate-put-job-2 c = sym (length-take-le _ _ (rest-taken (c .before .before .before .before .before .before .before .before .before .before .before .before .before .before .before .before .before .before .before .before .args .bytes .now) (c .before .before .before .before .before .before .before .before .before .before .before .take-two .ensures) .right-held (c .before .before .before .before .before .before .before .before .before .if2 .left) .starts-in))
 
-mul-right-corners : tie.Need-mul-right-corners
-mul-right-corners c = omega (arith, few-right-parts (c .before .before .before .before .before .before .before .before .before .before .before .before .before .before .before .before .before .before .before .before .before .args .bytes .now) (sym (c .before .before .before .before .before .before .before .before .before .before .before .before .before .before .before .before .before .before .before .operation-fault .ensures) ∙ c .before .before .before .before .before .before .before .before .before .before .before .before .before .before .before .before .before .before .if1 .left) (rest-taken (c .before .before .before .before .before .before .before .before .before .before .before .before .before .before .before .before .before .before .before .before .before .args .bytes .now) (c .before .before .before .before .before .before .before .before .before .before .before .before .take-two .ensures)) (c .before .before .before .before .before .before .before .before .before .before .if2 .left) .1)
-
-array-share-prefix-right-corners : tie.Need-array-share-prefix-right-corners
-array-share-prefix-right-corners c = (rest-taken (c .before .before .before .before .before .before .before .before .before .before .before .before .before .before .before .before .before .before .before .before .before .args .bytes .now) (c .before .before .before .before .before .before .before .before .before .before .before .before .take-two .ensures)) .right-held (c .before .before .before .before .before .before .before .before .before .before .if2 .left) .corners-in
-
-slice-aggregate-put-job-4 : tie.Need-slice-aggregate-put-job-4
-slice-aggregate-put-job-4 c = sym (length-take-le _ _ ((rest-taken (c .before .before .before .before .before .before .before .before .before .before .before .before .before .before .before .before .before .before .before .before .before .before .args .bytes .now) (c .before .before .before .before .before .before .before .before .before .before .before .before .before .take-two .ensures)) .right-held (c .before .before .before .before .before .before .before .before .before .before .before .if2 .left) .corners-in))
+front-requires-2 : tie.Need-front-requires-2
+front-requires-2 c κs = whole-corners _ _ (rest-taken (c .before .before .before .before .before .before .before .before .before .before .before .before .before .before .before .before .before .before .before .before .before .args .bytes .now) (c .before .before .before .before .before .before .before .before .before .before .before .before .take-two .ensures) .right-held (c .before .before .before .before .before .before .before .before .before .before .if2 .left) .corners-in)
 
 put-job-requires : tie.Need-put-job-requires
 put-job-requires c κs =
     let h : 114748 ≤ length (c .before .before .before .before .before .before .before .before .before .before .before .before .before .before .before .before .before .before .before .before .before .before .before .args .out .now) = search needs in
-    job-room (c .before .before .before .before .before .before .before .before .before .before .before .before .before .before .before .before .before .before .before .before .before .before .before .args .bytes .now) (sym (c .before .before .before .before .before .before .before .before .before .before .before .before .before .before .before .before .before .before .before .before .before .operation-fault .ensures) ∙ c .before .before .before .before .before .before .before .before .before .before .before .before .before .before .before .before .before .before .before .before .if1 .left) (rest-taken (c .before .before .before .before .before .before .before .before .before .before .before .before .before .before .before .before .before .before .before .before .before .before .before .args .bytes .now) (c .before .before .before .before .before .before .before .before .before .before .before .before .before .before .take-two .ensures)) (c .before .before .before .before .before .before .before .before .before .before .before .before .if2 .left) (c .before .before .before .before .before .before .before .before .before .before .before .before .before .before .before .before .before .before .before .before .before .before .before .args .out .now) h
+    job-room (c .before .before .before .before .before .before .before .before .before .before .before .before .before .before .before .before .before .before .before .before .before .before .before .args .bytes .now) (sym (c .before .before .before .before .before .before .before .before .before .before .before .before .before .before .before .before .before .before .before .before .before .operation-fault .ensures) ∙ c .before .before .before .before .before .before .before .before .before .before .before .before .before .before .before .before .before .before .before .before .if1 .left) (rest-taken (c .before .before .before .before .before .before .before .before .before .before .before .before .before .before .before .before .before .before .before .before .before .before .before .args .bytes .now) (c .before .before .before .before .before .before .before .before .before .before .before .before .before .before .take-two .ensures)) (c .before .before .before .before .before .before .before .before .before .before .before .before .if2 .left) (c .before .before .before .before .before .front .ensures) (c .before .front2 .ensures) (c .before .before .before .before .before .before .before .before .before .before .before .before .before .before .before .before .before .before .before .before .before .before .before .args .out .now) h
 
 returns-3 : tie.Need-returns-3
 returns-3 c =
     let h : 114748 ≤ length (c .before .before .before .before .before .before .before .before .before .before .before .before .before .before .before .before .before .before .before .before .before .before .before .before .args .out .now) = search needs in
-    job-answered (c .before .before .before .before .before .before .before .before .before .before .before .before .before .before .before .before .before .before .before .before .before .before .before .before .args .bytes .now) (sym (c .before .before .before .before .before .before .before .before .before .before .before .before .before .before .before .before .before .before .before .before .before .before .operation-fault .ensures) ∙ c .before .before .before .before .before .before .before .before .before .before .before .before .before .before .before .before .before .before .before .before .before .if1 .left) (rest-taken (c .before .before .before .before .before .before .before .before .before .before .before .before .before .before .before .before .before .before .before .before .before .before .before .before .args .bytes .now) (c .before .before .before .before .before .before .before .before .before .before .before .before .before .before .before .take-two .ensures)) (c .before .before .before .before .before .before .before .before .before .before .before .before .before .if2 .left) (c .before .before .before .before .before .before .before .before .before .before .before .before .before .before .before .before .before .before .before .before .before .before .before .before .args .out .now) h (c .before .before .before .before .before .before .before .before .before .before .before .before .word-at .ensures) (c .put-job .ensures)
+    job-answered (c .before .before .before .before .before .before .before .before .before .before .before .before .before .before .before .before .before .before .before .before .before .before .before .before .args .bytes .now) (sym (c .before .before .before .before .before .before .before .before .before .before .before .before .before .before .before .before .before .before .before .before .before .before .operation-fault .ensures) ∙ c .before .before .before .before .before .before .before .before .before .before .before .before .before .before .before .before .before .before .before .before .before .if1 .left) (rest-taken (c .before .before .before .before .before .before .before .before .before .before .before .before .before .before .before .before .before .before .before .before .before .before .before .before .args .bytes .now) (c .before .before .before .before .before .before .before .before .before .before .before .before .before .before .before .take-two .ensures)) (c .before .before .before .before .before .before .before .before .before .before .before .before .before .if2 .left) (c .before .before .before .before .before .before .front .ensures) (c .before .before .front2 .ensures) (c .before .before .before .before .before .before .before .before .before .before .before .before .before .before .before .before .before .before .before .before .before .before .before .before .args .out .now) h (c .before .before .before .before .before .before .before .before .before .before .before .before .word-at .ensures) (c .put-job .ensures)
 
 pub make-job-spec : {M : Type 1} → statement M
 make-job-spec =
@@ -95,14 +84,10 @@ make-job-spec =
     add-left-starts
     array-share-prefix-left-starts
     slice-aggregate-put-job
-    mul-left-corners
-    array-share-prefix-left-corners
-    slice-aggregate-put-job-2
+    front-requires
     add-right-starts
     array-share-prefix-right-starts
-    slice-aggregate-put-job-3
-    mul-right-corners
-    array-share-prefix-right-corners
-    slice-aggregate-put-job-4
+    slice-aggregate-put-job-2
+    front-requires-2
     put-job-requires
     returns-3)

@@ -1,6 +1,8 @@
 -- `meshes_job::put_operand` meets its contract: bounds, counts, starts and numbers, one after
 -- another. Assumes nothing.
-use mathlib.Core.Path.{refl}
+use mathlib.Core.Path.{refl, _∙_}
+use native.Mathlib.Omega.{arith}
+use Rattle.corners.proofs.Corners.{length-points}
 use Rattle.meshes_job.proofs.Putting.{operand-put}
 use borrow.Author.Needs.{needs}
 use Rattle.meshes_job.proofs.put_operand.Statement.{statement}
@@ -24,8 +26,13 @@ put-word-requires c κs = search needs
 add-put-word-2 : tie.Need-add-put-word-2
 add-put-word-2 c = search needs
 
+corner-count-requires : tie.Need-corner-count-requires
+corner-count-requires c κs = search needs
+
 cast-put-word-2 : tie.Need-cast-put-word-2
-cast-put-word-2 c = search needs
+cast-put-word-2 c =
+    let s = c .before .before .before .before .before .before .before .before .before .before .before .before in
+    omega (arith, c .corner-count .ensures, length-points (s .args .corners .now), s .pre .few-numbers)
 
 put-word-requires-2 : tie.Need-put-word-requires-2
 put-word-requires-2 c κs = search needs
@@ -59,9 +66,10 @@ same-length c = search needs
 
 returns : tie.Need-returns
 returns c =
-    let s = c .before .before .before .before .before .before .before .before .before .before .before .before .before .before .before .before .before .before .before .before .before .before in
+    let s = c .before .before .before .before .before .before .before .before .before .before .before .before .before .before .before .before .before .before .before .before .before .before .before in
     let a = s .args in
-    operand-put (a .b) (a .starts .now) (a .corners .now) (a .k) (a .out .now) (s .pre) refl refl (c .before .before .before .before .before .before .before .before .before .before .before .before .before .before .before .before .before .before .put-bounds .ensures) (c .before .before .before .before .before .before .before .before .before .before .before .before .before .before .put-word .ensures) (c .before .before .before .before .before .before .before .before .before .before .put-word2 .ensures) (c .before .before .before .before .before .before .write-words .ensures) (c .before .before .write-corners .ensures)
+    operand-put (a .b) (a .starts .now) (a .corners .now) (a .k) (a .out .now) (s .pre) refl (c .before .before .before .before .before .before .before .before .before .before .before .corner-count .ensures ∙ length-points (a .corners .now))
+    (c .before .before .before .before .before .before .before .before .before .before .before .before .before .before .before .before .before .before .before .put-bounds .ensures) (c .before .before .before .before .before .before .before .before .before .before .before .before .before .before .before .put-word .ensures) (c .before .before .before .before .before .before .before .before .before .before .put-word2 .ensures) (c .before .before .before .before .before .before .write-words .ensures) (c .before .before .write-corners .ensures)
 
 pub put-operand-spec : {M : Type 1} → statement M
 put-operand-spec =
@@ -73,6 +81,7 @@ put-operand-spec =
     cast-put-word
     put-word-requires
     add-put-word-2
+    corner-count-requires
     cast-put-word-2
     put-word-requires-2
     add-write-words
