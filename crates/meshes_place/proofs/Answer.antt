@@ -3,7 +3,7 @@
 use mathlib.Core.Path.{_≡_, refl, sym, _∙_, ap, subst}
 use mathlib.Core.Bool.{true, cond}
 use mathlib.Core.List.{List, []}
-use Prim.Native.Nat.{ℕ, _+_, _*_, _-_, _≤_}
+use Prim.Native.Nat.{ℕ, _+_, _-_, _≤_}
 use native.Mathlib.Omega.{arith}
 use borrow.Author.Tests.{eq-eqb}
 use lib.Dec.{eqb}
@@ -11,6 +11,7 @@ use lib.ListN.{length, take, drop}
 use lib.IntN.{ℤ}
 use Rattle.integers.specs.Faults.{firstFault}
 use Rattle.plane.specs.Plane.{Pt}
+use Rattle.corners.specs.Corners.{frontCorners}
 use Rattle.table.specs.declared.IntRect.{IntRect}
 use Rattle.text.proofs.Sizes.{decimal-size}
 use Rattle.text.proofs.Refusals.{refusal-length}
@@ -57,17 +58,19 @@ module _ (bytes : List ℕ) (p : pointFault bytes ≡ 0) where
   rest-taken {t} {ls} {lc} {rs} {rc} k = subst (λ x. TwoTaken x t ls lc rs rc) (rest-of bytes 8) k
 
   module _ {t : Two} {ls : List ℕ} {lc : List ℤ} {rs : List ℕ} {rc : List ℤ} (k : TwoTaken (filesOf bytes) t ls lc rs rc) (y : t .fault ≡ 0) where
-    abbrev taken : Call
-    taken = callOf (record { left = t .left .bounds; right = t .right .bounds; reflected = true }) (take (t .left .parts + 1) ls) (take (2 * t .left .corners) lc) (take (t .right .parts + 1) rs) (take (2 * t .right .corners) rc)
+    -- the corners as the code takes them
+    module _ {lf rf : List ℤ} (el : lf ≡ frontCorners (t .left .corners) lc) (er : rf ≡ frontCorners (t .right .corners) rc) where
+      abbrev taken : Call
+      taken = callOf (record { left = t .left .bounds; right = t .right .bounds; reflected = true }) (take (t .left .parts + 1) ls) lf (take (t .right .parts + 1) rs) rf
 
-    taken-is : taken ≡ differenceOf (filesOf bytes)
-    taken-is =
-        let l = k .left-held y in
-        let r = k .right-held y in
-        (λ i. record { reflected = true; left = record { starts = l .starts i; corners = l .corners i; bounds = l .bounds i }; right = record { starts = r .starts i; corners = r .corners i; bounds = r .bounds i } })
+      taken-is : taken ≡ differenceOf (filesOf bytes)
+      taken-is =
+          let l = k .left-held y in
+          let r = k .right-held y in
+          (λ i. record { reflected = true; left = record { starts = l .starts i; corners = (el ∙ l .corners) i; bounds = l .bounds i }; right = record { starts = r .starts i; corners = (er ∙ r .corners) i; bounds = r .bounds i } })
 
-    pub answered : {z : Pt} {r : Placed} → z ≡ placeOf bytes → r ≡ placedBy taken z → r ≡ placedOf bytes
-    answered {z} q e = e ∙ (λ i. placedBy (taken-is i) (q i)) ∙ placed-is (sym (k .fault) ∙ y)
+      pub answered : {z : Pt} {r : Placed} → z ≡ placeOf bytes → r ≡ placedBy taken z → r ≡ placedOf bytes
+      answered {z} q e = e ∙ (λ i. placedBy (taken-is i) (q i)) ∙ placed-is (sym (k .fault) ∙ y)
 
 -- ---- its text
 

@@ -84,9 +84,9 @@ pub fn placed(bytes: &[u8]) -> Placed
     pairs_place::place_operands(
         difference,
         &left_starts[..left.parts + 1],
-        &left_corners[..corners::WIDTH * left.corners],
+        file_parts::front(&left_corners, left.corners),
         &right_starts[..right.parts + 1],
-        &right_corners[..corners::WIDTH * right.corners],
+        file_parts::front(&right_corners, right.corners),
         z,
     )
 }

@@ -3,6 +3,7 @@
 use mathlib.Core.Path.{sym, _∙_}
 use native.Mathlib.Omega.{arith}
 use lib.Seq.{length-take-le}
+use Rattle.corners.proofs.Corners.{whole-corners}
 use Rattle.meshes_job.proofs.Making.{few-held}
 use Rattle.meshes_place.proofs.Faults.{point-good, grid-point, point-refused, files-refused}
 use Rattle.meshes_place.proofs.Answer.{rest-taken, answered}
@@ -46,38 +47,26 @@ array-share-prefix-left-starts c = ((rest-taken (c .before .before .before .befo
 slice-aggregate-place-operands : tie.Need-slice-aggregate-place-operands
 slice-aggregate-place-operands c = sym (length-take-le _ _ (((rest-taken (c .before .before .before .before .before .before .before .before .before .before .before .before .before .before .before .before .before .before .args .bytes .now) (sym (c .before .before .before .before .before .before .before .before .before .before .before .before .before .before .before .before .point-fault .ensures) ∙ c .before .before .before .before .before .before .before .before .before .before .before .before .before .before .before .if1 .left) (c .before .before .before .before .before .before .before .before .before .take-two .ensures)) .left-held (c .before .before .before .before .before .before .before .if2 .left)) .starts-in))
 
-mul-left-corners : tie.Need-mul-left-corners
-mul-left-corners c = omega (arith, few-held _ (c .before .before .before .before .before .before .before .before .before .before .take-two .result .left) ((rest-taken (c .before .before .before .before .before .before .before .before .before .before .before .before .before .before .before .before .before .before .before .args .bytes .now) (sym (c .before .before .before .before .before .before .before .before .before .before .before .before .before .before .before .before .before .point-fault .ensures) ∙ c .before .before .before .before .before .before .before .before .before .before .before .before .before .before .before .before .if1 .left) (c .before .before .before .before .before .before .before .before .before .before .take-two .ensures)) .left-held (c .before .before .before .before .before .before .before .before .if2 .left)) .1)
-
-array-share-prefix-left-corners : tie.Need-array-share-prefix-left-corners
-array-share-prefix-left-corners c = ((rest-taken (c .before .before .before .before .before .before .before .before .before .before .before .before .before .before .before .before .before .before .before .args .bytes .now) (sym (c .before .before .before .before .before .before .before .before .before .before .before .before .before .before .before .before .before .point-fault .ensures) ∙ c .before .before .before .before .before .before .before .before .before .before .before .before .before .before .before .before .if1 .left) (c .before .before .before .before .before .before .before .before .before .before .take-two .ensures)) .left-held (c .before .before .before .before .before .before .before .before .if2 .left)) .corners-in
-
-slice-aggregate-place-operands-2 : tie.Need-slice-aggregate-place-operands-2
-slice-aggregate-place-operands-2 c = sym (length-take-le _ _ (((rest-taken (c .before .before .before .before .before .before .before .before .before .before .before .before .before .before .before .before .before .before .before .before .args .bytes .now) (sym (c .before .before .before .before .before .before .before .before .before .before .before .before .before .before .before .before .before .before .point-fault .ensures) ∙ c .before .before .before .before .before .before .before .before .before .before .before .before .before .before .before .before .before .if1 .left) (c .before .before .before .before .before .before .before .before .before .before .before .take-two .ensures)) .left-held (c .before .before .before .before .before .before .before .before .before .if2 .left)) .corners-in))
+front-requires : tie.Need-front-requires
+front-requires c κs = whole-corners _ _ (rest-taken (c .before .before .before .before .before .before .before .before .before .before .before .before .before .before .before .before .before .before .before .args .bytes .now) (sym (c .before .before .before .before .before .before .before .before .before .before .before .before .before .before .before .before .before .point-fault .ensures) ∙ c .before .before .before .before .before .before .before .before .before .before .before .before .before .before .before .before .if1 .left) (c .before .before .before .before .before .before .before .before .before .before .take-two .ensures) .left-held (c .before .before .before .before .before .before .before .before .if2 .left) .corners-in)
 
 add-right-starts : tie.Need-add-right-starts
-add-right-starts c = omega (arith, few-held _ (c .before .before .before .before .before .before .before .before .before .before .before .before .take-two .result .right) ((rest-taken (c .before .before .before .before .before .before .before .before .before .before .before .before .before .before .before .before .before .before .before .before .before .args .bytes .now) (sym (c .before .before .before .before .before .before .before .before .before .before .before .before .before .before .before .before .before .before .before .point-fault .ensures) ∙ c .before .before .before .before .before .before .before .before .before .before .before .before .before .before .before .before .before .before .if1 .left) (c .before .before .before .before .before .before .before .before .before .before .before .before .take-two .ensures)) .right-held (c .before .before .before .before .before .before .before .before .before .before .if2 .left)) .0)
+add-right-starts c = omega (arith, few-held _ (c .before .before .before .before .before .before .before .before .before .before .before .before .take-two .result .right) (rest-taken (c .before .before .before .before .before .before .before .before .before .before .before .before .before .before .before .before .before .before .before .before .before .args .bytes .now) (sym (c .before .before .before .before .before .before .before .before .before .before .before .before .before .before .before .before .before .before .before .point-fault .ensures) ∙ c .before .before .before .before .before .before .before .before .before .before .before .before .before .before .before .before .before .before .if1 .left) (c .before .before .before .before .before .before .before .before .before .before .before .before .take-two .ensures) .right-held (c .before .before .before .before .before .before .before .before .before .before .if2 .left)) .0)
 
 array-share-prefix-right-starts : tie.Need-array-share-prefix-right-starts
-array-share-prefix-right-starts c = ((rest-taken (c .before .before .before .before .before .before .before .before .before .before .before .before .before .before .before .before .before .before .before .before .before .args .bytes .now) (sym (c .before .before .before .before .before .before .before .before .before .before .before .before .before .before .before .before .before .before .before .point-fault .ensures) ∙ c .before .before .before .before .before .before .before .before .before .before .before .before .before .before .before .before .before .before .if1 .left) (c .before .before .before .before .before .before .before .before .before .before .before .before .take-two .ensures)) .right-held (c .before .before .before .before .before .before .before .before .before .before .if2 .left)) .starts-in
+array-share-prefix-right-starts c = rest-taken (c .before .before .before .before .before .before .before .before .before .before .before .before .before .before .before .before .before .before .before .before .before .args .bytes .now) (sym (c .before .before .before .before .before .before .before .before .before .before .before .before .before .before .before .before .before .before .before .point-fault .ensures) ∙ c .before .before .before .before .before .before .before .before .before .before .before .before .before .before .before .before .before .before .if1 .left) (c .before .before .before .before .before .before .before .before .before .before .before .before .take-two .ensures) .right-held (c .before .before .before .before .before .before .before .before .before .before .if2 .left) .starts-in
 
-slice-aggregate-place-operands-3 : tie.Need-slice-aggregate-place-operands-3
-slice-aggregate-place-operands-3 c = sym (length-take-le _ _ (((rest-taken (c .before .before .before .before .before .before .before .before .before .before .before .before .before .before .before .before .before .before .before .before .before .before .args .bytes .now) (sym (c .before .before .before .before .before .before .before .before .before .before .before .before .before .before .before .before .before .before .before .before .point-fault .ensures) ∙ c .before .before .before .before .before .before .before .before .before .before .before .before .before .before .before .before .before .before .before .if1 .left) (c .before .before .before .before .before .before .before .before .before .before .before .before .before .take-two .ensures)) .right-held (c .before .before .before .before .before .before .before .before .before .before .before .if2 .left)) .starts-in))
+slice-aggregate-place-operands-2 : tie.Need-slice-aggregate-place-operands-2
+slice-aggregate-place-operands-2 c = sym (length-take-le _ _ (rest-taken (c .before .before .before .before .before .before .before .before .before .before .before .before .before .before .before .before .before .before .before .before .before .before .args .bytes .now) (sym (c .before .before .before .before .before .before .before .before .before .before .before .before .before .before .before .before .before .before .before .before .point-fault .ensures) ∙ c .before .before .before .before .before .before .before .before .before .before .before .before .before .before .before .before .before .before .before .if1 .left) (c .before .before .before .before .before .before .before .before .before .before .before .before .before .take-two .ensures) .right-held (c .before .before .before .before .before .before .before .before .before .before .before .if2 .left) .starts-in))
 
-mul-right-corners : tie.Need-mul-right-corners
-mul-right-corners c = omega (arith, few-held _ (c .before .before .before .before .before .before .before .before .before .before .before .before .before .before .take-two .result .right) ((rest-taken (c .before .before .before .before .before .before .before .before .before .before .before .before .before .before .before .before .before .before .before .before .before .before .before .args .bytes .now) (sym (c .before .before .before .before .before .before .before .before .before .before .before .before .before .before .before .before .before .before .before .before .before .point-fault .ensures) ∙ c .before .before .before .before .before .before .before .before .before .before .before .before .before .before .before .before .before .before .before .before .if1 .left) (c .before .before .before .before .before .before .before .before .before .before .before .before .before .before .take-two .ensures)) .right-held (c .before .before .before .before .before .before .before .before .before .before .before .before .if2 .left)) .1)
-
-array-share-prefix-right-corners : tie.Need-array-share-prefix-right-corners
-array-share-prefix-right-corners c = ((rest-taken (c .before .before .before .before .before .before .before .before .before .before .before .before .before .before .before .before .before .before .before .before .before .before .before .args .bytes .now) (sym (c .before .before .before .before .before .before .before .before .before .before .before .before .before .before .before .before .before .before .before .before .before .point-fault .ensures) ∙ c .before .before .before .before .before .before .before .before .before .before .before .before .before .before .before .before .before .before .before .before .if1 .left) (c .before .before .before .before .before .before .before .before .before .before .before .before .before .before .take-two .ensures)) .right-held (c .before .before .before .before .before .before .before .before .before .before .before .before .if2 .left)) .corners-in
-
-slice-aggregate-place-operands-4 : tie.Need-slice-aggregate-place-operands-4
-slice-aggregate-place-operands-4 c = sym (length-take-le _ _ (((rest-taken (c .before .before .before .before .before .before .before .before .before .before .before .before .before .before .before .before .before .before .before .before .before .before .before .before .args .bytes .now) (sym (c .before .before .before .before .before .before .before .before .before .before .before .before .before .before .before .before .before .before .before .before .before .before .point-fault .ensures) ∙ c .before .before .before .before .before .before .before .before .before .before .before .before .before .before .before .before .before .before .before .before .before .if1 .left) (c .before .before .before .before .before .before .before .before .before .before .before .before .before .before .before .take-two .ensures)) .right-held (c .before .before .before .before .before .before .before .before .before .before .before .before .before .if2 .left)) .corners-in))
+front-requires-2 : tie.Need-front-requires-2
+front-requires-2 c κs = whole-corners _ _ (rest-taken (c .before .before .before .before .before .before .before .before .before .before .before .before .before .before .before .before .before .before .before .before .before .before .before .args .bytes .now) (sym (c .before .before .before .before .before .before .before .before .before .before .before .before .before .before .before .before .before .before .before .before .before .point-fault .ensures) ∙ c .before .before .before .before .before .before .before .before .before .before .before .before .before .before .before .before .before .before .before .before .if1 .left) (c .before .before .before .before .before .before .before .before .before .before .before .before .before .before .take-two .ensures) .right-held (c .before .before .before .before .before .before .before .before .before .before .before .before .if2 .left) .corners-in)
 
 place-operands-requires : tie.Need-place-operands-requires
 place-operands-requires c κs = grid-point (c .before .before .before .before .before .before .before .before .before .before .before .before .before .before .before .before .before .before .before .before .before .before .before .before .args .bytes .now) (sym (c .before .before .before .before .before .before .before .before .before .before .before .before .before .before .before .before .before .before .before .before .before .before .point-fault .ensures) ∙ c .before .before .before .before .before .before .before .before .before .before .before .before .before .before .before .before .before .before .before .before .before .if1 .left) _ (c .before .before .before .before .before .before .before .before .place-at .ensures)
 
 returns-3 : tie.Need-returns-3
-returns-3 c = answered (c .before .before .before .before .before .before .before .before .before .before .before .before .before .before .before .before .before .before .before .before .before .before .before .before .before .args .bytes .now) (sym (c .before .before .before .before .before .before .before .before .before .before .before .before .before .before .before .before .before .before .before .before .before .before .before .point-fault .ensures) ∙ c .before .before .before .before .before .before .before .before .before .before .before .before .before .before .before .before .before .before .before .before .before .before .if1 .left) (rest-taken (c .before .before .before .before .before .before .before .before .before .before .before .before .before .before .before .before .before .before .before .before .before .before .before .before .before .args .bytes .now) (sym (c .before .before .before .before .before .before .before .before .before .before .before .before .before .before .before .before .before .before .before .before .before .before .before .point-fault .ensures) ∙ c .before .before .before .before .before .before .before .before .before .before .before .before .before .before .before .before .before .before .before .before .before .before .if1 .left) (c .before .before .before .before .before .before .before .before .before .before .before .before .before .before .before .before .take-two .ensures)) (c .before .before .before .before .before .before .before .before .before .before .before .before .before .before .if2 .left) (c .before .before .before .before .before .before .before .before .before .place-at .ensures) (c .place-operands .ensures)
+returns-3 c = answered (c .before .before .before .before .before .before .before .before .before .before .before .before .before .before .before .before .before .before .before .before .before .before .before .before .before .args .bytes .now) (sym (c .before .before .before .before .before .before .before .before .before .before .before .before .before .before .before .before .before .before .before .before .before .before .before .point-fault .ensures) ∙ c .before .before .before .before .before .before .before .before .before .before .before .before .before .before .before .before .before .before .before .before .before .before .if1 .left) (rest-taken (c .before .before .before .before .before .before .before .before .before .before .before .before .before .before .before .before .before .before .before .before .before .before .before .before .before .args .bytes .now) (sym (c .before .before .before .before .before .before .before .before .before .before .before .before .before .before .before .before .before .before .before .before .before .before .before .point-fault .ensures) ∙ c .before .before .before .before .before .before .before .before .before .before .before .before .before .before .before .before .before .before .before .before .before .before .if1 .left) (c .before .before .before .before .before .before .before .before .before .before .before .before .before .before .before .before .take-two .ensures)) (c .before .before .before .before .before .before .before .before .before .before .before .before .before .before .if2 .left) (c .before .before .before .before .before .front .ensures) (c .before .front2 .ensures) (c .before .before .before .before .before .before .before .before .before .place-at .ensures) (c .place-operands .ensures)
 
 pub placed-spec : {M : Type 1} → statement M
 placed-spec =
@@ -95,14 +84,10 @@ placed-spec =
     add-left-starts
     array-share-prefix-left-starts
     slice-aggregate-place-operands
-    mul-left-corners
-    array-share-prefix-left-corners
-    slice-aggregate-place-operands-2
+    front-requires
     add-right-starts
     array-share-prefix-right-starts
-    slice-aggregate-place-operands-3
-    mul-right-corners
-    array-share-prefix-right-corners
-    slice-aggregate-place-operands-4
+    slice-aggregate-place-operands-2
+    front-requires-2
     place-operands-requires
     returns-3)
