@@ -6,10 +6,11 @@
 // Leans on plane and integers.
 ghost use mathlib.Core.Path.{_≡_};
 ghost use mathlib.Core.Bool.{true, cond};
-ghost use Prim.Native.Nat.{_<_, _≤_};
+ghost use Prim.Native.Nat.{_+_, _*_, _<_, _≤_};
 ghost use lib.ListN.{length, getD};
 ghost use Rattle.plane.specs.Plane.{O, inRange};
 ghost use Rattle.plane.specs.Machine.{point};
+ghost use Rattle.corners.specs.Copying.{Copied};
 ghost use Rattle.corners.specs.Corners.{pointsOf, offRange, ragged, withCorner, cornersBetween, frontCorners, cornerPlace};
 use plane::IntPoint;
 
@@ -72,6 +73,22 @@ pub fn front<'a>(corners: &'a [i32], count: usize) -> &'a [i32]
 {
     let end = WIDTH * count;
     &corners[..end]
+}
+
+// The first `count` corners of `from` are put after the first `at` of `out`. Number by number, for
+// such a loop is done many numbers at a time.
+pub fn copy_corners(from: &[i32], count: usize, out: &mut [i32], at: usize)
+    requires { ⌜ (2 * count ≤ length (now from)) × (2 * (at + count) ≤ length (now out)) ⌝ }
+    ensures { λ r. ⌜ Copied (now (from .entry)) at (2 * count) (now (out .entry)) (now (out .exit)) ⌝ }
+{
+    let n = WIDTH * count;
+    let first = WIDTH * at;
+    let mut i: usize = 0;
+    while i < n {
+        let x = from[i];
+        out[first + i] = x;
+        i += 1;
+    }
 }
 
 // Whether z is out of range, or one before was.

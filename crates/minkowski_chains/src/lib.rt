@@ -5,7 +5,6 @@
 ghost use mathlib.Core.List.{_∷_, []};
 ghost use Prim.Native.Nat.{_+_, _*_, _-_, _<_, _≤_};
 ghost use lib.ListN.{length};
-ghost use Rattle.pair_merge.specs.Putting.{CornersPut};
 ghost use Rattle.pair_walks.specs.Walks.{contoursIn};
 ghost use Rattle.pair_numbers.specs.Numbers.{Keyed};
 ghost use Rattle.minkowski_rows.specs.Rows.{PairsRoom, PairsPut, AllPut};
@@ -19,22 +18,8 @@ const SMALL: usize = 512;
 
 const WORK: usize = corners::WIDTH * (2 * table::MAX_CONTOUR);
 
-// The first corners of a work buffer are put after the first `at`.
-fn copy_in(work: &[i32], count: usize, out: &mut [i32], at: usize)
-    requires { ⌜ (2 * count ≤ length (now work)) × (2 * (at + count) ≤ length (now out)) ⌝ }
-    ensures { λ r. ⌜ CornersPut (workCorners count (now (work .entry))) (now (out .entry)) at (now (out .exit)) (at + count) ⌝ }
-{
-    let n = corners::WIDTH * count;
-    let from = corners::WIDTH * at;
-    let mut i: usize = 0;
-    while i < n {
-        let x = work[i];
-        out[from + i] = x;
-        i += 1;
-    }
-}
-
-// They are put as the contour after the first n; answers how many corners stand there then.
+// The first corners of a work buffer are put as the contour after the first n; answers how many
+// corners stand there then.
 fn append_copied(
     work: &[i32],
     count: usize,
@@ -48,7 +33,7 @@ fn append_copied(
         let new = workCorners count (now (work .entry)) ∷ [] in
         ⌜ PairsPut new (now (starts .entry)) n (now (out .entry)) at (now (starts .exit)) (n + 1) (now (out .exit)) r ⌝ }
 {
-    copy_in(work, count, out, at);
+    corners::copy_corners(work, count, out, at);
     let k = at + count;
     points::put_start(starts, n + 1, k);
     k

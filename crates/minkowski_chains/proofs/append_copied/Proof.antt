@@ -6,11 +6,12 @@ use borrow.Author.Needs.{needs}
 use Rattle.minkowski_rows.proofs.Pairs.{pairs-one}
 use Rattle.minkowski_chains.specs.Contours.{workCorners}
 use Rattle.minkowski_chains.proofs.Contours.{first-room, first-small, first-starts, corners-count}
+use Rattle.minkowski_chains.proofs.Copying.{copied-end}
 use Rattle.minkowski_chains.proofs.append_copied.Statement.{statement}
 use Rattle.minkowski_chains.proofs.append_copied.Tie as tie
 
-copy-in-requires : tie.Need-copy-in-requires
-copy-in-requires c κs =
+copy-corners-requires : tie.Need-copy-corners-requires
+copy-corners-requires c κs =
     let s = c .before .before in
     let g = s .args in
     (s .pre .0, omega (arith, first-room (workCorners (g .count) (g .work .now)) [] (s .pre .1), corners-count (g .count) (g .work .now) (s .pre .0)))
@@ -25,7 +26,7 @@ put-start-requires : tie.Need-put-start-requires
 put-start-requires c κs =
     let s = c .before .before .before .before .before in
     let g = s .args in
-    (first-starts (workCorners (g .count) (g .work .now)) [] (s .pre .1), first-small (workCorners (g .count) (g .work .now)) [] (s .pre .1) (c .before .before .copy-in .ensures))
+    (first-starts (workCorners (g .count) (g .work .now)) [] (s .pre .1), first-small (workCorners (g .count) (g .work .now)) [] (s .pre .1) (copied-end (g .work .now) (g .at) (g .out .now) (g .count) (s .pre .0) (c .before .before .copy-corners .ensures)))
 
 same-length : tie.Need-same-length
 same-length c = search needs
@@ -37,13 +38,13 @@ returns : tie.Need-returns
 returns c =
     let s = c .before .before .before .before .before .before .before .before in
     let g = s .args in
-    pairs-one (workCorners (g .count) (g .work .now)) (g .starts .now) (g .n) (g .out .now) (g .at) (first-starts (workCorners (g .count) (g .work .now)) [] (s .pre .1)) (c .before .before .before .before .before .copy-in .ensures) (c .before .before .put-start .ensures)
+    pairs-one (workCorners (g .count) (g .work .now)) (g .starts .now) (g .n) (g .out .now) (g .at) (first-starts (workCorners (g .count) (g .work .now)) [] (s .pre .1)) (copied-end (g .work .now) (g .at) (g .out .now) (g .count) (s .pre .0) (c .before .before .before .before .before .copy-corners .ensures)) (c .before .before .put-start .ensures)
 
 pub append-copied-spec : {M : Type 1} → statement M
 append-copied-spec =
     tie.close
     (tie.spec
-    copy-in-requires
+    copy-corners-requires
     add-k
     add-put-start
     put-start-requires

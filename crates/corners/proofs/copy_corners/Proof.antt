@@ -1,4 +1,4 @@
--- `minkowski_chains::copy_in` meets its contract. The loop's invariant: the first i numbers are
+-- `corners::copy_corners` meets its contract. The loop's invariant: the first i numbers are
 -- copied. Assumes nothing.
 use mathlib.Core.Path.{subst}
 use Prim.Native.Nat.{_*_, _-_, _≤_}
@@ -7,24 +7,25 @@ use lib.ListN.{length, getD}
 use lib.IntN.{pos}
 use mir.Syntax.{w32}
 use Rattle.integers.proofs.Bits.{got}
-use Rattle.minkowski_chains.proofs.Copying.{Copied, copied-start, copied-next, copied-end}
-use Rattle.minkowski_chains.proofs.copy_in.Statement.{statement}
-use Rattle.minkowski_chains.proofs.copy_in.Tie as tie
+use Rattle.corners.specs.Copying.{Copied}
+use Rattle.corners.proofs.Copying.{copied-start, copied-next}
+use Rattle.corners.proofs.copy_corners.Statement.{statement}
+use Rattle.corners.proofs.copy_corners.Tie as tie
 
 abbrev Inv-loop : tie.InvT-loop
-Inv-loop work count out₀ at n from i₀ out i = (i ≤ 2 * count) × Copied work at i out₀ out
+Inv-loop from count out₀ at n first i₀ out i = (i ≤ 2 * count) × Copied from at i out₀ out
 
 abbrev μ-loop : tie.MeasureT-loop
-μ-loop work count out₀ at n from i₀ out i = 2 * count - i
+μ-loop from count out₀ at n first i₀ out i = 2 * count - i
 
 mul-n : tie.Need-mul-n Inv-loop μ-loop
 mul-n c = omega (arith, c .pre .0)
 
-mul-from : tie.Need-mul-from Inv-loop μ-loop
-mul-from c = omega (arith, c .pre .1)
+mul-first : tie.Need-mul-first Inv-loop μ-loop
+mul-first c = omega (arith, c .pre .1)
 
 loop-holds : tie.Need-loop-holds Inv-loop μ-loop
-loop-holds c = (omega arith, copied-start (c .args .work .now) (c .args .at) (c .args .out .now))
+loop-holds c = (omega arith, copied-start (c .args .from .now) (c .args .at) (c .args .out .now))
 
 mul-x : tie.Need-mul-x Inv-loop μ-loop
 mul-x c = omega (arith, c .before .before .pre .0, c .loop-test .taken)
@@ -53,26 +54,25 @@ loop-again c =
     let g = s .args in
     let l = c .before .before .loop in
     let h = c .before .loop-test .taken in
-    (omega (arith, h), copied-next (g .work .now) (g .at) (g .out .now) (l .i) (omega (arith, s .pre .0, h)) (omega (arith, s .pre .1, h)) (got w32 (getD (g .work .now) (l .i) (pos 0)) (c .x .given)) (l .inv .1))
+    (omega (arith, h), copied-next (g .from .now) (g .at) (g .out .now) (l .i) (omega (arith, s .pre .0, h)) (omega (arith, s .pre .1, h)) (got w32 (getD (g .from .now) (l .i) (pos 0)) (c .x .given)) (l .inv .1))
 
 same-length : tie.Need-same-length Inv-loop μ-loop
 same-length c = c .before .loop .inv .1 .size
 
 returns : tie.Need-returns Inv-loop μ-loop
 returns c =
-    let s = c .before .before in
-    let g = s .args in
+    let g = c .before .before .args in
     let l = c .before .loop in
-    copied-end (g .work .now) (g .at) (g .out .now) (g .count) (s .pre .0) (subst (λ i. Copied (g .work .now) (g .at) i (g .out .now) (l .out)) (omega (arith, c .loop-test .left, l .inv .0)) (l .inv .1))
+    subst (λ i. Copied (g .from .now) (g .at) i (g .out .now) (l .out)) (omega (arith, c .loop-test .left, l .inv .0)) (l .inv .1)
 
-pub copy-in-spec : {M : Type 1} → statement M
-copy-in-spec =
+pub copy-corners-spec : {M : Type 1} → statement M
+copy-corners-spec =
     tie.close
     (tie.spec
     Inv-loop
     μ-loop
     mul-n
-    mul-from
+    mul-first
     loop-holds
     mul-x
     shared-slice-copy-out-x
