@@ -264,34 +264,42 @@ impl Times {
         if all[0].left.peer.is_some() {
             self.textbook.push(timed(calls, |k| all[k % n].textbook()));
         }
-        let ample = timed(calls, |k| {
-            let room = all[k % n].numbers.len();
-            all[k % n].ours(room)
-        });
-        self.ample.push(ample);
+        self.add_builds(all, calls, false);
         self.walks.push(timed(calls, |k| all[k % n].rust.draw()));
-        let exact = timed(calls, |k| {
-            let room = 2 * all[k % n].corners;
-            all[k % n].ours(room)
-        });
-        self.exact.push(exact);
+        self.add_builds(all, calls, true);
         self.rust
             .push(timed(calls, |k| all[k % n].rust.sum_parts()));
-        if has_before() {
-            let ample = timed(calls, |k| {
-                let room = all[k % n].numbers.len();
-                all[k % n].before(room)
-            });
-            let exact = timed(calls, |k| {
-                let room = 2 * all[k % n].corners;
-                all[k % n].before(room)
-            });
-            self.before[0].push(ample);
-            self.before[1].push(exact);
-        }
         // CGAL takes so long that three rounds are enough.
         if self.cgal.len() < 3 && all[0].cgal().is_some() {
             self.cgal.push(timed(calls, |k| all[k % n].cgal()));
+        }
+    }
+
+    /// So many calls of ours, in ample or in exact room, and of the earlier build where one is
+    /// named. The two go first by turns, for what comes second finds the lent memory near.
+    fn add_builds(&mut self, all: &mut [Subject], calls: usize, exact: bool) {
+        let n = all.len();
+        let ours_first = self.ample.len().max(self.exact.len()) % 2 == 0;
+        for ours in [ours_first, !ours_first] {
+            if !ours && !has_before() {
+                continue;
+            }
+            let time = timed(calls, |k| {
+                let subject = &mut all[k % n];
+                let room = match exact {
+                    true => 2 * subject.corners,
+                    false => subject.numbers.len(),
+                };
+                match ours {
+                    true => subject.ours(room),
+                    false => subject.before(room),
+                }
+            });
+            match (ours, exact) {
+                (true, false) => self.ample.push(time),
+                (true, true) => self.exact.push(time),
+                (false, _) => self.before[usize::from(exact)].push(time),
+            }
         }
     }
 
