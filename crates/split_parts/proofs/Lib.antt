@@ -1,3 +1,2 @@
--- Joined parts split one after another; calls that answer alike.
-pub mod Each
+-- Calls that answer alike.
 pub mod Alike

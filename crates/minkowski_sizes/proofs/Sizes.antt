@@ -4,7 +4,7 @@ use native.Mathlib.Omega.{arith}
 use Rattle.table.proofs.Rules.{sound}
 use Rattle.minkowski_work.specs.Scratch.{Call, Accepted}
 use Rattle.minkowski_work.proofs.Walked.{left-judged, right-judged}
-use Rattle.minkowski_parts.specs.Sizes.{FewAsked}
+use Rattle.minkowski_sizes.specs.Sizes.{FewAsked}
 
 pub few-asked : (x : Call) → Accepted x → FewAsked (x .left .starts) (x .left .corners) (x .right .starts) (x .right .corners)
 few-asked x a =

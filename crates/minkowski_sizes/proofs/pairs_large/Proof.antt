@@ -1,11 +1,11 @@
--- `minkowski_parts::pairs_large` meets its contract: its buffers hold the points of any two
+-- `minkowski_sizes::pairs_large` meets its contract: its buffers hold the points of any two
 -- operands. Assumes nothing.
 use mathlib.Core.Path.{refl}
 use Rattle.minkowski_work.specs.Scratch.{callOf}
 use Rattle.minkowski_work.proofs.Walked.{large}
 use borrow.Author.Needs.{needs}
-use Rattle.minkowski_parts.proofs.pairs_large.Statement.{statement}
-use Rattle.minkowski_parts.proofs.pairs_large.Tie as tie
+use Rattle.minkowski_sizes.proofs.pairs_large.Statement.{statement}
+use Rattle.minkowski_sizes.proofs.pairs_large.Tie as tie
 
 slice-aggregate-pairs-over : tie.Need-slice-aggregate-pairs-over
 slice-aggregate-pairs-over c = search needs

@@ -1,12 +1,12 @@
--- `minkowski_parts::keyed_large` meets its contract: its buffers hold the points of any two
+-- `minkowski_sizes::keyed_large` meets its contract: its buffers hold the points of any two
 -- operands. Assumes nothing.
 use mathlib.Core.Path.{refl}
 use native.Mathlib.Omega.{arith}
 use Rattle.minkowski_work.specs.Scratch.{callOf}
 use Rattle.minkowski_work.proofs.Walked.{large}
 use borrow.Author.Needs.{needs}
-use Rattle.minkowski_parts.proofs.keyed_large.Statement.{statement}
-use Rattle.minkowski_parts.proofs.keyed_large.Tie as tie
+use Rattle.minkowski_sizes.proofs.keyed_large.Statement.{statement}
+use Rattle.minkowski_sizes.proofs.keyed_large.Tie as tie
 
 slice-aggregate-pairs-keyed : tie.Need-slice-aggregate-pairs-keyed
 slice-aggregate-pairs-keyed c = search needs

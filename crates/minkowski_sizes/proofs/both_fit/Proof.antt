@@ -1,9 +1,9 @@
--- `minkowski_parts::both_fit` meets its contract. Assumes nothing.
+-- `minkowski_sizes::both_fit` meets its contract. Assumes nothing.
 use mathlib.Core.Path.{sym, _∙_}
 use Rattle.integers.proofs.Tests.{differ}
 use borrow.Author.Needs.{needs}
-use Rattle.minkowski_parts.proofs.both_fit.Statement.{statement}
-use Rattle.minkowski_parts.proofs.both_fit.Tie as tie
+use Rattle.minkowski_sizes.proofs.both_fit.Statement.{statement}
+use Rattle.minkowski_sizes.proofs.both_fit.Tie as tie
 
 fits-requires : tie.Need-fits-requires
 fits-requires c κs = search needs

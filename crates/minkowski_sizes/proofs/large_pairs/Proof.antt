@@ -1,12 +1,12 @@
--- `minkowski_parts::large_pairs` meets its contract: 7, 2 and 9 first, and the rest in buffers that
+-- `minkowski_sizes::large_pairs` meets its contract: 7, 2 and 9 first, and the rest in buffers that
 -- hold the operands' points. Assumes nothing.
 use mathlib.Core.Path.{sym, _∙_}
 use Rattle.minkowski_work.specs.Scratch.{callOf}
 use Rattle.minkowski_work.proofs.Walked.{call-refused}
-use Rattle.minkowski_parts.proofs.Sizes.{few-asked}
+use Rattle.minkowski_sizes.proofs.Sizes.{few-asked}
 use borrow.Author.Needs.{needs}
-use Rattle.minkowski_parts.proofs.large_pairs.Statement.{statement}
-use Rattle.minkowski_parts.proofs.large_pairs.Tie as tie
+use Rattle.minkowski_sizes.proofs.large_pairs.Statement.{statement}
+use Rattle.minkowski_sizes.proofs.large_pairs.Tie as tie
 
 operands-fault-requires : tie.Need-operands-fault-requires
 operands-fault-requires c κs = search needs

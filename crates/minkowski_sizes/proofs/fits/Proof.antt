@@ -1,4 +1,4 @@
--- `minkowski_parts::fits` meets its contract. Assumes nothing.
+-- `minkowski_sizes::fits` meets its contract. Assumes nothing.
 use Prim.Native.Nat.{_-_}
 use native.Mathlib.Omega.{arith}
 use lib.ListN.{length}
@@ -6,8 +6,8 @@ use borrow.Author.Tests.{leb-true}
 use Rattle.integers.proofs.Tests.{differ}
 use Rattle.corners.proofs.Corners.{length-points}
 use borrow.Author.Needs.{needs}
-use Rattle.minkowski_parts.proofs.fits.Statement.{statement}
-use Rattle.minkowski_parts.proofs.fits.Tie as tie
+use Rattle.minkowski_sizes.proofs.fits.Statement.{statement}
+use Rattle.minkowski_sizes.proofs.fits.Tie as tie
 
 returns : tie.Need-returns
 returns c = differ

@@ -1,4 +1,4 @@
--- `split_parts::split_all` meets its contract: after k turns the parts of the first k contours are
+-- `split_sizes::split_all` meets its contract: after k turns the parts of the first k contours are
 -- appended. Assumes nothing.
 use mathlib.Core.Path.{_≡_, sym, _∙_, ap, subst}
 use mathlib.Core.List.{[], flatten}
@@ -8,10 +8,10 @@ use lib.ListN.{length, take, length-set}
 use lib.Seq.{take-all}
 use Rattle.points.specs.Gathered.{Gathered, RoomFor, PartsAppended}
 use Rattle.points.proofs.Gathering.{none-appended}
-use Rattle.split_parts.specs.Parts.{partsIn, splitEach}
-use Rattle.split_parts.proofs.Each.{room-at, each-more, first-gathered, resized}
-use Rattle.split_parts.proofs.split_all.Statement.{statement}
-use Rattle.split_parts.proofs.split_all.Tie as tie
+use Rattle.split_sizes.specs.Parts.{partsIn, splitEach}
+use Rattle.split_sizes.proofs.Each.{room-at, each-more, first-gathered, resized}
+use Rattle.split_sizes.proofs.split_all.Statement.{statement}
+use Rattle.split_sizes.proofs.split_all.Tie as tie
 
 abbrev Inv-loop : tie.InvT-loop
 Inv-loop begins joined u limit strategy starts₀ points₀ t₀ k₀ starts points t k = (k ≤ u .parts) × PartsAppended (splitEach strategy limit (take k (partsIn begins joined u))) starts₀ points₀ t₀ starts points t

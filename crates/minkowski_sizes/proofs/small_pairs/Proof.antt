@@ -1,11 +1,11 @@
--- `minkowski_parts::small_pairs` meets its contract: 7, 2 and 9 first, and the rest in buffers for
+-- `minkowski_sizes::small_pairs` meets its contract: 7, 2 and 9 first, and the rest in buffers for
 -- small operands. Assumes nothing.
 use mathlib.Core.Path.{sym, _∙_}
 use Rattle.minkowski_work.specs.Scratch.{callOf}
 use Rattle.minkowski_work.proofs.Walked.{call-refused}
 use borrow.Author.Needs.{needs}
-use Rattle.minkowski_parts.proofs.small_pairs.Statement.{statement}
-use Rattle.minkowski_parts.proofs.small_pairs.Tie as tie
+use Rattle.minkowski_sizes.proofs.small_pairs.Statement.{statement}
+use Rattle.minkowski_sizes.proofs.small_pairs.Tie as tie
 
 operands-fault-requires : tie.Need-operands-fault-requires
 operands-fault-requires c κs = search needs

@@ -1,14 +1,14 @@
--- `split_parts::split_within` meets its contract: the joined parts are those of the mesh, what they
+-- `split_sizes::split_within` meets its contract: the joined parts are those of the mesh, what they
 -- split into has room, and is answered by convex_gather's `mesh-answered`. Assumes nothing.
 use native.Mathlib.Omega.{arith}
 use Rattle.mesh.specs.Rows.{rowsMesh}
 use Rattle.split.specs.Splitting.{splitParts, splitFault}
 use Rattle.convex_gather.proofs.Answer.{mesh-answered}
 use Rattle.convex_regions.proofs.Regions.{few-rows}
-use Rattle.split_parts.proofs.Each.{splittable, room-all, holds-all, gathered-in}
+use Rattle.split_sizes.proofs.Each.{splittable, room-all, holds-all, gathered-in}
 use borrow.Author.Needs.{needs}
-use Rattle.split_parts.proofs.split_within.Statement.{statement}
-use Rattle.split_parts.proofs.split_within.Tie as tie
+use Rattle.split_sizes.proofs.split_within.Statement.{statement}
+use Rattle.split_sizes.proofs.split_within.Tie as tie
 
 gather-requires : tie.Need-gather-requires
 gather-requires c κs =

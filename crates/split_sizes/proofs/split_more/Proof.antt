@@ -1,8 +1,8 @@
--- `split_parts::split_more` meets its contract: each size does. Assumes nothing.
+-- `split_sizes::split_more` meets its contract: each size does. Assumes nothing.
 use borrow.Author.Needs.{needs}
 use Rattle.convex_regions.proofs.Regions.{few-rows}
-use Rattle.split_parts.proofs.split_more.Statement.{statement}
-use Rattle.split_parts.proofs.split_more.Tie as tie
+use Rattle.split_sizes.proofs.split_more.Statement.{statement}
+use Rattle.split_sizes.proofs.split_more.Tie as tie
 
 split-small-requires : tie.Need-split-small-requires
 split-small-requires c κs = search needs

@@ -35,7 +35,7 @@ use Rattle.split.specs.Splitting.{raised, splitContour, splitParts}
 use Rattle.split.proofs.Sizes.{split-parts-few}
 use Rattle.split_centre.specs.Centre.{Summable}
 use Rattle.split_pairs.proofs.Joined.{parts-summable}
-use Rattle.split_parts.specs.Parts.{partsIn, Splittable, splitEach}
+use Rattle.split_sizes.specs.Parts.{partsIn, Splittable, splitEach}
 
 -- ---- one contour
 

@@ -1,4 +1,4 @@
--- `split_parts::append_part` meets its contract: joined part k lies between its starts. Assumes
+-- `split_sizes::append_part` meets its contract: joined part k lies between its starts. Assumes
 -- nothing.
 use mathlib.Core.Path.{sym, subst}
 use mathlib.Core.List.{[]}
@@ -7,10 +7,10 @@ use lib.ListN.{getD}
 use Rattle.points.specs.Gathered.{RoomFor, PartsAppended}
 use Rattle.split.specs.Splitting.{splitContour}
 use Rattle.split_centre.specs.Centre.{Summable}
-use Rattle.split_parts.proofs.Each.{starts-enough, placed, sums-fit, at-part}
+use Rattle.split_sizes.proofs.Each.{starts-enough, placed, sums-fit, at-part}
 use borrow.Author.Needs.{needs}
-use Rattle.split_parts.proofs.append_part.Statement.{statement}
-use Rattle.split_parts.proofs.append_part.Tie as tie
+use Rattle.split_sizes.proofs.append_part.Statement.{statement}
+use Rattle.split_sizes.proofs.append_part.Tie as tie
 
 mul-from : tie.Need-mul-from
 mul-from c =

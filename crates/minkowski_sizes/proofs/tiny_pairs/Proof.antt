@@ -1,10 +1,10 @@
--- `minkowski_parts::tiny_pairs` meets its contract: 7, 2 and 9 first, and the rest in buffers that
+-- `minkowski_sizes::tiny_pairs` meets its contract: 7, 2 and 9 first, and the rest in buffers that
 -- hold the points of tiny operands. Assumes nothing.
 use Rattle.minkowski_work.specs.Scratch.{callOf}
 use Rattle.minkowski_work.proofs.Walked.{call-refused}
 use borrow.Author.Needs.{needs}
-use Rattle.minkowski_parts.proofs.tiny_pairs.Statement.{statement}
-use Rattle.minkowski_parts.proofs.tiny_pairs.Tie as tie
+use Rattle.minkowski_sizes.proofs.tiny_pairs.Statement.{statement}
+use Rattle.minkowski_sizes.proofs.tiny_pairs.Tie as tie
 
 operands-fault-requires : tie.Need-operands-fault-requires
 operands-fault-requires c κs = search needs

@@ -1,4 +1,4 @@
--- `minkowski_parts::few_pairs` meets its contract: no product leaves 64 bits. Assumes nothing.
+-- `minkowski_sizes::few_pairs` meets its contract: no product leaves 64 bits. Assumes nothing.
 use mathlib.Core.Path.{_≡_, _∙_}
 use mathlib.Core.List.{List}
 use Prim.Native.Nat.{ℕ, _+_, _*_, _/_, _≤_}
@@ -10,8 +10,8 @@ use lib.ListN.{length}
 use lib.IntN.{ℤ}
 use Rattle.corners.specs.Corners.{pointsOf}
 use Rattle.corners.proofs.Corners.{length-points}
-use Rattle.minkowski_parts.proofs.few_pairs.Statement.{statement}
-use Rattle.minkowski_parts.proofs.few_pairs.Tie as tie
+use Rattle.minkowski_sizes.proofs.few_pairs.Statement.{statement}
+use Rattle.minkowski_sizes.proofs.few_pairs.Tie as tie
 
 -- as many as half the numbers
 few : {n : ℕ} (l : List ℤ) → n ≡ length (pointsOf l) → length l / 2 ≤ 8192 → n ≤ 8192

@@ -1,0 +1,2 @@
+-- Joined parts split one after another.
+pub mod Each
