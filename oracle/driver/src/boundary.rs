@@ -481,15 +481,6 @@ fn all_pairs(
         Operation::Sum => archive::bezinkwolu_sum_parts,
         Operation::Difference => archive::bezinkwolu_difference_parts,
     };
-    called(asked, [left, right], starts, corners)
-}
-
-fn called(
-    asked: PairsCall,
-    [left, right]: [HandedOperand; 2],
-    starts: Handed<u32>,
-    corners: Handed<i32>,
-) -> ToldPairs {
     unsafe {
         asked(
             left.table.starts.at,
@@ -510,67 +501,8 @@ fn called(
     }
 }
 
-/// `sum_parts` as it is exported.
-type PairsCall = unsafe extern "C" fn(
-    *const u32,
-    usize,
-    *const i32,
-    usize,
-    Bounds,
-    *const u32,
-    usize,
-    *const i32,
-    usize,
-    Bounds,
-    *mut u32,
-    usize,
-    *mut i32,
-    usize,
-) -> ToldPairs;
-
-/// All pairs of two operands into lent starts and corners.
-pub type AllPairs = fn([HandedOperand; 2], Handed<u32>, Handed<i32>) -> ToldPairs;
-
 pub fn sum_parts(o: [HandedOperand; 2], starts: Handed<u32>, corners: Handed<i32>) -> ToldPairs {
     all_pairs(Operation::Sum, o, starts, corners)
-}
-
-#[cfg(before)]
-extern "C" {
-    #[link_name = "before_bezinkwolu_sum_parts"]
-    fn earlier_sum_parts(
-        left_starts: *const u32,
-        left_starts_length: usize,
-        left_corners: *const i32,
-        left_corners_length: usize,
-        left_bounds: Bounds,
-        right_starts: *const u32,
-        right_starts_length: usize,
-        right_corners: *const i32,
-        right_corners_length: usize,
-        right_bounds: Bounds,
-        starts: *mut u32,
-        starts_lent: usize,
-        corners: *mut i32,
-        corners_lent: usize,
-    ) -> ToldPairs;
-}
-
-/// Whether an earlier build is linked, for the benchmark.
-pub fn has_before() -> bool {
-    cfg!(before)
-}
-
-/// The earlier build's `sum_parts`, or this one's where there is none.
-pub fn sum_parts_before(
-    o: [HandedOperand; 2],
-    starts: Handed<u32>,
-    corners: Handed<i32>,
-) -> ToldPairs {
-    #[cfg(before)]
-    return called(earlier_sum_parts, o, starts, corners);
-    #[cfg(not(before))]
-    sum_parts(o, starts, corners)
 }
 
 fn difference_parts(

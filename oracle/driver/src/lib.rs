@@ -21,6 +21,7 @@
 //!   `table_sample`, `mesh_sample`, `split_sample`, `pairs_sample`, `program_samples`
 //! - `boundary`: the C functions of the Rattle archive and the list of entry
 //!   points, where it is linked
+//! - `builds`: the calls of this build and of an earlier one, for the benchmark
 //!
 //! An entry point joins with a module that implements `EntryPoint` and one line
 //! in the list of `boundary`.
@@ -50,3 +51,5 @@ pub mod written;
 
 #[cfg(feature = "linked")]
 pub mod boundary;
+#[cfg(feature = "linked")]
+pub mod builds;

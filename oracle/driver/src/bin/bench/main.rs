@@ -1,7 +1,9 @@
-//! `bench [ROUNDS [joining|structs|splits|pairs|placement|crate|contours]]`: times our calls, the
-//! Rust's and, of all pairs and of a place by contours, C++ ones from this one program on the same
-//! inputs, in turn, and prints our time over theirs. docs/BENCHMARKS.md says what they show.
+//! `bench [ROUNDS [joining|structs|splits|pairs|placement|crate|contours|before]]`: times our
+//! calls, the Rust's and, of all pairs and of a place by contours, C++ ones from this one program
+//! on the same inputs, in turn, and prints our time over theirs; `before`, over an earlier build's.
+//! docs/BENCHMARKS.md says what they show.
 
+mod before;
 mod bindings;
 mod meshes;
 mod pairs;
@@ -21,7 +23,7 @@ fn main() {
     let rounds = words.first().and_then(|word| word.parse().ok());
     let rounds = rounds.unwrap_or(ROUNDS);
     let only = words.get(1).map(String::as_str);
-    let topics: [(&str, fn(usize)); 7] = [
+    let topics: [(&str, fn(usize)); 8] = [
         ("joining", meshes::joining),
         ("structs", meshes::structs),
         ("splits", meshes::splits),
@@ -29,6 +31,7 @@ fn main() {
         ("placement", placement::placements),
         ("crate", bindings::crate_calls),
         ("contours", programs::programs),
+        ("before", before::builds),
     ];
     for (name, topic) in topics {
         if only.is_none() || only == Some(name) {

@@ -20,7 +20,7 @@ use std::hint::black_box;
 
 /// How many meshes there are of a kind, so many that the processor cannot learn
 /// their branches, as it does of one mesh that comes again and again.
-const MESHES: usize = 64;
+pub const MESHES: usize = 64;
 
 /// Joining of every kind of mesh: of few triangles, and of as many as there may be.
 pub fn joining(rounds: usize) {
@@ -134,7 +134,7 @@ fn told_of([alone, whole]: [f64; 2]) -> String {
 }
 
 /// A mesh of so many triangles, another each time it is asked for.
-type Kind = fn(&mut Rng, usize) -> Mesh;
+pub type Kind = fn(&mut Rng, usize) -> Mesh;
 
 /// The two functions that are timed.
 trait Call {
@@ -178,7 +178,7 @@ impl Call for Splitting {
 }
 
 /// One region, many, and meshes of few triangles.
-const SPLIT_KINDS: &[(&str, Kind)] = &[
+pub const SPLIT_KINDS: &[(&str, Kind)] = &[
     ("one region: polygon of 1,026 corners", |rng, triangles| {
         let mesh = fan(rng, triangles);
         meshes::renumbered(rng, &mesh)
@@ -197,7 +197,7 @@ const SPLIT_KINDS: &[(&str, Kind)] = &[
 
 /// Few triangles, which most patterns are, and each size of our work arrays with one
 /// triangle more, for which the next size is filled: one region, and many.
-const SMALL_KINDS: &[(&str, Kind, &[usize])] = &[
+pub const SMALL_KINDS: &[(&str, Kind, &[usize])] = &[
     (
         "one region, a polygon cut at random",
         cut_renumbered,
@@ -217,7 +217,7 @@ const SMALL_KINDS: &[(&str, Kind, &[usize])] = &[
 ];
 
 /// As many triangles as there may be: one region, some, and as many as triangles.
-const KINDS: &[(&str, Kind)] = &[
+pub const KINDS: &[(&str, Kind)] = &[
     ("one region: polygon, a fan", fan),
     (
         "one region: polygon, a fan, renumbered",

@@ -1,10 +1,9 @@
-//! All pair sums, timed: our `sum_parts`, whole and with all its checks, the Rust's,
-//! a textbook merge in C++ and an earlier build of ours, where one is named, on the same
-//! operands.
+//! All pair sums, timed: our `sum_parts`, whole and with all its checks, the Rust's and
+//! a textbook merge in C++, on the same operands.
 
 use crate::peers;
 use crate::timing::{median, timed};
-use driver::boundary::{has_before, sum_parts, sum_parts_before, AllPairs};
+use driver::builds::{self, Build};
 use driver::pairs::{Bounds, HandedOperand};
 use i_triangle::int::expose::PreparedPairs;
 use inputs::contours;
@@ -15,9 +14,9 @@ use std::hint::black_box;
 use std::time::Duration;
 
 /// How many left parts and right parts of how many corners each.
-type Size = (usize, usize, usize);
+pub type Size = (usize, usize, usize);
 
-const SIZES: [Size; 5] = [
+pub const SIZES: [Size; 5] = [
     (64, 64, 8),
     (64, 64, 64),
     (64, 64, 128),
@@ -30,19 +29,18 @@ const GROWING: [Size; 3] = [(16, 16, 8), (32, 32, 8), (64, 64, 8)];
 
 /// How many operands of a small job take turns, so many that the processor cannot learn
 /// their branches.
-const TURNS: usize = 256;
+pub const TURNS: usize = 256;
 
 /// Small jobs: one pair of triangles, and 4 by 4 contours.
-const SMALL: [(Size, &str); 2] = [
+pub const SMALL: [(Size, &str); 2] = [
     ((1, 1, 3), "one pair of triangles"),
     ((4, 4, 8), "4 by 4 of 8 corners"),
 ];
 
 pub fn pairs(rounds: usize) {
     println!("our whole sum_parts: its time over that of the C++, of the Rust's walks alone,");
-    println!("of the Rust's sum_parts, of the earlier build where one is named; CGAL's time over");
-    println!("ours where it is installed");
-    println!("ample room            exact room");
+    println!("of the Rust's sum_parts; CGAL's time over ours where it is installed");
+    println!("ample room       exact room");
     for size in SIZES {
         let mut subject = Subject::of(&mut Rng::new(1), size);
         // As many calls of a size as take about as long as those of another.
@@ -59,7 +57,7 @@ pub fn pairs(rounds: usize) {
     growth(rounds);
 }
 
-fn name((left, right, corners): Size) -> String {
+pub fn name((left, right, corners): Size) -> String {
     format!("{left} by {right} of {corners} corners")
 }
 
@@ -78,7 +76,16 @@ fn small(rounds: usize, size: Size, name: &str) {
 
 /// Octagons of several sizes whose edges lie on the axes and the diagonals.
 fn octagons(count: i32) -> Vec<Contour> {
-    let corners = [(1, 0), (2, 0), (3, 1), (3, 2), (2, 3), (1, 3), (0, 2), (0, 1)];
+    let corners = [
+        (1, 0),
+        (2, 0),
+        (3, 1),
+        (3, 2),
+        (2, 3),
+        (1, 3),
+        (0, 2),
+        (0, 1),
+    ];
     (1..=count)
         .map(|k| corners.map(|(x, y)| (k * x, k * y)).to_vec())
         .collect()
@@ -108,7 +115,7 @@ fn growth(rounds: usize) {
 }
 
 /// Two operands as each side takes them, made before anything is timed.
-struct Subject {
+pub struct Subject {
     left: Side,
     right: Side,
     rust: PreparedPairs,
@@ -147,7 +154,7 @@ impl Subject {
     /// Of strictly convex parts. Where there is more than one pair, the first right part is
     /// the first left one, whose edges all tie: so the pairs have fewer corners than there
     /// could be, and exact room makes the call count them.
-    fn of(rng: &mut Rng, (left, right, corners): Size) -> Self {
+    pub fn of(rng: &mut Rng, (left, right, corners): Size) -> Self {
         let mut parts =
             |count| -> Vec<Contour> { (0..count).map(|_| convex(rng, corners)).collect() };
         let (left, mut right) = (parts(left), parts(right));
@@ -186,9 +193,12 @@ impl Subject {
             .flat_map(|p| [p.x, p.y])
             .collect();
         for room in [self.numbers.len(), 2 * self.corners] {
-            for call in [sum_parts, sum_parts_before] {
+            for build in [Some(builds::this()), builds::earlier()]
+                .into_iter()
+                .flatten()
+            {
                 self.numbers.fill(0);
-                assert_eq!(self.told(call, room), self.corners);
+                assert_eq!(self.told(&build, room), self.corners);
                 assert!(self.numbers.starts_with(&rust));
             }
         }
@@ -200,21 +210,22 @@ impl Subject {
     }
 
     fn ours(&mut self, room: usize) -> usize {
-        self.told(sum_parts, room)
+        self.told(&builds::this(), room)
     }
 
-    /// The earlier build, where one is named; else this one again.
-    fn before(&mut self, room: usize) -> usize {
-        self.told(sum_parts_before, room)
-    }
-
-    fn told(&mut self, call: AllPairs, room: usize) -> usize {
+    /// How many corners a build tells.
+    pub fn told(&mut self, build: &Build, room: usize) -> usize {
         let operands = [self.left.handed(), self.right.handed()];
         let starts = black_box(&mut self.starts[..]);
         let numbers = black_box(&mut self.numbers[..room]);
-        let told = call(operands, starts.into(), numbers.into());
+        let told = build.sum_parts(operands, starts.into(), numbers.into());
         assert_eq!(told.fault, 0);
         told.corners as usize
+    }
+
+    /// Places for as many corners as there can be, and for just those that there are.
+    pub fn rooms(&self) -> [usize; 2] {
+        [self.numbers.len(), 2 * self.corners]
     }
 
     fn textbook(&mut self) -> Option<usize> {
@@ -253,7 +264,6 @@ struct Times {
     textbook: Vec<Duration>,
     walks: Vec<Duration>,
     rust: Vec<Duration>,
-    before: [Vec<Duration>; 2],
     cgal: Vec<Duration>,
 }
 
@@ -264,9 +274,15 @@ impl Times {
         if all[0].left.peer.is_some() {
             self.textbook.push(timed(calls, |k| all[k % n].textbook()));
         }
-        self.add_builds(all, calls, false);
+        let ours = |all: &mut [Subject], exact: usize| {
+            timed(calls, |k| {
+                let room = all[k % n].rooms()[exact];
+                all[k % n].ours(room)
+            })
+        };
+        self.ample.push(ours(all, 0));
         self.walks.push(timed(calls, |k| all[k % n].rust.draw()));
-        self.add_builds(all, calls, true);
+        self.exact.push(ours(all, 1));
         self.rust
             .push(timed(calls, |k| all[k % n].rust.sum_parts()));
         // CGAL takes so long that three rounds are enough.
@@ -275,40 +291,11 @@ impl Times {
         }
     }
 
-    /// So many calls of ours, in ample or in exact room, and of the earlier build where one is
-    /// named. The two go first by turns, for what comes second finds the lent memory near.
-    fn add_builds(&mut self, all: &mut [Subject], calls: usize, exact: bool) {
-        let n = all.len();
-        let ours_first = self.ample.len().max(self.exact.len()) % 2 == 0;
-        for ours in [ours_first, !ours_first] {
-            if !ours && !has_before() {
-                continue;
-            }
-            let time = timed(calls, |k| {
-                let subject = &mut all[k % n];
-                let room = match exact {
-                    true => 2 * subject.corners,
-                    false => subject.numbers.len(),
-                };
-                match ours {
-                    true => subject.ours(room),
-                    false => subject.before(room),
-                }
-            });
-            match (ours, exact) {
-                (true, false) => self.ample.push(time),
-                (true, true) => self.exact.push(time),
-                (false, _) => self.before[usize::from(exact)].push(time),
-            }
-        }
-    }
-
     /// Ours alone.
     fn add_ours(&mut self, subject: &mut Subject) {
-        let room = subject.numbers.len();
-        self.ample.push(timed(1, |_| subject.ours(room)));
-        let room = 2 * subject.corners;
-        self.exact.push(timed(1, |_| subject.ours(room)));
+        let [ample, exact] = subject.rooms();
+        self.ample.push(timed(1, |_| subject.ours(ample)));
+        self.exact.push(timed(1, |_| subject.ours(exact)));
     }
 
     fn told(self) -> String {
@@ -320,13 +307,7 @@ impl Times {
             Some(theirs) => format!("{:4.2}", ours / theirs),
             None => "none".into(),
         };
-        let before = self.before.map(of);
-        let told = [0, 1].map(|k| {
-            let [cpp, walks, rust] = theirs;
-            [cpp, walks, rust, before[k]]
-                .map(|theirs| over(ours[k], theirs))
-                .join(" ")
-        });
+        let told = ours.map(|ours| theirs.map(|theirs| over(ours, theirs)).join(" "));
         let cgal = cgal.map_or("none".into(), |cgal| format!("{:.0}", cgal / ours[0]));
         format!("{}   {}   {cgal}", told[0], told[1])
     }

@@ -12,11 +12,11 @@ use judge::{Contour, Point};
 use std::hint::black_box;
 use std::time::Duration;
 
-const CORNERS: [usize; 5] = [3, 6, 12, 32, 128];
-const CONTOURS: [usize; 4] = [1, 16, 1_024, 16_384];
+pub const CORNERS: [usize; 5] = [3, 6, 12, 32, 128];
+pub const CONTOURS: [usize; 4] = [1, 16, 1_024, 16_384];
 
 /// About how many corners are asked of between two looks at the clock.
-const WORK: usize = 4_096;
+pub const WORK: usize = 4_096;
 
 /// How many contours are made; more are these again.
 const MADE: usize = 256;
@@ -43,10 +43,10 @@ pub fn placements(rounds: usize) {
 }
 
 /// The place that all is asked about.
-const PLACE: Point = (0, 0);
+pub const PLACE: Point = (0, 0);
 
 /// So many strictly convex contours about the place, each as its kind has it.
-fn about(
+pub fn about(
     rng: &mut Rng,
     count: usize,
     corners: usize,
@@ -62,7 +62,7 @@ fn about(
 }
 
 /// A point that the contour is apart from, to any side and not far.
-fn apart(rng: &mut Rng, contour: &Contour) -> Point {
+pub fn apart(rng: &mut Rng, contour: &Contour) -> Point {
     loop {
         let reach = 1 << 29;
         let point = (rng.between(-reach, reach), rng.between(-reach, reach));
@@ -73,7 +73,7 @@ fn apart(rng: &mut Rng, contour: &Contour) -> Point {
 }
 
 /// A corner.
-fn touching(rng: &mut Rng, contour: &Contour) -> Point {
+pub fn touching(rng: &mut Rng, contour: &Contour) -> Point {
     contour[rng.below(contour.len())]
 }
 
