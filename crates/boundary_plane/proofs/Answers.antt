@@ -50,8 +50,8 @@ three-on a b c h e =
     let (q, h₂) = first-on b _ h₁ in
     (p, q, first-on c _ h₂ .0)
 
-pub four-on : (a b c d : IntPoint) {r : Bool} → r ≡ allOn (point a ∷ point b ∷ point c ∷ point d ∷ []) → r ≡ true → OnGrid a × OnGrid b × OnGrid c × OnGrid d
-four-on a b c d h e =
+pub four-on : {a b c d : IntPoint} {r : Bool} → r ≡ allOn (point a ∷ point b ∷ point c ∷ point d ∷ []) → r ≡ true → OnGrid a × OnGrid b × OnGrid c × OnGrid d
+four-on {a} {b} {c} {d} h e =
     let (p, h₁) = first-on a _ (sym h ∙ e) in
     let (q, r, s) = three-on b c d refl h₁ in
     (p, q, r, s)

@@ -35,12 +35,12 @@ unfolding stacked
 stacked-nothing i j a b s = rw (neighbour-nothing j)
 
 -- two edges stacked, whichever they are
-two-stacked : (i x y a b c d : ℕ) (s q : List Edge) → q ≡ stacked i x a b (stacked i y c d s) → length q ≤ length s + 2
-two-stacked i x y a b c d s q e = omega (arith, ap length e, stacked-le i x a b (stacked i y c d s), stacked-le i y c d s)
+two-stacked : (i x y a b c d : ℕ) (s : List Edge) {q : List Edge} → q ≡ stacked i x a b (stacked i y c d s) → length q ≤ length s + 2
+two-stacked i x y a b c d s e = omega (arith, ap length e, stacked-le i x a b (stacked i y c d s), stacked-le i y c d s)
 
 -- across from no triangle none is
-none-stacked : (i j k a b c d : ℕ) (t : Triangle) (s q : List Edge) → t ≡ noTriangle → q ≡ stacked i (neighbour t j) a b (stacked i (neighbour t k) c d s) → q ≡ s
-none-stacked i j k a b c d t s q h e =
+none-stacked : (i j k a b c d : ℕ) {t : Triangle} (s : List Edge) {q : List Edge} → t ≡ noTriangle → q ≡ stacked i (neighbour t j) a b (stacked i (neighbour t k) c d s) → q ≡ s
+none-stacked i j k a b c d {t} s h e =
     e ∙ ap (λ t. stacked i (neighbour t j) a b (stacked i (neighbour t k) c d s)) h ∙ stacked-nothing i j a b _ ∙ stacked-nothing i k c d s
 
 -- ---- each edge taken leaves less to do
@@ -66,7 +66,7 @@ module _ (m : Mesh) (seen : List ℕ) (e : Edge) (s : List Edge) (r : Region) (h
       grouped = sym (append-assoc seen (r .taken) (e .across ∷ []))
 
       two : length (next .stack) ≤ length s + 2
-      two = two-stacked _ _ _ _ _ _ _ s (next .stack) refl
+      two = two-stacked _ _ _ _ _ _ _ s refl
 
       inside : e .across < length m → left m seen next < left m seen r
       inside g = rw grouped (omega (arith, untaken-take (e .across) (seen ++ r .taken) f (length m) g, two, ap length h))
@@ -74,7 +74,7 @@ module _ (m : Mesh) (seen : List ℕ) (e : Edge) (s : List Edge) (r : Region) (h
       outside : length m ≤ e .across → left m seen next < left m seen r
       outside g =
           let q : triangleAt m (e .across) ≡ noTriangle = List·getD-eq-default m noTriangle g in
-          let none-new : next .stack ≡ s = none-stacked _ _ _ _ _ _ _ u s (next .stack) q refl in
+          let none-new : next .stack ≡ s = none-stacked _ _ _ _ _ _ _ s q refl in
           rw grouped (omega (arith, untaken-out (e .across) (seen ++ r .taken) f (length m) g, ap length none-new, ap length h))
 
   pub step-less : left m seen (step m seen e s r) < left m seen r
@@ -96,15 +96,15 @@ pub grow-step : (n : ℕ) (m : Mesh) (seen : List ℕ) (e : Edge) (s : List Edge
 unfolding grow
 grow-step n m seen e s r h = rw h
 
-by-stack : {X : Type 0} (r : Region) (s : List Edge) → r .stack ≡ s → (r .stack ≡ [] → X) → ((e : Edge) (s : List Edge) → r .stack ≡ e ∷ s → X) → X
-by-stack r [] h f g = f h
-by-stack r (e ∷ s) h f g = g e s h
+by-stack : {X : Type 0} (r : Region) {s : List Edge} → r .stack ≡ s → (r .stack ≡ [] → X) → ((e : Edge) (s : List Edge) → r .stack ≡ e ∷ s → X) → X
+by-stack r {s = []} h f g = f h
+by-stack r {s = e ∷ s} h f g = g e s h
 
 pub grow-ends : (n : ℕ) (m : Mesh) (seen : List ℕ) (r : Region) → left m seen r ≤ n → grow n m seen r .stack ≡ []
 grow-ends zero m seen r h =
-    by-stack r (r .stack) refl (λ e. ap (λ t. t .stack) (grow-done zero m seen r e) ∙ e) (λ x s e. absurd (omega (arith, ap length e)))
+    by-stack r refl (λ e. ap (λ t. t .stack) (grow-done zero m seen r e) ∙ e) (λ x s e. absurd (omega (arith, ap length e)))
 grow-ends (suc n) m seen r h =
-    by-stack r (r .stack) refl
+    by-stack r refl
     (λ e. ap (λ t. t .stack) (grow-done (suc n) m seen r e) ∙ e)
     (λ x s e. ap (λ t. t .stack) (grow-step n m seen x s r e) ∙ grow-ends n m seen (step m seen x s r) (omega (arith, step-less m seen x s r e)))
 

@@ -98,14 +98,14 @@ mirror-cross = ring (pt ∷ pt ∷ []) (λ u v. crossE (record { x = v .y; y = v
 mirror-dot : (u v : Pt) → dot (mirror v) (mirror u) ≡ dot u v
 mirror-dot = ring (pt ∷ pt ∷ []) (λ u v. dotE (record { x = v .y; y = v .x }) (record { x = u .y; y = u .x }) :≡ dotE u v) tt
 
-forward-mirror : (u v : Pt) → Forward u v → Forward (mirror v) (mirror u)
-forward-mirror u v (leftward h) = leftward (pos-is (mirror-cross u v) h)
-forward-mirror u v (onward e h) = onward (mirror-cross u v ∙ e) (pos-is (mirror-dot u v) h)
+forward-mirror : {u v : Pt} → Forward u v → Forward (mirror v) (mirror u)
+forward-mirror {u} {v} (leftward h) = leftward (pos-is (mirror-cross u v) h)
+forward-mirror {u} {v} (onward e h) = onward (mirror-cross u v ∙ e) (pos-is (mirror-dot u v) h)
 
 -- q × n = 0 is not back, where e goes forward to n and e × q > 0
 pub forward-last : {e n : Pt} (q : Pt) → Forward e n → pos 0 ≤ℤ cross q n → pos 0 <ℤ cross e q → Forward q n
 forward-last {e} {n} q f h k =
-    forward-mirror (mirror n) (mirror q) (forward-first (mirror q) (forward-mirror e n f) (nn-is (mirror-cross q n) h) (pos-is (mirror-cross e q) k))
+    forward-mirror (forward-first (mirror q) (forward-mirror f) (nn-is (mirror-cross q n) h) (pos-is (mirror-cross e q) k))
 
 -- ---- descents
 
@@ -130,9 +130,9 @@ descent-halves {u} {v} f = by (angle-cases v u)
     lesser false true h = absurd h
     lesser true true h = absurd (cross-swap-< u v h (forward-≥ f))
 
-    same : (p q : Bool) → q ≡ p → rises p q ≡ 0
-    same false q e = refl
-    same true q e = ap (λ q. rises true q) e
+    same : {p q : Bool} → q ≡ p → rises p q ≡ 0
+    same {p = false} e = refl
+    same {p = true} {q} e = ap (λ q. rises true q) e
 
     greater : (p q : Bool) → LtAt p q (cross u v) → rises p q ≡ 0
     greater false q h = refl
@@ -141,12 +141,12 @@ descent-halves {u} {v} f = by (angle-cases v u)
 
     by : Angles v u → descent u v ≡ rises (lower u) (lower v)
     by (before e h) = ap (λ o. cond (isLess o) 1 0) e ∙ sym (lesser (lower u) (lower v) (h .lt))
-    by (beside e h) = ap (λ o. cond (isLess o) 1 0) e ∙ sym (same (lower u) (lower v) (h .half))
+    by (beside e h) = ap (λ o. cond (isLess o) 1 0) e ∙ sym (same (h .half))
     by (after e h) = ap (λ o. cond (isLess o) 1 0) e ∙ sym (greater (lower u) (lower v) (h .lt))
 
 -- three in the upper half, each at most half a turn before the next, all have one direction
 closed-up : {a b c : Pt} → Up a → Up b → Up c → pos 0 ≤ℤ cross b a → pos 0 ≤ℤ cross a c → pos 0 ≤ℤ cross c b → (cross a b ≡ pos 0) × (pos 0 <ℤ dot a b)
-closed-up {a} {b} {c} ua ub uc h k l = (z, same-dot (nz-of-up ua) (nz-of-up ub) .0 (record { half = lower-up a ua ∙ sym (lower-up b ub); flat = z }) .1)
+closed-up {a} {b} {c} ua ub uc h k l = (z, same-dot (nz-of-up ua) (nz-of-up ub) .0 (record { half = lower-up ua ∙ sym (lower-up ub); flat = z }) .1)
   where
     both : (a b : Pt) → pos 0 ≤ℤ cross a b → pos 0 ≤ℤ cross b a → cross a b ≡ pos 0
     both = arithℤ (pt ∷ pt ∷ []) (λ a b. con (pos 0) :≤ crossE a b ⇒ con (pos 0) :≤ crossE b a ⇒ crossE a b := con (pos 0)) (omega arith)
@@ -157,9 +157,9 @@ closed-up {a} {b} {c} ua ub uc h k l = (z, same-dot (nz-of-up ua) (nz-of-up ub) 
 dot-neg-neg : (u v : Pt) → dot (negᵖ u) (negᵖ v) ≡ dot u v
 dot-neg-neg = ring (pt ∷ pt ∷ []) (λ u v. dotE (negE u) (negE v) :≡ dotE u v) tt
 
-forward-neg : (u v : Pt) → Forward u v → Forward (negᵖ u) (negᵖ v)
-forward-neg u v (leftward h) = leftward (pos-is (cross-neg-neg u v) h)
-forward-neg u v (onward e h) = onward (cross-neg-neg u v ∙ e) (pos-is (dot-neg-neg u v) h)
+forward-neg : {u v : Pt} → Forward u v → Forward (negᵖ u) (negᵖ v)
+forward-neg {u} {v} (leftward h) = leftward (pos-is (cross-neg-neg u v) h)
+forward-neg {u} {v} (onward e h) = onward (cross-neg-neg u v ∙ e) (pos-is (dot-neg-neg u v) h)
 
 -- u and w in one half and v in the other: then u to v would be back
 detour-up : {u v w : Pt} → Up u → Up (negᵖ v) → Up w → Forward u v → Forward v w → Forward u w → ⊥
@@ -184,7 +184,7 @@ detour-up {u} {v} {w} hu hv hw f g h = turned f (closed-up hu hv hw (flip-l u v 
 no-detour : (t : Bool) {u v w : Pt} → Up (sgn t u) → Up (sgn (not t) v) → Up (sgn t w) → Forward u v → Forward v w → Forward u w → ⊥
 no-detour false hu hv hw f g h = detour-up hu hv hw f g h
 no-detour true {u} {v} {w} hu hv hw f g h =
-    detour-up {u = negᵖ u} {v = negᵖ v} {w = negᵖ w} hu (subst Up (sym (negᵖ-negᵖ v)) hv) hw (forward-neg u v f) (forward-neg v w g) (forward-neg u w h)
+    detour-up {u = negᵖ u} {v = negᵖ v} {w = negᵖ w} hu (subst Up (sym (negᵖ-negᵖ v)) hv) hw (forward-neg f) (forward-neg g) (forward-neg h)
 
 -- descents add
 pub descent-add : {u v w : Pt} → Forward u v → Forward v w → Forward u w → descent u w ≡ descent u v + descent v w

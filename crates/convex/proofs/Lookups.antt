@@ -34,7 +34,7 @@ look-past : (n : ℕ) (a b : List (ℕ × Pt)) → count n (keys a) ≡ 0 → lo
 unfolding look
 look-past n [] b h = refl
 look-past n (e ∷ a) b h = by-test (eqb (e .0) n)
-    (λ t. absurd (omega (arith, count-here n (e .0) (keys a) (eqb-true (e .0) n t))))
+    (λ t. absurd (omega (arith, count-here (keys a) (eqb-true (e .0) n t))))
     (λ t. rw t (look-past n a b (omega (arith, count-cons n (e .0) (keys a)))))
 
 -- an entry that is not numbered n
@@ -48,7 +48,7 @@ look-swap : (n : ℕ) (a b : List (ℕ × Pt)) → count n (keys a) + count n (k
 unfolding look
 look-swap n [] b h = ap (look n) (append-nil b)
 look-swap n (e ∷ a) b h = by-test (eqb (e .0) n)
-    (λ t. look-past n b (e ∷ a) (omega (arith, count-here n (e .0) (keys a) (eqb-true (e .0) n t))) ∙ rw t)
+    (λ t. look-past n b (e ∷ a) (omega (arith, count-here (keys a) (eqb-true (e .0) n t))) ∙ rw t)
     (λ t. look-skip n b e a t ∙ look-swap n a b (omega (arith, count-cons n (e .0) (keys a))) ∙ rw t)
 
 -- n stands once at the most, so where the list starts does not matter
@@ -130,13 +130,13 @@ unfolding pointNumbered
 ring-point x r = rw (eq-eqb (x .number) (x .number) refl)
 
 -- along the links from y through l to x, x is first come to from the last of y ∷ l
-before-links : (n : ℕ) (y : Corner) (l : List Corner) (x : Corner) → count n (numbers l) ≡ 0 → x .number ≡ n
+before-links : {n : ℕ} (y : Corner) (l : List Corner) (x : Corner) → count n (numbers l) ≡ 0 → x .number ≡ n
     → beforeIn n (links y (l ++ (x ∷ []))) ≡ getD (points (y ∷ l)) (length l) O
 unfolding beforeIn links
-before-links n y [] x h e = rw (eq-eqb (x .number) n e)
-before-links n y (z ∷ l) x h e = by-test (eqb (z .number) n)
-    (λ t. absurd (omega (arith, count-here n (z .number) (numbers l) (eqb-true (z .number) n t))))
-    (λ t. rw t (before-links n z l x (omega (arith, count-cons n (z .number) (numbers l))) e))
+before-links {n} y [] x h e = rw (eq-eqb (x .number) n e)
+before-links {n} y (z ∷ l) x h e = by-test (eqb (z .number) n)
+    (λ t. absurd (omega (arith, count-here (numbers l) (eqb-true (z .number) n t))))
+    (λ t. rw t (before-links z l x (omega (arith, count-cons n (z .number) (numbers l))) e))
 
 -- a0 is the last of the ring
 pub ring-before : (x : Corner) (r : List Corner) → 2 ≤ length r → count (x .number) (numbers (x ∷ r)) ≤ 1
@@ -145,12 +145,12 @@ unfolding neighbours
 ring-before x [] l h = absurd (omega arith)
 ring-before x (b ∷ r) l h =
     let e : length r ≡ length (points (b ∷ r)) - 1 = omega (arith, length-map r (λ c. c .point)) in
-    before-links (x .number) x (b ∷ r) x (omega (arith, count-here (x .number) (x .number) (numbers (b ∷ r)) refl)) refl ∙ ap (λ k. getD (points (b ∷ r)) k O) e
+    before-links x (b ∷ r) x (omega (arith, count-here {i = x .number} (numbers (b ∷ r)) refl)) refl ∙ ap (λ k. getD (points (b ∷ r)) k O) e
 
 -- b is the first of the ring, b0 the second
 not-first : (x b : Corner) (r : List Corner) → count (b .number) (numbers (x ∷ b ∷ r)) ≤ 1 → eqb (x .number) (b .number) ≡ false
 not-first x b r h = by-test (eqb (x .number) (b .number))
-    (λ t. absurd (omega (arith, count-here (b .number) (x .number) (numbers (b ∷ r)) (eqb-true (x .number) (b .number) t), count-here (b .number) (b .number) (numbers r) refl)))
+    (λ t. absurd (omega (arith, count-here {i = b .number} (numbers (b ∷ r)) (eqb-true (x .number) (b .number) t), count-here {i = b .number} (numbers r) refl)))
     (λ t. t)
 
 -- b: x is not numbered so, so the first of the ring is found
@@ -169,21 +169,21 @@ ring-second x (b ∷ c ∷ r) l h = rw (not-first x b (c ∷ r) h, eq-eqb (b .nu
 -- ---- a corner put after another, and the place of a corner
 
 -- a x b with c put after x is a x c b, where no corner of a is numbered as x
-pub put-after : (n : ℕ) (c : Corner) (a : List Corner) (x : Corner) (b : List Corner) → count n (numbers a) ≡ 0 → x .number ≡ n → putAfter n c (a ++ x ∷ b) ≡ a ++ x ∷ c ∷ b
+pub put-after : {n : ℕ} (c : Corner) (a : List Corner) (x : Corner) (b : List Corner) → count n (numbers a) ≡ 0 → x .number ≡ n → putAfter n c (a ++ x ∷ b) ≡ a ++ x ∷ c ∷ b
 unfolding putAfter
-put-after n c [] x b h e = rw (eq-eqb (x .number) n e)
-put-after n c (d ∷ a) x b h e = by-test (eqb (d .number) n)
-    (λ t. absurd (omega (arith, count-here n (d .number) (numbers a) (eqb-true (d .number) n t))))
-    (λ t. rw t (ap (λ r. d ∷ r) (put-after n c a x b (omega (arith, count-cons n (d .number) (numbers a))) e)))
+put-after {n} c [] x b h e = rw (eq-eqb (x .number) n e)
+put-after {n} c (d ∷ a) x b h e = by-test (eqb (d .number) n)
+    (λ t. absurd (omega (arith, count-here (numbers a) (eqb-true (d .number) n t))))
+    (λ t. rw t (ap (λ r. d ∷ r) (put-after c a x b (omega (arith, count-cons n (d .number) (numbers a))) e)))
 
 -- the number n stands at place k, and nowhere else
-pub place-of : (n : ℕ) (l : List Corner) (k : ℕ) → k < length l → getD (numbers l) k 0 ≡ n → count n (numbers l) ≤ 1 → placeOf n l ≡ k
+pub place-of : {n : ℕ} (l : List Corner) (k : ℕ) → k < length l → getD (numbers l) k 0 ≡ n → count n (numbers l) ≤ 1 → placeOf n l ≡ k
 unfolding placeOf
-place-of n [] k h e o = absurd (omega arith)
-place-of n (c ∷ l) zero h e o = rw (eq-eqb (c .number) n e)
-place-of n (c ∷ l) (suc k) h e o = by-test (eqb (c .number) n)
-    (λ t. absurd (omega (arith, count-here n (c .number) (numbers l) (eqb-true (c .number) n t), count-at n (numbers l) k (omega (arith, length-map l (λ c. c .number))) e)))
-    (λ t. rw t (ap suc (place-of n l k (omega arith) e (omega (arith, count-cons n (c .number) (numbers l))))))
+place-of [] k h e o = absurd (omega arith)
+place-of {n} (c ∷ l) zero h e o = rw (eq-eqb (c .number) n e)
+place-of {n} (c ∷ l) (suc k) h e o = by-test (eqb (c .number) n)
+    (λ t. absurd (omega (arith, count-here (numbers l) (eqb-true (c .number) n t), count-at (numbers l) k (omega (arith, length-map l (λ c. c .number))) e)))
+    (λ t. rw t (ap suc (place-of l k (omega arith) e (omega (arith, count-cons n (c .number) (numbers l))))))
   where
-    count-at : (n : ℕ) (l : List ℕ) (k : ℕ) → k < length l → getD l k 0 ≡ n → 0 < count n l
-    count-at n l k h e = count-any n l .1 (getD-any (λ x. x ≡ n) l 0 k h e)
+    count-at : {n : ℕ} (l : List ℕ) (k : ℕ) → k < length l → getD l k 0 ≡ n → 0 < count n l
+    count-at {n} l k h e = count-any n l .1 (getD-any (λ x. x ≡ n) l 0 k h e)

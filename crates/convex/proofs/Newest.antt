@@ -42,8 +42,8 @@ lastOf-snoc q [] x = refl
 lastOf-snoc q (p ∷ l) x = lastOf-snoc p l x
 
 -- the last of l, and then its others, where l is k one place on
-from-top : (l k : List Pt) → l ≡ rotate 1 k → 0 < length k → rotate (length l - 1) l ≡ k
-from-top l k e h = ap (λ r. rotate (length r - 1) r) e ∙ ap (λ n. rotate (n - 1) (rotate 1 k)) (length-rotate 1 k) ∙ rotate-back 1 k h
+from-top : {l : List Pt} (k : List Pt) → l ≡ rotate 1 k → 0 < length k → rotate (length l - 1) l ≡ k
+from-top k e h = ap (λ r. rotate (length r - 1) r) e ∙ ap (λ n. rotate (n - 1) (rotate 1 k)) (length-rotate 1 k) ∙ rotate-back 1 k h
 
 module _ (m : Mesh) (ok : Accepted m) (seen : List ℕ) where
   module _ (x : Slot) (rest : List Slot) (z : Zipper) (h : z .pending ≡ x ∷ rest) (f : Fit m z) where
@@ -51,15 +51,15 @@ module _ (m : Mesh) (ok : Accepted m) (seen : List ℕ) where
     R = ring rest (z .done)
 
     -- the top corner done: the list stays
-    newest-moved : (t : Bool) → z .fresh ≡ t → NewestAt t z → NewestAt false (moved x rest z)
+    newest-moved : {t : Bool} → z .fresh ≡ t → NewestAt t z → NewestAt false (moved x rest z)
     unfolding moved
-    newest-moved true e n =
+    newest-moved {t = true} e n =
         let k : suc (length (z .done)) - cond (z .fresh) (suc (length (z .done))) (z .last) ≡ 0 =
         ap (λ t. suc (length (z .done)) - cond t (suc (length (z .done))) (z .last)) e ∙ omega arith in (
           rw e (omega arith),
-          subst Sharp (from-top (whole z) (x .corner ∷ R) (whole-top x rest z h) (omega arith) ∙ sym (rotate-zero (x .corner ∷ R)) ∙ ap (λ j. rotate j (x .corner ∷ R)) (sym k)) (n .1),
+          subst Sharp (from-top (x .corner ∷ R) (whole-top x rest z h) (omega arith) ∙ sym (rotate-zero (x .corner ∷ R)) ∙ ap (λ j. rotate j (x .corner ∷ R)) (sym k)) (n .1),
         )
-    newest-moved false e n =
+    newest-moved {t = false} e n =
         let i : ℕ = length (z .done) - z .last in
         let k : suc (length (z .done)) - cond (z .fresh) (suc (length (z .done))) (z .last) ≡ 1 + i =
         ap (λ t. suc (length (z .done)) - cond t (suc (length (z .done))) (z .last)) e ∙ omega (arith, n .0) in
@@ -70,7 +70,7 @@ module _ (m : Mesh) (ok : Accepted m) (seen : List ℕ) where
 
     -- p, then the ring, then x
     pushed-top : rotate (length (whole (joinedZ m x rest z)) - 1) (whole (joinedZ m x rest z)) ≡ farVertex m x ∷ (R ++ (x .corner ∷ []))
-    pushed-top = from-top (whole (joinedZ m x rest z)) (farVertex m x ∷ (R ++ (x .corner ∷ []))) (whole-pushed x rest (far m x) (farSide m x) z ∙ two-steps) (omega arith)
+    pushed-top = from-top (farVertex m x ∷ (R ++ (x .corner ∷ []))) (whole-pushed x rest (far m x) (farSide m x) z ∙ two-steps) (omega arith)
       where
         two-steps : rotate 2 (x .corner ∷ farVertex m x ∷ R) ≡ rotate 1 (farVertex m x ∷ (R ++ (x .corner ∷ [])))
         two-steps = unfold rotate in sym (append-assoc R (x .corner ∷ []) (farVertex m x ∷ []))
@@ -89,7 +89,7 @@ module _ (m : Mesh) (ok : Accepted m) (seen : List ℕ) where
 
     newest-step : NewestAt (z .fresh) z → NewestAt (stepZ m seen x rest z .fresh) (stepZ m seen x rest z)
     unfolding moved pushed
-    newest-step n = stepZ-by m seen (λ y. NewestAt (y .fresh) y) x rest z (newest-moved (z .fresh) refl n) (λ d i j. newest-pushed d j)
+    newest-step n = stepZ-by m seen (λ y. NewestAt (y .fresh) y) x rest z (newest-moved refl n) (λ d i j. newest-pushed d j)
 
   module _ (k : ℕ) (l : k < length m) where
     newest-start : NewestAt true (startZ k (triangleAt m k))

@@ -36,19 +36,19 @@ pub record StrictlyConvex (l : List Pt) : Type 0 where
   pub left : All (λ t. ltZ (pos 0) (cross (t .0) (t .1)) ≡ true) (neighbours (edges l))
   pub once : sumℕ (map (λ t. cond (isLess (angleCmp (t .1) (t .0))) 1 0) (neighbours (edges l))) ≡ 1
 
-flat : (z : ℤ) → z ≡ pos 0 → ltZ (pos 0) z ≡ true → ⊥
-flat z e h = omega (zneeds, e, h)
+flat : {z : ℤ} → z ≡ pos 0 → ltZ (pos 0) z ≡ true → ⊥
+flat e h = omega (zneeds, e, h)
 
 -- fewer than three corners turn nowhere: of one edge, and of an edge and its way back, the cross is
 -- 0
 pub convex-three : (l : List Pt) → StrictlyConvex l → 3 ≤ length l
 unfolding edges neighbours links sumℕ
 convex-three [] s = absurd (omega (arith, s .once))
-convex-three (a ∷ []) s = absurd (flat (cross (a -ᵖ a) (a -ᵖ a)) (one a) (s .left .0))
+convex-three (a ∷ []) s = absurd (flat (one a) (s .left .0))
   where
     one : (a : Pt) → cross (a -ᵖ a) (a -ᵖ a) ≡ pos 0
     one = ring (pt ∷ []) (λ a. crossE (a -E a) (a -E a) :≡ con (pos 0)) tt
-convex-three (a ∷ b ∷ []) s = absurd (flat (cross (b -ᵖ a) (a -ᵖ b)) (two a b) (s .left .0))
+convex-three (a ∷ b ∷ []) s = absurd (flat (two a b) (s .left .0))
   where
     two : (a b : Pt) → cross (b -ᵖ a) (a -ᵖ b) ≡ pos 0
     two = ring (pt ∷ pt ∷ []) (λ a b. crossE (b -E a) (a -E b) :≡ con (pos 0)) tt
@@ -73,7 +73,7 @@ module _ (m : Mesh) (ok : Accepted m) where
     r = region m seen k
 
     from-last-round : Round (edges (fromLast (r .contour)))
-    from-last-round = subst (λ c. Round (edges c)) (sym (from-last-rotated (r .contour))) (round-rotate _ (map (λ c. c .point) (r .contour)) (region-round m ok seen k l))
+    from-last-round = subst (λ c. Round (edges c)) (sym (from-last-rotated (r .contour))) (round-rotate _ (map (λ c. c .point) (r .contour)) (region-round ok seen k l))
 
     -- the first corner is the last added
     pub part-first : getD (contourOf r) 0 O ≡ getD (fromLast (r .contour)) 0 O

@@ -129,12 +129,12 @@ edges-after x p b b0 l = ap (λ r. (p -ᵖ x) ∷ (b -ᵖ p) ∷ (b0 -ᵖ b) ∷
 -- "It joins when (a−a0) cross (p−a) and (b−p) cross (b0−b) are both at least 0."
 joins-both : (a0 a p b b0 : Pt) → joins a0 a p b b0 ≡ true → (pos 0 ≤ℤ cross (a -ᵖ a0) (p -ᵖ a)) × (pos 0 ≤ℤ cross (b -ᵖ p) (b0 -ᵖ b))
 unfolding joins
-joins-both a0 a p b b0 = at (leZ (pos 0) (cross (a -ᵖ a0) (p -ᵖ a))) refl
+joins-both a0 a p b b0 = at refl
   where
-    at : (t : Bool) → leZ (pos 0) (cross (a -ᵖ a0) (p -ᵖ a)) ≡ t → cond t (leZ (pos 0) (cross (b -ᵖ p) (b0 -ᵖ b))) false ≡ true
+    at : {t : Bool} → leZ (pos 0) (cross (a -ᵖ a0) (p -ᵖ a)) ≡ t → cond t (leZ (pos 0) (cross (b -ᵖ p) (b0 -ᵖ b))) false ≡ true
         → (pos 0 ≤ℤ cross (a -ᵖ a0) (p -ᵖ a)) × (pos 0 ≤ℤ cross (b -ᵖ p) (b0 -ᵖ b))
-    at true e h = (leZ-≤ (pos 0) (cross (a -ᵖ a0) (p -ᵖ a)) e, leZ-≤ (pos 0) (cross (b -ᵖ p) (b0 -ᵖ b)) h)
-    at false e h = differ h
+    at {t = true} e h = (leZ-≤ (pos 0) (cross (a -ᵖ a0) (p -ᵖ a)) e, leZ-≤ (pos 0) (cross (b -ᵖ p) (b0 -ᵖ b)) h)
+    at {t = false} e h = differ h
 
 -- each two of a triangle's edges have its doubled area as their cross
 side-first : (a b c : Pt) → cross (b -ᵖ a) (c -ᵖ b) ≡ areaTwo a b c
@@ -159,21 +159,21 @@ round-triangle a b c h =
     record { forward = (leftward f, (leftward g, (leftward k, tt))); once = omega (arith, descent-triangle (b -ᵖ a) (c -ᵖ b) (a -ᵖ c) f g k) }
 
 -- a corner p between x and b: the edge x b is split into x p and p b
-pub round-join : (a0 x p b b0 : Pt) (l : List Pt) → a0 ≡ lastOf b0 l → pos 0 <ℤ areaTwo x p b → joins a0 x p b b0 ≡ true
+pub round-join : {a0 : Pt} (x p b b0 : Pt) (l : List Pt) → a0 ≡ lastOf b0 l → pos 0 <ℤ areaTwo x p b → joins a0 x p b b0 ≡ true
     → Round (edges (x ∷ b ∷ b0 ∷ l)) → Round (edges (x ∷ p ∷ b ∷ b0 ∷ l))
-round-join a0 x p b b0 l e h j r =
+round-join {a0} x p b b0 l e h j r =
     let k = joins-both a0 x p b b0 j in
     subst Round (sym (edges-after x p b b0 l))
     (round-split (b -ᵖ x) (p -ᵖ x) (b -ᵖ p) (b0 -ᵖ b) (way b0 l) (x -ᵖ lastOf b0 l) h (pos-is (side-whole x p b) h) (pos-is (side-first x p b) h)
     (subst (λ a. pos 0 ≤ℤ cross (x -ᵖ a) (p -ᵖ x)) e (k .0)) (k .1) (subst Round (edges-before x b b0 l) r))
 
 -- each region's contour goes once round
-pub region-round : (m : Mesh) → Accepted m → (seen : List ℕ) (k : ℕ) → k < length m → Round (edges (map (λ c. c .point) (region m seen k .contour)))
-region-round m ok =
+pub region-round : {m : Mesh} → Accepted m → (seen : List ℕ) (k : ℕ) → k < length m → Round (edges (map (λ c. c .point) (region m seen k .contour)))
+region-round {m} ok =
     contour-keeps m ok (λ t l. Round (edges l)) (λ t k l r. round-rotate k l r)
-    (λ t j x p b b0 l u r. round-join (lastOf b0 l) x p b b0 l refl (pos-is (u .area) (ok .turns-left j (u .in-mesh))) (u .allowed) r)
+    (λ t j x p b b0 l u r. round-join x p b b0 l refl (pos-is (u .area) (ok .turns-left j (u .in-mesh))) (u .allowed) r)
     (λ k h. round-triangle _ _ _ (ok .turns-left k h))
 
 -- the same of every region of the mesh
 pub all-round : (m : Mesh) → Accepted m → All (λ r. Round (edges (map (λ c. c .point) (r .contour)))) (regions m)
-all-round m ok = all-regions m (λ r. Round (edges (map (λ c. c .point) (r .contour)))) (region-round m ok)
+all-round m ok = all-regions m (λ r. Round (edges (map (λ c. c .point) (r .contour)))) (region-round ok)

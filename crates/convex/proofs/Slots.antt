@@ -43,11 +43,11 @@ ring-head x rest done h = ap (λ l. getD l 0 O) (ring-cons x rest done) ∙ List
 
 -- nothing is pending, or x is on top of the rest
 pub by-pending {ℓ} : {X : Type ℓ} (z : Zipper) → (z .pending ≡ [] → X) → ((x : Slot) (rest : List Slot) → z .pending ≡ x ∷ rest → X) → X
-by-pending {X = X} z f g = at (z .pending) refl
+by-pending {X = X} z f g = at refl
   where
-    at : (l : List Slot) → z .pending ≡ l → X
-    at [] h = f h
-    at (x ∷ rest) h = g x rest h
+    at : {l : List Slot} → z .pending ≡ l → X
+    at {l = []} h = f h
+    at {l = x ∷ rest} h = g x rest h
 
 -- the triangle across, and its vertex that is not on the edge
 abbrev pub far : Mesh → Slot → Triangle
@@ -91,11 +91,11 @@ module _ (m : Mesh) (seen : List ℕ) where
 
   -- what every step keeps holds at the end
   pub growZ-keeps : (P : Zipper → Type 0) → ((x : Slot) (rest : List Slot) (z : Zipper) → z .pending ≡ x ∷ rest → P z → P (stepZ m seen x rest z))
-      → (n : ℕ) (z : Zipper) → P z → P (growZ n m seen z)
-  growZ-keeps P k zero z p = unfold growZ in p
-  growZ-keeps P k (suc n) z p =
+      → (n : ℕ) {z : Zipper} → P z → P (growZ n m seen z)
+  growZ-keeps P k zero p = unfold growZ in p
+  growZ-keeps P k (suc n) {z} p =
       by-pending z (λ h. subst P (sym (growZ-done (suc n) z h)) p)
-      (λ x rest h. subst P (sym (growZ-step n x rest z h)) (growZ-keeps P k n (stepZ m seen x rest z) (k x rest z h p)))
+      (λ x rest h. subst P (sym (growZ-step n x rest z h)) (growZ-keeps P k n (k x rest z h p)))
 
 -- how much is left to do
 abbrev pub leftZ : Mesh → List ℕ → Zipper → ℕ
@@ -242,9 +242,9 @@ module _ (m : Mesh) (ok : Accepted m) where
 
   module _ (seen : List ℕ) where
     -- a corner done is one pending less; a triangle taken is two less and one pending more
-    pub stepZ-less : (x : Slot) (rest : List Slot) (z : Zipper) → z .pending ≡ x ∷ rest → Fit m z → leftZ m seen (stepZ m seen x rest z) < leftZ m seen z
+    pub stepZ-less : (x : Slot) (rest : List Slot) {z : Zipper} → z .pending ≡ x ∷ rest → Fit m z → leftZ m seen (stepZ m seen x rest z) < leftZ m seen z
     unfolding moved pushed
-    stepZ-less x rest z h f =
+    stepZ-less x rest {z} h f =
         stepZ-by m seen (λ y. leftZ m seen y < leftZ m seen z) x rest z (omega (arith, ap length h))
         (λ d n j.
         let l : x .across < length m = across-in x _ (top-sided x rest z h f) d in
@@ -254,20 +254,20 @@ module _ (m : Mesh) (ok : Accepted m) where
         grouped = sym (append-assoc seen (z .taken) (x .across ∷ []))
 
     -- so n steps are enough where no more than n are left
-    pub growZ-ends : (n : ℕ) (z : Zipper) → Fit m z → leftZ m seen z ≤ n → growZ n m seen z .pending ≡ []
-    growZ-ends zero z f l =
+    pub growZ-ends : (n : ℕ) {z : Zipper} → Fit m z → leftZ m seen z ≤ n → growZ n m seen z .pending ≡ []
+    growZ-ends zero {z} f l =
         by-pending z (λ e. ap (λ t. t .pending) (growZ-done m seen zero z e) ∙ e) (λ x rest e. absurd (omega (arith, ap length e)))
-    growZ-ends (suc n) z f l =
+    growZ-ends (suc n) {z} f l =
         by-pending z (λ e. ap (λ t. t .pending) (growZ-done m seen (suc n) z e) ∙ e)
-        (λ x rest e. ap (λ t. t .pending) (growZ-step m seen n x rest z e) ∙ growZ-ends n (stepZ m seen x rest z) (fit-step x rest z e f seen) (omega (arith, stepZ-less x rest z e f)))
+        (λ x rest e. ap (λ t. t .pending) (growZ-step m seen n x rest z e) ∙ growZ-ends n (fit-step x rest z e f seen) (omega (arith, stepZ-less x rest e f)))
 
     -- nothing is pending at the end
     pub zipped-ends : (k : ℕ) → k < length m → zipped m seen k .pending ≡ []
-    zipped-ends k l = growZ-ends (2 * length m + 3) (startZ k (triangleAt m k)) (fit-start k l) (startZ-left m seen k)
+    zipped-ends k l = growZ-ends (2 * length m + 3) (fit-start k l) (startZ-left m seen k)
 
     -- what the start has and every step keeps, the end has
     pub zipped-keeps : (P : Zipper → Type 0) → ((x : Slot) (rest : List Slot) (z : Zipper) → z .pending ≡ x ∷ rest → Fit m z → P z → P (stepZ m seen x rest z))
         → (k : ℕ) → k < length m → P (startZ k (triangleAt m k)) → P (zipped m seen k)
     zipped-keeps P s k l p =
         growZ-keeps m seen (λ z. Fit m z × P z) (λ x rest z h t. (fit-step x rest z h (t .0) seen, s x rest z h (t .0) (t .1)))
-        (2 * length m + 3) (startZ k (triangleAt m k)) (fit-start k l, p) .1
+        (2 * length m + 3) (fit-start k l, p) .1

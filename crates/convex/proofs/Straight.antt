@@ -71,7 +71,7 @@ in-line = arithℤ (pt ∷ pt ∷ pt ∷ []) (λ s a n. crossE (a -E s) (n -E a)
 
 -- s, a, b in line and a, b, n in line, so s, b, n in line
 pub in-line-on : (s a b n : Pt) → Nz (b -ᵖ a) → cross (a -ᵖ s) (b -ᵖ a) ≡ pos 0 → turn a b n ≡ pos 0 → cross (b -ᵖ s) (n -ᵖ b) ≡ pos 0
-in-line-on s a b n z e t = by s a b n (line-trans (n -ᵖ b) (b -ᵖ a) (a -ᵖ s) z t e) t
+in-line-on s a b n z e t = by s a b n (line-trans (n -ᵖ b) (a -ᵖ s) z t e) t
   where
     by : (s a b n : Pt) → cross (a -ᵖ s) (n -ᵖ b) ≡ pos 0 → turn a b n ≡ pos 0 → cross (b -ᵖ s) (n -ᵖ b) ≡ pos 0
     by = arithℤ (pt ∷ pt ∷ pt ∷ pt ∷ []) (λ s a b n. crossE (a -E s) (n -E b) := con (pos 0) ⇒ turnE a b n := con (pos 0) ⇒ crossE (b -E s) (n -E b) := con (pos 0)) (omega arith)
@@ -128,7 +128,7 @@ along-sym {w} {e} a = record { flat = back w e (a .flat); kept = other w e (a .k
 -- (e · e)(w · g) = (w · e)(e · g) − (e × g)(w × e)
 along-trans : {w e g : Pt} → Along w e → Along e g → Along w g
 along-trans {w} {e} {g} a b = record {
-  flat = line-trans g e w (along-nz a) (b .flat) (a .flat);
+  flat = line-trans g w (along-nz a) (b .flat) (a .flat);
   kept = pos-cancel (nz-square (along-nz a)) (by w e g (times-zero (cross e g) (a .flat)) (pos-mul (a .kept) (b .kept)));
 }
   where
@@ -198,11 +198,11 @@ rest u e [] = []
 rest u e (g ∷ E) = cond (eqZ (cross e g) (pos 0)) (rest (u +ᵖ e) g E) (first O g E ∷ rest O g E)
 
 -- the first gathered keeps the direction of e
-first-along : (u e : Pt) (E : List Pt) (h : Pt) → Along (u +ᵖ e) e → All Onward (links e (E ++ (h ∷ []))) → Along (first u e E) e
+first-along : (u : Pt) {e : Pt} (E : List Pt) (h : Pt) → Along (u +ᵖ e) e → All Onward (links e (E ++ (h ∷ []))) → Along (first u e E) e
 unfolding first links
-first-along u e [] h a o = a
-first-along u e (g ∷ E) h a o = by-test (eqZ (cross e g) (pos 0))
-    (λ t. rw t (let b : Along e g = straight-along (o .0) (eqZ-true (cross e g) (pos 0) t) in along-trans (first-along (u +ᵖ e) g E h (along-add (along-trans a b)) (o .1)) (along-sym b)))
+first-along u [] h a o = a
+first-along u {e} (g ∷ E) h a o = by-test (eqZ (cross e g) (pos 0))
+    (λ t. rw t (let b : Along e g = straight-along (o .0) (eqZ-true (cross e g) (pos 0) t) in along-trans (first-along (u +ᵖ e) E h (along-add (along-trans a b)) (o .1)) (along-sym b)))
     (λ t. rw t a)
 
 -- a turn to the left
@@ -215,20 +215,20 @@ record Gathered (u e : Pt) (E : List Pt) (h k : Pt) : Type 0 where
   left : All Left (links (first u e E) (rest u e E ++ (k ∷ [])))
   descents : sumℕ (map descentAt (links (first u e E) (rest u e E ++ (k ∷ [])))) ≡ sumℕ (map descentAt (links e (E ++ (h ∷ []))))
 
-gathered : (u e : Pt) (E : List Pt) (h k : Pt) → Along (u +ᵖ e) e → Along k h → All Onward (links e (E ++ (h ∷ []))) → pos 0 <ℤ cross (lastOf e E) h → Gathered u e E h k
+gathered : (u : Pt) {e : Pt} (E : List Pt) {h k : Pt} → Along (u +ᵖ e) e → Along k h → All Onward (links e (E ++ (h ∷ []))) → pos 0 <ℤ cross (lastOf e E) h → Gathered u e E h k
 unfolding first rest links lastOf sumℕ
-gathered u e [] h k a b o l = record { left = (along-left a b l, tt); descents = ap (λ n. n + 0) (along-descent a b l) }
-gathered u e (g ∷ E) h k a b o l = by-test (eqZ (cross e g) (pos 0))
+gathered u [] a b o l = record { left = (along-left a b l, tt); descents = ap (λ n. n + 0) (along-descent a b l) }
+gathered u {e} (g ∷ E) {h} a b o l = by-test (eqZ (cross e g) (pos 0))
     (λ t.
     let c : Along e g = straight-along (o .0) (eqZ-true (cross e g) (pos 0) t) in
-    let r = gathered (u +ᵖ e) g E h k (along-add (along-trans a c)) b (o .1) l in
+    let r = gathered (u +ᵖ e) E (along-add (along-trans a c)) b (o .1) l in
     record { left = rw t (r .left); descents = rw t (r .descents ∙ omega (arith, along-level c)) })
     (λ t.
     let n : Nz g = forward-nz-r (o .0) in
     let c : Along (O +ᵖ g) g = rw zero-+ᵖ (along-refl n) in
-    let d : pos 0 <ℤ cross e g = turned-left (o .0) (eqZ-false (cross e g) (pos 0) t) in
-    let f : Along (first O g E) g = first-along O g E h c (o .1) in
-    let r = gathered O g E h k c b (o .1) l in
+    let d : pos 0 <ℤ cross e g = turned-left (o .0) (eqZ-false t) in
+    let f : Along (first O g E) g = first-along O E h c (o .1) in
+    let r = gathered O E c b (o .1) l in
     record { left = rw t (along-left a f d, r .left); descents = rw t (ap₂ _+_ (along-descent a f d) (r .descents)) })
 
 -- ---- the edges of the corners that stay are the edges gathered
@@ -269,8 +269,8 @@ unfolding withoutStraight lastOf turning
 straight-first p c l h = rw (≢-eqZ {x = turn (lastOf c l) p c} {y = pos 0} (λ e. omega zarith))
 
 -- the edges of a contour that goes round are not zero
-pub round-nz : (E : List Pt) → Round E → All Nz E
-round-nz E r = subst (All Nz) (firsts-neighbours E) (all-image Nz (λ t. t .0) (neighbours E) .1 (all-map (neighbours E) (λ t f. forward-nz-l f) (r .forward)))
+pub round-nz : {E : List Pt} → Round E → All Nz E
+round-nz {E} r = subst (All Nz) (firsts-neighbours E) (all-image Nz (λ t. t .0) (neighbours E) .1 (all-map (neighbours E) (λ t f. forward-nz-l f) (r .forward)))
 
 pub edges-cons : (p : Pt) (l : List Pt) → edges (p ∷ l) ≡ way p (l ++ (p ∷ []))
 unfolding edges neighbours
@@ -282,7 +282,7 @@ unfolding contourArea neighbours
 straight-area [] h r = absurd h
 straight-area (p ∷ []) h r = absurd h
 straight-area (p ∷ c ∷ l) h r =
-    let z : All Nz (way p ((c ∷ l) ++ (p ∷ []))) = subst (All Nz) (edges-cons p (c ∷ l)) (round-nz (edges (p ∷ c ∷ l)) r) in
+    let z : All Nz (way p ((c ∷ l) ++ (p ∷ []))) = subst (All Nz) (edges-cons p (c ∷ l)) (round-nz r) in
     ap contourArea (straight-first p c l h) ∙ sweep-turning p p (c ∷ l) p (no-way p c) z ∙ alone p (sweep p (c ∷ l) p)
   where
     alone : (p : Pt) (k : ℤ) → cross p p +ℤ k ≡ k
@@ -292,8 +292,8 @@ straight-area (p ∷ c ∷ l) h r =
 round-gathered : (e : Pt) (E : List Pt) → Round (e ∷ E) → pos 0 <ℤ cross (lastOf e E) e → Strict (first O e E ∷ rest O e E)
 unfolding neighbours
 round-gathered e E r l =
-    let a : Along (O +ᵖ e) e = rw zero-+ᵖ (along-refl (round-nz (e ∷ E) r .0)) in
-    let g = gathered O e E e (first O e E) a (first-along O e E e a (r .forward)) (r .forward) l in
+    let a : Along (O +ᵖ e) e = rw zero-+ᵖ (along-refl (round-nz r .0)) in
+    let g = gathered O E a (first-along O E e a (r .forward)) (r .forward) l in
     record { left = g .left; once = g .descents ∙ r .once }
 
 -- the edges that stay are gathered ones

@@ -17,11 +17,11 @@ use Rattle.convex.specs.Joining.{isIn}
 pub isIn-append : (n : ℕ) (l m : List ℕ) → isIn n (l ++ m) ≡ cond (isIn n l) true (isIn n m)
 unfolding isIn
 isIn-append n [] m = refl
-isIn-append n (k ∷ l) m = either (eqb k n) (isIn n l) (isIn n m) (isIn n (l ++ m)) (isIn-append n l m)
+isIn-append n (k ∷ l) m = either (eqb k n) (isIn n l) (isIn n m) (isIn-append n l m)
   where
-    either : (t a b c : Bool) → c ≡ cond a true b → cond t true c ≡ cond (cond t true a) true b
-    either true a b c e = refl
-    either false a b c e = e
+    either : (t a b : Bool) {c : Bool} → c ≡ cond a true b → cond t true c ≡ cond (cond t true a) true b
+    either true a b e = refl
+    either false a b e = e
 
 pub isIn-one : (n k : ℕ) → isIn n (k ∷ []) ≡ eqb k n
 unfolding isIn

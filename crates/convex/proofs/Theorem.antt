@@ -52,7 +52,7 @@ each-straightened m h =
 pub parts-table : PartsTable
 parts-table m h =
     let ok = accepted m h in
-    limits-sound (parts m) (record {
+    limits-sound (record {
       parts = omega (arith, parts-few m ok, ok .few);
       corners = omega (arith, parts-size m ok, ok .few);
       contours = parts-short m ok;

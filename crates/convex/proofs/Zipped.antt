@@ -151,7 +151,7 @@ module _ (r : Region) (z : Zipper) (s : Numbered) (ss : List Numbered) (done : L
   split-once i = subst (λ l. count i (numbers l) ≤ 1) split (once-le once i)
 
   top-new : count (s .number) (numbers front) ≡ 0
-  top-new = omega (arith, split-once (s .number), count-split (s .number) front (cornerOf s ∷ done), count-here (s .number) (s .number) (numbers done) refl)
+  top-new = omega (arith, split-once (s .number), count-split (s .number) front (cornerOf s ∷ done), count-here {i = s .number} (numbers done) refl)
 
   abbrev after-top : List Corner
   after-top = done ++ front
@@ -238,7 +238,7 @@ module _ (r : Region) (z : Zipper) (s : Numbered) (ss : List Numbered) (done : L
         x = record { number = s .number; slot = record { corner = s .slot .corner; inside = s .slot .across; across = neighbour u (after v) } }
 
         put : putAfter (e .a) c (r .contour) ≡ front ++ cornerOf s ∷ c ∷ done
-        put = ap₂ (λ n l. putAfter n c l) ea split ∙ put-after (s .number) c front (cornerOf s) done top-new refl
+        put = ap₂ (λ n l. putAfter n c l) ea split ∙ put-after c front (cornerOf s) done top-new refl
 
         one-more : length (front ++ cornerOf s ∷ c ∷ done) ≡ suc n
         one-more = omega (arith, ap length split, length-append front (cornerOf s ∷ done), length-append front (cornerOf s ∷ c ∷ done))
@@ -307,58 +307,58 @@ module _ (m : Mesh) (seen : List ℕ) (r : Region) (z : Zipper) (t : Match r z) 
         (λ j. rw j (moved-match (dropped (edgesFrom (s .number) ss) r) refl refl refl)))))
 
 by-slots : {X : Type 0} {r : Region} {z : Zipper} (t : Match r z) → (t .slots ≡ [] → X) → ((s : Numbered) (ss : List Numbered) → t .slots ≡ s ∷ ss → X) → X
-by-slots {X} t f g = at (t .slots) refl
+by-slots {X} t f g = at refl
   where
-    at : (l : List Numbered) → t .slots ≡ l → X
-    at [] h = f h
-    at (s ∷ ss) h = g s ss h
+    at : {l : List Numbered} → t .slots ≡ l → X
+    at {l = []} h = f h
+    at {l = s ∷ ss} h = g s ss h
 
 -- with nothing pending the last corner added stands in done
-from-last-is : (fresh : Bool) (last : ℕ) (s : List Numbered) → s ≡ [] → (l : List Corner) → LastAt fresh (length l) last s l → ExactlyOnce (length l) (numbers l)
+from-last-is : (fresh : Bool) (last : ℕ) {s : List Numbered} → s ≡ [] → (l : List Corner) → LastAt fresh (length l) last s l → ExactlyOnce (length l) (numbers l)
     → fromLast l ≡ rotate (length (points l) - last) (points l)
-from-last-is true last [] e l h o = absurd h
-from-last-is true last (x ∷ s) e l h o = absurd (omega (arith, ap length e))
-from-last-is false last s e l h o =
+from-last-is true last {s = []} e l h o = absurd h
+from-last-is true last {s = x ∷ s} e l h o = absurd (omega (arith, ap length e))
+from-last-is false last e l h o =
     map-rotate (λ c. c .point) (placeOf (length l - 1) l) l
-    ∙ ap (λ j. rotate j (points l)) (place (length (points l) - last) (ap (λ n. n - last) (length-map l (λ c. c .point))))
+    ∙ ap (λ j. rotate j (points l)) (place (ap (λ n. n - last) (length-map l (λ c. c .point))))
   where
-    place : (k : ℕ) → k ≡ length l - last → placeOf (length l - 1) l ≡ k
-    place k e =
+    place : {k : ℕ} → k ≡ length l - last → placeOf (length l - 1) l ≡ k
+    place {k} e =
         let at : suc (getD (numbers l) k 0) ≡ length l = ap (λ j. suc (getD (numbers l) j 0)) e ∙ h .1 .1 in
-        place-of (length l - 1) l k (omega (arith, h .0, h .1 .0)) (omega arith) (once-le o (length l - 1))
+        place-of l k (omega (arith, h .0, h .1 .0)) (omega arith) (once-le o (length l - 1))
 
 module _ (m : Mesh) (ok : Accepted m) (seen : List ℕ) where
   -- nothing is pending, so nothing is stacked
-  match-done : (n f : ℕ) (r : Region) (z : Zipper) (t : Match r z) → t .slots ≡ [] → Match (grow f m seen r) (growZ n m seen z)
-  match-done n f r z t e =
+  match-done : (n f : ℕ) {r : Region} {z : Zipper} (t : Match r z) → t .slots ≡ [] → Match (grow f m seen r) (growZ n m seen z)
+  match-done n f {r} {z} t e =
       subst (λ q. Match q (growZ n m seen z)) (sym (grow-done f m seen r (t .stack-is ∙ ap (λ l. edgesFrom (headNumber (t .done ++ reverse (corners l))) l) e)))
       (subst (Match r) (sym (growZ-done m seen n z (sym (t .pending-is) ∙ ap slotsOf e))) t)
 
   -- a step of both, where what follows keeps the match
-  both-step : (n f : ℕ) (r : Region) (z : Zipper) (t : Match r z) (s : Numbered) (ss : List Numbered) → t .slots ≡ s ∷ ss → (s .slot .across ≡ none → ⊥) → Fit m z → left m seen r ≤ f
+  both-step : (n f : ℕ) {r : Region} {z : Zipper} (t : Match r z) (s : Numbered) (ss : List Numbered) → t .slots ≡ s ∷ ss → (s .slot .across ≡ none → ⊥) → Fit m z → left m seen r ≤ f
       → ((f : ℕ) (q : Region) → left m seen q ≤ f → Match q (stepZ m seen (s .slot) (slotsOf ss) z) → Match (grow f m seen q) (growZ n m seen (stepZ m seen (s .slot) (slotsOf ss) z)))
       → Match (grow f m seen r) (growZ n m seen (stepZ m seen (s .slot) (slotsOf ss) z))
-  both-step n zero r z t s ss e d fit k again = absurd (omega (arith, ap length (top-edge m seen r z t s ss e d)))
-  both-step n (suc f) r z t s ss e d fit k again =
+  both-step n zero {r} {z} t s ss e d fit k again = absurd (omega (arith, ap length (top-edge m seen r z t s ss e d)))
+  both-step n (suc f) {r} {z} t s ss e d fit k again =
       let h = top-edge m seen r z t s ss e d in
       subst (λ q. Match q (growZ n m seen (stepZ m seen (s .slot) (slotsOf ss) z))) (sym (grow-step f m seen _ _ r h))
       (again f _ (omega (arith, step-less m seen _ _ r h)) (match-step m seen r z t s ss e d fit))
 
-  grow-match : (n f : ℕ) (r : Region) (z : Zipper) → Fit m z → leftZ m seen z ≤ n → left m seen r ≤ f → Match r z → Match (grow f m seen r) (growZ n m seen z)
-  grow-match zero f r z fit l k t =
-      by-slots t (match-done zero f r z t) (λ s ss e. absurd (omega (arith, ap length (pending-top m seen r z t s ss e))))
-  grow-match (suc n) f r z fit l k t =
-      by-slots t (match-done (suc n) f r z t)
+  grow-match : (n f : ℕ) {r : Region} {z : Zipper} → Fit m z → leftZ m seen z ≤ n → left m seen r ≤ f → Match r z → Match (grow f m seen r) (growZ n m seen z)
+  grow-match zero f {r} {z} fit l k t =
+      by-slots t (match-done zero f t) (λ s ss e. absurd (omega (arith, ap length (pending-top m seen r z t s ss e))))
+  grow-match (suc n) f {r} {z} fit l k t =
+      by-slots t (match-done (suc n) f t)
       (λ s ss e.
       let y : Zipper = stepZ m seen (s .slot) (slotsOf ss) z in
       let h : z .pending ≡ s .slot ∷ slotsOf ss = pending-top m seen r z t s ss e in
-      let less : leftZ m seen y ≤ n = omega (arith, stepZ-less m ok seen (s .slot) (slotsOf ss) z h fit) in
+      let less : leftZ m seen y ≤ n = omega (arith, stepZ-less m ok seen (s .slot) (slotsOf ss) h fit) in
       let again : (f : ℕ) (q : Region) → left m seen q ≤ f → Match q y → Match (grow f m seen q) (growZ n m seen y) =
-      λ f q k u. grow-match n f q y (fit-step m ok (s .slot) (slotsOf ss) z h fit seen) less k u in
+      λ f q k u. grow-match n f (fit-step m ok (s .slot) (slotsOf ss) z h fit seen) less k u in
       subst (Match (grow f m seen r)) (sym (growZ-step m seen n (s .slot) (slotsOf ss) z h))
       (by-test (eqb (s .slot .across) none)
       (λ a. again f r k (match-idle m seen r z t s ss e (eqb-true (s .slot .across) none a)))
-      (λ a. both-step n f r z t s ss e (eqb-false (s .slot .across) none a) fit k again)))
+      (λ a. both-step n f t s ss e (eqb-false (s .slot .across) none a) fit k again)))
 
   -- ---- the end
 
@@ -388,7 +388,7 @@ module _ (m : Mesh) (ok : Accepted m) (seen : List ℕ) where
 
     zipped-match : Match r z
     zipped-match =
-        grow-match (2 * length m + 3) (enough m) (start k (triangleAt m k)) (startZ k (triangleAt m k))
+        grow-match (2 * length m + 3) (enough m)
         (fit-start m ok k l) (startZ-left m seen k) (start-left m seen k) (match-start k)
 
     none-left : zipped-match .slots ≡ []
@@ -413,7 +413,7 @@ module _ (m : Mesh) (ok : Accepted m) (seen : List ℕ) where
     pub zipped-from-last : fromLast (r .contour) ≡ fromLastZ z
     zipped-from-last =
         ap fromLast contour-done
-        ∙ from-last-is (z .fresh) (z .last) (zipped-match .slots) none-left (zipped-match .done)
+        ∙ from-last-is (z .fresh) (z .last) none-left (zipped-match .done)
         (subst (λ l. LastAt (z .fresh) (length l) (z .last) (zipped-match .slots) (zipped-match .done)) contour-done (zipped-match .last-is))
         (subst (λ l. ExactlyOnce (length l) (numbers l)) contour-done (zipped-match .once))
         ∙ ap (λ l. rotate (length l - z .last) l) (zipped-match .done-is)

@@ -37,9 +37,9 @@ use Rattle.convex_ring.proofs.Reading.{length-done}
 
 -- ---- the contour of a zipper
 
-pub contour-zipper : (cs : List (List ℤ)) (es : List (List ℕ)) (flags : List Bool) (p : Progress) (seen : List ℕ) (z : Zipper) {size : ℕ} → length cs ≡ size → p .done < p .last → Holds size cs es flags p seen z → fromLastZ z ≡ contourAt cs p
+pub contour-zipper : {cs : List (List ℤ)} {es : List (List ℕ)} {flags : List Bool} {p : Progress} {seen : List ℕ} {z : Zipper} {size : ℕ} → length cs ≡ size → p .done < p .last → Holds size cs es flags p seen z → fromLastZ z ≡ contourAt cs p
 unfolding contourAt
-contour-zipper cs es flags p seen z e₀ placed h =
+contour-zipper {cs} {p} {z} e₀ placed h =
     let k = p .last - 1 - p .done in
     let l = drop (p .done) cs in
     let settled : z .fresh ≡ false = by-test (z .fresh) (λ t. absurd (omega (arith, h .fresh t))) (λ t. t) in
@@ -119,9 +119,9 @@ ran-none : (points : List (List ℤ)) (r : Run) → OnGrid (r .corner) → Short
 unfolding keptAlong wayAlong lastOf
 ran-none points r on short = record { appended = appended-none points (r .count); corner = refl; way = refl; corner-on = on; way-short = short }
 
-pub ran-one : {points points′ : List (List ℤ)} {r : Run} (c : IntPoint) {e : IntVector} {n : ℕ} → OnGrid c → (vector e ≡ point c -ᵖ point (r .corner)) × Short e → Appended (keptIf (bends (vector (r .way)) (vector e)) (point (r .corner))) points (r .count) points′ n → Ran (point c ∷ []) points r points′ (record { corner = c; way = e; count = n })
+pub ran-one : {points points′ : List (List ℤ)} {r : Run} {c : IntPoint} {e : IntVector} {n : ℕ} → OnGrid c → (vector e ≡ point c -ᵖ point (r .corner)) × Short e → Appended (keptIf (bends (vector (r .way)) (vector e)) (point (r .corner))) points (r .count) points′ n → Ran (point c ∷ []) points r points′ (record { corner = c; way = e; count = n })
 unfolding keptAlong wayAlong lastOf
-ran-one {points} {points′} {r} c {e} {n} on f a =
+ran-one {points} {points′} {r} {c} {e} {n} on f a =
     let b = point (r .corner) in
     let d = vector (r .way) in
     record {
@@ -132,12 +132,12 @@ ran-one {points} {points′} {r} c {e} {n} on f a =
       way-short = f .1;
     }
 
-ran-more : (l m : List Pt) {points points′ points″ : List (List ℤ)} {r s t : Run} → Ran l points r points′ s → Ran m points′ s points″ t → Ran (l ++ m) points r points″ t
-ran-more l m {points} {points′} {points″} {r} {s} {t} f g =
+ran-more : {l m : List Pt} {points points′ points″ : List (List ℤ)} {r s t : Run} → Ran l points r points′ s → Ran m points′ s points″ t → Ran (l ++ m) points r points″ t
+ran-more {l} {m} {points} {points′} {points″} {r} {s} {t} f g =
     let b = point (r .corner) in
     let d = vector (r .way) in
     record {
-      appended = subst (λ k. Appended k points (r .count) points″ (t .count)) ((λ i. keptAlong d b l ++ keptAlong (f .way i) (f .corner i) m) ∙ sym (along-append d b l m)) (appended-more (keptAlong d b l) (keptAlong (vector (s .way)) (point (s .corner)) m) (f .appended) (g .appended));
+      appended = subst (λ k. Appended k points (r .count) points″ (t .count)) ((λ i. keptAlong d b l ++ keptAlong (f .way i) (f .corner i) m) ∙ sym (along-append d b l m)) (appended-more (f .appended) (g .appended));
       corner = g .corner ∙ ap (λ c. lastOf c m) (f .corner) ∙ sym (last-append b l m);
       way = g .way ∙ (λ i. wayAlong (f .way i) (f .corner i) m) ∙ sym (way-append d b l m);
       corner-on = g .corner-on;
@@ -145,8 +145,8 @@ ran-more l m {points} {points′} {points″} {r} {s} {t} f g =
     }
 
 -- how many points there are after it
-ran-count : (l : List Pt) {points points′ : List (List ℤ)} {r t : Run} → Ran l points r points′ t → (t .count ≤ r .count + length l) × (length points′ ≡ length points)
-ran-count l {r = r} f = (omega (arith, f .appended .count, along-few (vector (r .way)) (point (r .corner)) l), f .appended .size)
+ran-count : {l : List Pt} {points points′ : List (List ℤ)} {r t : Run} → Ran l points r points′ t → (t .count ≤ r .count + length l) × (length points′ ≡ length points)
+ran-count {l} {r = r} f = (omega (arith, f .appended .count, along-few (vector (r .way)) (point (r .corner)) l), f .appended .size)
 
 -- over places: none, one place more, and up to the end
 module _ (cs : List (List ℤ)) (i : ℕ) {points : List (List ℤ)} {r : Run} where
@@ -159,11 +159,11 @@ module _ (cs : List (List ℤ)) (i : ℕ) {points : List (List ℤ)} {r : Run} w
   module _ (k : ℕ) {j : ℕ} (h : Runnable cs i j points r) (f : i ≤ k) (g : k < j) {points′ : List (List ℤ)} {s : Run} (a : Ran (between cs i k) points r points′ s) where
     pub ran-room : s .count < length points′
     ran-room =
-        let n = ran-count (between cs i k) a in
+        let n = ran-count a in
         omega (arith, n .0, n .1, length-between cs i k (omega (arith, h .within)), h .room)
 
     pub ran-next : (c : IntPoint) {points″ : List (List ℤ)} {t : Run} → point c ≡ cornerIn cs k → Ran (point c ∷ []) points′ s points″ t → Ran (between cs i (k + 1)) points r points″ t
-    ran-next c {points″} {t} e b = subst (λ l. Ran l points r points″ t) (ap (λ q. between cs i k ++ (q ∷ [])) e ∙ sym (between-next cs i k f (omega (arith, h .within)))) (ran-more (between cs i k) (point c ∷ []) a b)
+    ran-next c {points″} {t} e b = subst (λ l. Ran l points r points″ t) (ap (λ q. between cs i k ++ (q ∷ [])) e ∙ sym (between-next cs i k f (omega (arith, h .within)))) (ran-more a b)
 
 -- ---- corners of turn 0 are dropped
 
@@ -244,10 +244,10 @@ module _ (cs : List (List ℤ)) (p : Progress) (w : Whole cs p) where
     -- the first leaves room for the second
     pub near-room : r .count + length cs ≤ length points + p .done → s .count + p .last ≤ length points′ + p .done
     near-room room =
-        let n = ran-count (near cs p) f in
+        let n = ran-count f in
         omega (arith, room, n .0, n .1, length-between cs (p .last) (length cs) (omega arith), w .ended)
 
     pub ran-whole : (a : IntPoint) {k : ℕ} {points″ : List (List ℤ)} {t : Run} → k ≡ placeBefore (length cs) (p .done) (p .last - 1) → point a ≡ cornerIn cs k → point (r .corner) ≡ first cs p → vector (r .way) ≡ point (r .corner) -ᵖ point a → Ran (far cs p) points′ s points″ t → Appended (withoutStraight (contourAt cs p)) points (r .count) points″ (t .count)
     ran-whole a {points″ = points″} {t} e h b d g =
         let v : vector (r .way) ≡ first cs p -ᵖ previous cs p = d ∙ ap₂ _-ᵖ_ b (h ∙ ap (cornerIn cs) e ∙ sym previous-at) in
-        subst (λ l. Appended l points (r .count) points″ (t .count)) ((λ i. keptAlong (v i) (b i) (near cs p ++ far cs p)) ∙ sym kept-whole) (ran-more (near cs p) (far cs p) f g .appended)
+        subst (λ l. Appended l points (r .count) points″ (t .count)) ((λ i. keptAlong (v i) (b i) (near cs p ++ far cs p)) ∙ sym kept-whole) (ran-more f g .appended)

@@ -46,7 +46,7 @@ points-turn points to₀ i h k p e =
     let x = cornerIn points i .x in
     let y = cornerIn points i .y in
     let size : length n ≡ 2 * i = omega (arith, length-numbers (firstPoints i points), length-first points i (omega arith)) in
-    e ∙ overlay-two n to₀ (2 * i) x y p size (omega (arith, k, length-points to₀)) ∙ ap (λ l. overlay l to₀) (sym (numbers-more points i h))
+    e ∙ overlay-two n to₀ x y p size (omega (arith, k, length-points to₀)) ∙ ap (λ l. overlay l to₀) (sym (numbers-more points i h))
 
 -- ---- faults of the room
 
@@ -108,5 +108,5 @@ pub mesh-refused : (m : Mesh) (ps : List (List Pt)) (s : List ℕ) (c : List ℤ
 mesh-refused m ps s c e d h = refused ps s c (e ∙ sym (append-some (meshKinds m) (roomKinds ps (length s) (length c)) (λ q. d (e ∙ q)))) d h
 
 -- without one the room decides
-pub mesh-answered : (m : Mesh) (ps : List (List Pt)) (s : List ℕ) (c : List ℤ) {r : Counts} {s′ : List ℕ} {c′ : List ℤ} → firstFault (meshKinds m) ≡ 0 → Answered (firstFault (roomKinds ps (length s) (length c))) ps s c r s′ c′ → Answered (firstFault (meshKinds m ++ roomKinds ps (length s) (length c))) ps s c r s′ c′
-mesh-answered m ps s c {r} {s′} {c′} e a = subst (λ f. Answered f ps s c r s′ c′) (sym (append-none (meshKinds m) (roomKinds ps (length s) (length c)) (lit< tt, (lit< tt, (lit< tt, (lit< tt, (lit< tt, (lit< tt, (lit< tt, tt))))))) e)) a
+pub mesh-answered : (m : Mesh) {ps : List (List Pt)} {s : List ℕ} {c : List ℤ} {r : Counts} {s′ : List ℕ} {c′ : List ℤ} → firstFault (meshKinds m) ≡ 0 → Answered (firstFault (roomKinds ps (length s) (length c))) ps s c r s′ c′ → Answered (firstFault (meshKinds m ++ roomKinds ps (length s) (length c))) ps s c r s′ c′
+mesh-answered m {ps} {s} {c} {r} {s′} {c′} e a = subst (λ f. Answered f ps s c r s′ c′) (sym (append-none (meshKinds m) (roomKinds ps (length s) (length c)) (lit< tt, (lit< tt, (lit< tt, (lit< tt, (lit< tt, (lit< tt, (lit< tt, tt))))))) e)) a

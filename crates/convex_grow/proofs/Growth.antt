@@ -68,11 +68,11 @@ module _ (size : ℕ) (m : Mesh) (cs : List (List ℤ)) (es : List (List ℕ)) (
         edges = length-three es (e 0) (e 1) (e 2) ∙ s .edges;
         marks = length-set flags k true ∙ s .marks;
         grid =
-            grid-set (set (set cs 0 (c 0)) 1 (c 1)) 2 (c 2) (omega (arith, length-set (set cs 0 (c 0)) 1 (c 1), length-set cs 0 (c 0), s .corners))
-            (grid-set (set cs 0 (c 0)) 1 (c 1) (omega (arith, length-set cs 0 (c 0), s .corners)) (grid-set cs 0 (c 0) (omega (arith, s .corners)) (s .grid) (a .on-grid k 0 l)) (a .on-grid k 1 l)) (a .on-grid k 2 l);
+            grid-set 2 (c 2) (omega (arith, length-set (set cs 0 (c 0)) 1 (c 1), length-set cs 0 (c 0), s .corners))
+            (grid-set 1 (c 1) (omega (arith, length-set cs 0 (c 0), s .corners)) (grid-set 0 (c 0) (omega (arith, s .corners)) (s .grid) (a .on-grid k 0 l)) (a .on-grid k 1 l)) (a .on-grid k 2 l);
         across =
-            across-set size (length m) (set (set es 0 (e 0)) 1 (e 1)) 2 (e 2) (omega (arith, length-set (set es 0 (e 0)) 1 (e 1), length-set es 0 (e 0), s .edges))
-            (across-set size (length m) (set es 0 (e 0)) 1 (e 1) (omega (arith, length-set es 0 (e 0), s .edges)) (across-set size (length m) es 0 (e 0) (omega (arith, s .edges)) (s .across) (a .in-mesh k (before 0) l (after-side (after 0)))) (a .in-mesh k (before 1) l (after-side (after 1)))) (a .in-mesh k (before 2) l (after-side (after 2)));
+            across-set size (set (set es 0 (e 0)) 1 (e 1)) 2 (e 2) (omega (arith, length-set (set es 0 (e 0)) 1 (e 1), length-set es 0 (e 0), s .edges))
+            (across-set size (set es 0 (e 0)) 1 (e 1) (omega (arith, length-set es 0 (e 0), s .edges)) (across-set size es 0 (e 0) (omega (arith, s .edges)) (s .across) (a .in-mesh k (before 0) l (after-side (after 0)))) (a .in-mesh k (before 1) l (after-side (after 1)))) (a .in-mesh k (before 2) l (after-side (after 2)));
       }
 
   sound : Sound size m cs′ es′ (set flags k true) p
@@ -104,7 +104,7 @@ module _ (size : ℕ) (m : Mesh) (cs : List (List ℤ)) (es : List (List ℕ)) (
     done = ap (map cornerOf) (sym (drop-of-length-le cs′ {i = size} (omega (arith, length-three cs (c 0) (c 1) (c 2), s .corners))));
     fresh = λ e. refl;
     last = λ e. differ (sym e);
-    taken = marked-set flags seen k (omega (arith, s .marks)) h;
+    taken = marked-set k (omega (arith, s .marks)) h;
   }
 
   pub started : Started size m k flags cs′ es′ (set flags k true) p
@@ -142,9 +142,9 @@ unfolding growZ
 grow-end zero m seen z h = refl
 grow-end (suc n) m seen z h = ap (λ l. elim l [ [] ↦ z | x ∷ rest ↦ growZ n m seen (stepZ m seen x rest z) ]) h
 
-none-left : (cs : List (List ℤ)) (es : List (List ℕ)) (n : ℕ) → n ≡ 0 → pendingOf cs es n ≡ []
+none-left : (cs : List (List ℤ)) (es : List (List ℕ)) {n : ℕ} → n ≡ 0 → pendingOf cs es n ≡ []
 unfolding pendingOf
-none-left cs es n e = ap (pendingOf cs es) e
+none-left cs es e = ap (pendingOf cs es) e
 
 -- what n₀ steps from z₀ give is what n steps from z give, and the buffers hold z
 pub record Left (size : ℕ) (m : Mesh) (cs : List (List ℤ)) (es : List (List ℕ)) (flags : List Bool) (p : Progress) (seen : List ℕ) (z₀ : Zipper) (n₀ : ℕ) : Type 0 where
@@ -185,12 +185,12 @@ module _ (size : ℕ) (m : Mesh) (cs₀ : List (List ℤ)) (es₀ : List (List �
   going-end {cs} {es} {flags} {p} e g = record { sound = g .sound; empty = e; kept = g .kept; holds = holds }
     where
       holds : (seen : List ℕ) (z : Zipper) (n : ℕ) → Holds size cs₀ es₀ flags₀ p₀ seen z → p₀ .pending + 2 * free flags₀ ≤ n → Holds size cs es flags p seen (growZ n m seen z)
-      holds seen z n h k = let o = g .left seen z n h k in subst (Holds size cs es flags p seen) (sym (o .same ∙ grow-end (o .n) m seen (o .z) (o .holds .pending ∙ none-left cs es (p .pending) e))) (o .holds)
+      holds seen z n h k = let o = g .left seen z n h k in subst (Holds size cs es flags p seen) (sym (o .same ∙ grow-end (o .n) m seen (o .z) (o .holds .pending ∙ none-left cs es e))) (o .holds)
 
 -- ---- a region, whole
 
-pub grown : (size : ℕ) (m : Mesh) (k : ℕ) (flags : List Bool) {cs : List (List ℤ)} {es : List (List ℕ)} {flags1 : List Bool} {p : Progress} {cs′ : List (List ℤ)} {es′ : List (List ℕ)} {flags′ : List Bool} {p′ : Progress} → Started size m k flags cs es flags1 p → Ran (length cs) m cs es flags1 p cs′ es′ flags′ p′ → Grown size m k flags cs′ es′ flags′ p′
-grown size m k flags s h =
+pub grown : {size : ℕ} {m : Mesh} {k : ℕ} {flags : List Bool} {cs : List (List ℤ)} {es : List (List ℕ)} {flags1 : List Bool} {p : Progress} {cs′ : List (List ℤ)} {es′ : List (List ℕ)} {flags′ : List Bool} {p′ : Progress} → Started size m k flags cs es flags1 p → Ran (length cs) m cs es flags1 p cs′ es′ flags′ p′ → Grown size m k flags cs′ es′ flags′ p′
+grown {m} {k} s h =
     let r = ran-there (s .sound) h in
     record {
       sound = r .sound;

@@ -37,17 +37,17 @@ free-set (true ∷ l) zero h e = differ (sym e)
 free-set (false ∷ l) zero h e = omega arith
 free-set (b ∷ l) (suc k) h e = omega (arith, free-set l k (omega arith) e)
 
-or-false : (t s : Bool) → s ≡ false → t ≡ cond t true s
-or-false true s e = refl
-or-false false s e = sym e
+or-false : (t : Bool) {s : Bool} → s ≡ false → t ≡ cond t true s
+or-false true e = refl
+or-false false e = sym e
 
-or-true : (t s : Bool) → s ≡ true → true ≡ cond t true s
-or-true true s e = refl
-or-true false s e = sym e
+or-true : (t : Bool) {s : Bool} → s ≡ true → true ≡ cond t true s
+or-true true e = refl
+or-true false e = sym e
 
 -- k is marked, and is put to the list
-pub marked-set : (flags : List Bool) (l : List ℕ) (k : ℕ) → k < length flags → Marked flags l → Marked (set flags k true) (l ++ (k ∷ []))
-marked-set flags l k h m = record { at = at }
+pub marked-set : {flags : List Bool} {l : List ℕ} (k : ℕ) → k < length flags → Marked flags l → Marked (set flags k true) (l ++ (k ∷ []))
+marked-set {flags} {l} k h m = record { at = at }
   where
     whole : (j : ℕ) → isIn j (l ++ (k ∷ [])) ≡ cond (isIn j l) true (eqb k j)
     whole j = isIn-append j l (k ∷ []) ∙ ap (λ t. cond (isIn j l) true t) (isIn-one j k)
@@ -55,26 +55,26 @@ marked-set flags l k h m = record { at = at }
     at : (j : ℕ) → j < length (set flags k true) → getD (set flags k true) j false ≡ isIn j (l ++ (k ∷ []))
     at j g =
         by-test (eqb k j)
-        (λ e. ap (λ i. getD (set flags k true) i false) (sym (eqb-true k j e)) ∙ getD-set-same flags k true false h ∙ or-true (isIn j l) (eqb k j) e ∙ sym (whole j))
-        (λ e. getD-set-other flags k j true false (λ q. eqb-false k j e (sym q)) ∙ m .at j (omega (arith, length-set flags k true)) ∙ or-false (isIn j l) (eqb k j) e ∙ sym (whole j))
+        (λ e. ap (λ i. getD (set flags k true) i false) (sym (eqb-true k j e)) ∙ getD-set-same flags k true false h ∙ or-true (isIn j l) e ∙ sym (whole j))
+        (λ e. getD-set-other flags k j true false (λ q. eqb-false k j e (sym q)) ∙ m .at j (omega (arith, length-set flags k true)) ∙ or-false (isIn j l) e ∙ sym (whole j))
 
 -- ---- stores
 
 -- what holds of every element, and of the one stored
-set-all : {A : Type 0} (P : A → Type 0) (l : List A) (i : ℕ) (a d : A) → i < length l → ((j : ℕ) → P (getD l j d)) → P a → (j : ℕ) → P (getD (set l i a) j d)
-set-all P l i a d h f g j =
+set-all : {A : Type 0} (P : A → Type 0) (l : List A) (i : ℕ) {a : A} (d : A) → i < length l → ((j : ℕ) → P (getD l j d)) → P a → (j : ℕ) → P (getD (set l i a) j d)
+set-all P l i {a} d h f g j =
     by-test (eqb i j)
     (λ e. subst P (sym (ap (λ k. getD (set l i a) k d) (sym (eqb-true i j e)) ∙ getD-set-same l i a d h)) g)
     (λ e. subst P (sym (getD-set-other l i j a d (λ q. eqb-false i j e (sym q)))) (f j))
 
-pub grid-set : (cs : List (List ℤ)) (i : ℕ) (c : List ℤ) → i < length cs → Grid cs → onGrid (cornerOf c) ≡ true → Grid (set cs i c)
-grid-set cs i c h g e = record { at = set-all (λ r. onGrid (cornerOf r) ≡ true) cs i c [] h (g .at) e }
+pub grid-set : {cs : List (List ℤ)} (i : ℕ) (c : List ℤ) → i < length cs → Grid cs → onGrid (cornerOf c) ≡ true → Grid (set cs i c)
+grid-set {cs} i c h g e = record { at = set-all (λ r. onGrid (cornerOf r) ≡ true) cs i [] h (g .at) e }
 
 abbrev Within : ℕ → List ℕ → Type 0
 Within count e = (getD e 1 0 ≡ none → ⊥) → getD e 1 0 < count
 
-pub across-set : (size count : ℕ) (es : List (List ℕ)) (i : ℕ) (e : List ℕ) → size ≤ length es → ((j : ℕ) → j < size → 0 < count → Within count (getD es j [])) → Within count e → (j : ℕ) → j < size → 0 < count → Within count (getD (set es i e) j [])
-across-set size count es i e h f g j k some =
+pub across-set : (size : ℕ) {count : ℕ} (es : List (List ℕ)) (i : ℕ) (e : List ℕ) → size ≤ length es → ((j : ℕ) → j < size → 0 < count → Within count (getD es j [])) → Within count e → (j : ℕ) → j < size → 0 < count → Within count (getD (set es i e) j [])
+across-set size {count} es i e h f g j k some =
     by-test (eqb i j)
     (λ q. subst (Within count) (sym (ap (λ n. getD (set es n e) j []) (eqb-true i j q) ∙ getD-set-same es j e [] (omega arith))) g)
     (λ q. subst (Within count) (sym (getD-set-other es i j e [] (λ n. eqb-false i j q (sym n)))) (f j k some))
@@ -105,9 +105,9 @@ found false false true a h = (refl, (refl, refl))
 
 -- the place of the last corner added, of n done from d on: right before l, whether it is done now
 -- or was before
-last-moved : (t : Bool) (size n zl d l : ℕ) → n + d ≡ size → (t ≡ true → l ≡ d) → (t ≡ false → zl + l ≡ size + 1) → cond t (suc n) zl + l ≡ size + 1
-last-moved true size n zl d l h f g = omega (arith, f refl)
-last-moved false size n zl d l h f g = g refl
+last-moved : (t : Bool) {size : ℕ} (n zl d l : ℕ) → n + d ≡ size → (t ≡ true → l ≡ d) → (t ≡ false → zl + l ≡ size + 1) → cond t (suc n) zl + l ≡ size + 1
+last-moved true n zl d l h f g = omega (arith, f refl)
+last-moved false n zl d l h f g = g refl
 
 -- ---- a step
 
@@ -168,7 +168,7 @@ module _ (size : ℕ) (m : Mesh) (cs : List (List ℤ)) (es : List (List ℕ)) (
       corners = length-set cs (p .done - 1) top ∙ s .ready .corners;
       edges = s .ready .edges;
       marks = s .ready .marks;
-      grid = grid-set cs (p .done - 1) top (omega (arith, s .ready .corners, s .room, s .whole)) (s .ready .grid) (s .ready .grid .at (p .pending - 1));
+      grid = grid-set (p .done - 1) top (omega (arith, s .ready .corners, s .room, s .whole)) (s .ready .grid) (s .ready .grid .at (p .pending - 1));
       across = s .ready .across;
     };
     meshed = s .meshed;
@@ -180,13 +180,13 @@ module _ (size : ℕ) (m : Mesh) (cs : List (List ℤ)) (es : List (List ℕ)) (
     rested = λ e. omega (arith, s .room, s .placed);
   }
 
-  move-holds : (seen : List ℕ) (z : Zipper) → Holds size cs es flags p seen z → Holds size (set cs (p .done - 1) top) es flags (movedBy p) seen (moved x rest z)
+  move-holds : {seen : List ℕ} {z : Zipper} → Holds size cs es flags p seen z → Holds size (set cs (p .done - 1) top) es flags (movedBy p) seen (moved x rest z)
   unfolding moved
-  move-holds seen z h = record {
+  move-holds {z} h = record {
     pending = sym (pending-set-corner cs es (p .pending - 1) (p .done - 1) top (omega (arith, s .room)));
     done = ap (λ l. x .corner ∷ l) (h .done) ∙ sym (done-move cs (p .done) top (omega (arith, s .room)) (omega (arith, s .whole, s .ready .corners)));
     fresh = λ e. differ e;
-    last = λ e. last-moved (z .fresh) size (length (z .done)) (z .last) (p .done) (p .last) (omega (arith, ap length (h .done), length-done cs (p .done), s .ready .corners, s .whole)) (h .fresh) (h .last);
+    last = λ e. last-moved (z .fresh) (length (z .done)) (z .last) (p .done) (p .last) (omega (arith, ap length (h .done), length-done cs (p .done), s .ready .corners, s .whole)) (h .fresh) (h .last);
     taken = h .taken;
   }
 
@@ -195,7 +195,7 @@ module _ (size : ℕ) (m : Mesh) (cs : List (List ℤ)) (es : List (List ℕ)) (
     sound = move-sound;
     less = omega arith;
     kept = omega (arith, s .room);
-    holds = λ seen z h. subst (Holds size (set cs (p .done - 1) top) es flags (movedBy p) seen) (sym (step-stays seen z h e)) (move-holds seen z h);
+    holds = λ seen z h. subst (Holds size (set cs (p .done - 1) top) es flags (movedBy p) seen) (sym (step-stays seen z h e)) (move-holds h);
   }
 
   -- ---- a triangle joins
@@ -235,10 +235,10 @@ module _ (size : ℕ) (m : Mesh) (cs : List (List ℤ)) (es : List (List ℕ)) (
             corners = length-set cs (p .pending) (pairOf (vertex u v)) ∙ s .ready .corners;
             edges = length-set (set es (p .pending - 1) first) (p .pending) second ∙ length-set es (p .pending - 1) first ∙ s .ready .edges;
             marks = length-set flags (x .across) true ∙ s .ready .marks;
-            grid = grid-set cs (p .pending) (pairOf (vertex u v)) (omega (arith, s .ready .corners, s .room, s .whole, free-less)) (s .ready .grid) (a .on-grid (x .across) v l);
+            grid = grid-set (p .pending) (pairOf (vertex u v)) (omega (arith, s .ready .corners, s .room, s .whole, free-less)) (s .ready .grid) (a .on-grid (x .across) v l);
             across =
-                across-set size (length m) (set es (p .pending - 1) first) (p .pending) second (omega (arith, length-set es (p .pending - 1) first, s .ready .edges, s .room, s .whole, free-less))
-                (across-set size (length m) es (p .pending - 1) first (omega (arith, s .ready .edges, s .room, s .whole)) (s .ready .across) (a .in-mesh (x .across) (after v) l (after-side v)))
+                across-set size (set es (p .pending - 1) first) (p .pending) second (omega (arith, length-set es (p .pending - 1) first, s .ready .edges, s .room, s .whole, free-less))
+                (across-set size es (p .pending - 1) first (omega (arith, s .ready .edges, s .room, s .whole)) (s .ready .across) (a .in-mesh (x .across) (after v) l (after-side v)))
                 (a .in-mesh (x .across) (before v) l (after-side (after v)));
           };
           meshed = s .meshed;
@@ -265,14 +265,14 @@ module _ (size : ℕ) (m : Mesh) (cs : List (List ℤ)) (es : List (List ℕ)) (
         slot-eq : {c c′ : List ℤ} {e e′ : List ℕ} → c ≡ c′ → e ≡ e′ → _≡_ {A = Slot} (record { corner = cornerOf c; inside = getD e 0 0; across = getD e 1 0 }) (record { corner = cornerOf c′; inside = getD e′ 0 0; across = getD e′ 1 0 })
         slot-eq f g = λ i. record { corner = cornerOf (f i); inside = getD (g i) 0 0; across = getD (g i) 1 0 }
 
-    push-holds : (seen : List ℕ) (z : Zipper) → Holds size cs es flags p seen z → Holds size cs′ es′ (set flags (x .across) true) (pushedBy p) seen (pushed x rest u v z)
+    push-holds : {seen : List ℕ} {z : Zipper} → Holds size cs es flags p seen z → Holds size cs′ es′ (set flags (x .across) true) (pushedBy p) seen (pushed x rest u v z)
     unfolding pushed
-    push-holds seen z h = record {
+    push-holds {seen} {z} h = record {
       pending = sym push-pending;
       done = h .done ∙ sym (done-set cs (p .done) (p .pending) (pairOf (vertex u v)) (omega (arith, s .room, free-less)));
       fresh = λ e. refl;
       last = λ e. differ (sym e);
-      taken = subst (Marked (set flags (x .across) true)) (append-assoc seen (z .taken) (x .across ∷ [])) (marked-set flags (seen ++ z .taken) (x .across) (in-mesh across-some) (h .taken));
+      taken = subst (Marked (set flags (x .across) true)) (append-assoc seen (z .taken) (x .across ∷ [])) (marked-set (x .across) (in-mesh across-some) (h .taken));
     }
 
     push-step : Stepped size m cs es flags p cs′ es′ (set flags (x .across) true) (pushedBy p)
@@ -280,7 +280,7 @@ module _ (size : ℕ) (m : Mesh) (cs : List (List ℤ)) (es : List (List ℕ)) (
       sound = push-sound;
       less = omega (arith, free-less);
       kept = omega (arith, free-less);
-      holds = λ seen z h. subst (Holds size cs′ es′ (set flags (x .across) true) (pushedBy p) seen) (sym (step-goes seen z h d)) (push-holds seen z h);
+      holds = λ seen z h. subst (Holds size cs′ es′ (set flags (x .across) true) (pushedBy p) seen) (sym (step-goes seen z h d)) (push-holds h);
     }
 
     pub push-room : p .pending < size

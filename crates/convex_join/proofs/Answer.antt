@@ -15,4 +15,4 @@ use Rattle.convex_gather.proofs.Answer.{mesh-answered}
 
 pub answered : (m : Mesh) {begins : List ℕ} {points : List (List ℤ)} {t : Tally} {s : List ℕ} {c : List ℤ} {r : Counts} {s′ : List ℕ} {c′ : List ℤ} → firstFault (meshKinds m) ≡ 0 → Gathered begins points t (parts m) → HandedOut begins points t s c r s′ c′ → PartsAnswered m s c r s′ c′
 unfolding partsFault
-answered m {s = s} {c = c} e g h = mesh-answered m (parts m) s c e (h .answer (parts m) g)
+answered m {s = s} {c = c} e g h = mesh-answered m e (h .answer (parts m) g)

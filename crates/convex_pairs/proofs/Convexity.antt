@@ -52,10 +52,10 @@ pub record Polygon (l : List Pt) : Type 0 where
 -- ---- seen from a least corner
 
 -- in the upper half a cross above 0 is transitive
-up-trans-< : (u v w : Pt) → Up u → Up v → Up w → pos 0 <ℤ cross u v → pos 0 <ℤ cross v w → pos 0 <ℤ cross u w
-up-trans-< u v w hu hv hw h k =
-    lt-in-half (lower-up u hu ∙ sym (lower-up w hw)) .0
-    (lt-trans (nz-of-up hu) (nz-of-up hv) (nz-of-up hw) (lt-in-half (lower-up u hu ∙ sym (lower-up v hv)) .1 h) (lt-in-half (lower-up v hv ∙ sym (lower-up w hw)) .1 k))
+up-trans-< : {u v w : Pt} → Up u → Up v → Up w → pos 0 <ℤ cross u v → pos 0 <ℤ cross v w → pos 0 <ℤ cross u w
+up-trans-< hu hv hw h k =
+    lt-in-half (lower-up hu ∙ sym (lower-up hw)) .0
+    (lt-trans (nz-of-up hu) (nz-of-up hv) (nz-of-up hw) (lt-in-half (lower-up hu ∙ sym (lower-up hv)) .1 h) (lt-in-half (lower-up hv ∙ sym (lower-up hw)) .1 k))
 
 -- (p - c) × (q - p) = (p - c) × (q - c)
 seen-edge : (c p q : Pt) → areaTwo c p q ≡ cross (p -ᵖ c) (q -ᵖ p)
@@ -82,7 +82,7 @@ module _ (c : Pt) (E : List Pt) (k : Convex E) where
       let i = ascends-from (q -ᵖ p) (a ∷ A) q r (split-next s) on in
       let u : Up (p -ᵖ c) = subst Up e (up-corner k (split-le s)) in
       let h : Left c p q = next-left a A p q r s e in
-      ((u, i .0), ((h, all-map2 r (λ x v g. up-trans-< (p -ᵖ c) (q -ᵖ c) (x -ᵖ c) u (i .0 .0) v h g) (i .0 .1) (i .1 .0)), i .1))
+      ((u, i .0), ((h, all-map2 r (λ x v g. up-trans-< u (i .0 .0) v h g) (i .0 .1) (i .1 .0)), i .1))
 
 -- each turn of the way from a over b, as a bend
 bends-along : (a b : Pt) (l m : List Pt) → All (λ t. pos 0 <ℤ cross (t .0) (t .1)) (links (b -ᵖ a) (steps b l ++ m)) → Bends a b l
@@ -101,7 +101,7 @@ unfolding edges neighbours links
 from-least c p r k s =
     let E : List Pt = edges (c ∷ p ∷ r) in
     let one : sumᵖ ((p -ᵖ c) ∷ []) ≡ p -ᵖ c = sum-cons (p -ᵖ c) [] ∙ (unfold sumᵖ in +ᵖ-zero (p -ᵖ c)) in
-    ascends-from c E k (p -ᵖ c) [] p r (split-next (split-start Lt E s)) one .1
+    ascends-from c E k (p -ᵖ c) [] p r (split-next (split-start s)) one .1
 
 -- the others ascend and bend to the left
 least-triples : (c : Pt) (l : List Pt) → Convex (edges (c ∷ l)) → Sorted Lt (edges (c ∷ l)) → Triples (c ∷ l)
@@ -110,7 +110,7 @@ least-triples c [] k s = (tt, tt)
 least-triples c (p ∷ []) k s = (from-least c p [] k s, (tt, tt))
 least-triples c (p ∷ q ∷ r) k s =
     let h = from-least c p (q ∷ r) k s in
-    let t = turns-left (edges (c ∷ p ∷ q ∷ r)) k s in
+    let t = turns-left k s in
     (h, triples-fan c p q r h (bends-front p q r c (bends-along p q (r ++ (c ∷ [])) ((p -ᵖ c) ∷ []) (t .1))))
 
 -- read from its least corner, and then from its first
@@ -128,16 +128,16 @@ convex-triples (p ∷ t) h =
     subst Triples (rotate-back s l (omega arith)) (triples-rotate (length l - s) (rotate s l) (subst Triples (sym at) w))
 
 -- joining's words and demand 3's are the same tests
-pub convex-test : (l : List Pt) → StrictlyConvex l → strictlyConvex l ≡ true
+pub convex-test : {l : List Pt} → StrictlyConvex l → strictlyConvex l ≡ true
 unfolding strictlyConvex roundBy left descent
-convex-test l s = rw (pass-all left (turns l) (s .left), count-sum descent (turns l) ∙ s .once)
+convex-test {l} s = rw (pass-all left (turns l) (s .left), count-sum descent (turns l) ∙ s .once)
 
 pub test-convex : (l : List Pt) → strictlyConvex l ≡ true → StrictlyConvex l
 unfolding left descent
 test-convex l h = record { left = all-pass left (turns l) (sharp-counts l h .0); once = sym (count-sum descent (turns l)) ∙ sharp-counts l h .1 }
 
 pub convex-polygon : (l : List Pt) → StrictlyConvex l → Polygon l
-convex-polygon l s = record { long = convex-three l s; triples = convex-triples l (convex-test l s) }
+convex-polygon l s = record { long = convex-three l s; triples = convex-triples l (convex-test s) }
 
 -- ---- the doubled area
 
@@ -146,11 +146,11 @@ triples-area : (a b c : Pt) (l : List Pt) → Triples (a ∷ b ∷ c ∷ l) → 
 triples-area a b c [] h = pos-is (contour-triangle a b c) (h .0 .0 .0)
 triples-area a b c (d ∷ l) h = pos-is (contour-insert a b c (d ∷ l)) (pos-add (triples-area a c d l (h .0 .1, h .1 .1)) (<-≤ (h .0 .0 .0)))
 
-pub polygon-area : (l : List Pt) → Polygon l → pos 0 <ℤ contourArea l
-polygon-area [] h = absurd (omega (arith, h .long))
-polygon-area (a ∷ []) h = absurd (omega (arith, h .long))
-polygon-area (a ∷ b ∷ []) h = absurd (omega (arith, h .long))
-polygon-area (a ∷ b ∷ c ∷ l) h = triples-area a b c l (h .triples)
+pub polygon-area : {l : List Pt} → Polygon l → pos 0 <ℤ contourArea l
+polygon-area {l = []} h = absurd (omega (arith, h .long))
+polygon-area {l = a ∷ []} h = absurd (omega (arith, h .long))
+polygon-area {l = a ∷ b ∷ []} h = absurd (omega (arith, h .long))
+polygon-area {l = a ∷ b ∷ c ∷ l} h = triples-area a b c l (h .triples)
 
 -- ---- wedges
 
@@ -188,7 +188,7 @@ joins-left a0 x p b b0 h k =
 triples-round : (x p b : Pt) (l : List Pt) → Triples (x ∷ p ∷ b ∷ l) → Round (edges (x ∷ p ∷ b ∷ l))
 triples-round x p b [] h = round-triangle x p b (h .0 .0 .0)
 triples-round x p b (b0 ∷ l) h =
-    round-join (lastOf b0 l) x p b b0 l refl (h .0 .0 .0) (joins-left (lastOf b0 l) x p b b0 (all-last (Left x p) b0 l (h .0 .0 .1)) (h .1 .0 .0 .0))
+    round-join x p b b0 l refl (h .0 .0 .0) (joins-left (lastOf b0 l) x p b b0 (all-last (Left x p) b0 l (h .0 .0 .1)) (h .1 .0 .0 .0))
     (triples-round x b b0 l (h .0 .1, h .1 .1))
 
 -- over u, v and l on to x and y
@@ -215,11 +215,11 @@ triples-turns : (a b c : Pt) (l : List Pt) → Triples (a ∷ b ∷ c ∷ l) →
 unfolding edges neighbours links
 triples-turns a b c l h = turns-along a b (c ∷ l) a b (triples-bends a b c l h)
 
-pub polygon-convex : (l : List Pt) → Polygon l → StrictlyConvex l
-polygon-convex [] h = absurd (omega (arith, h .long))
-polygon-convex (a ∷ []) h = absurd (omega (arith, h .long))
-polygon-convex (a ∷ b ∷ []) h = absurd (omega (arith, h .long))
-polygon-convex (a ∷ b ∷ c ∷ l) h = record {
+pub polygon-convex : {l : List Pt} → Polygon l → StrictlyConvex l
+polygon-convex {l = []} h = absurd (omega (arith, h .long))
+polygon-convex {l = a ∷ []} h = absurd (omega (arith, h .long))
+polygon-convex {l = a ∷ b ∷ []} h = absurd (omega (arith, h .long))
+polygon-convex {l = a ∷ b ∷ c ∷ l} h = record {
   left = all-map (neighbours (edges (a ∷ b ∷ c ∷ l))) (λ t k. <-ltZ k) (triples-turns a b c l (h .triples));
   once = triples-round a b c l (h .triples) .once;
 }

@@ -19,7 +19,7 @@ use Rattle.convex_pairs.specs.Premise.{MeetsPremise, PartsMeetPremise, P
 
 -- strictly convex, and so once round
 pub meets : (l : List Pt) → StrictlyConvex l → MeetsPremise l
-meets l s = let h = convex-test l s in (h, round-once l (inl (sharp-round l h)))
+meets l s = let h = convex-test s in (h, round-once l (inl (sharp-round l h)))
 
 pub parts-meet-premise : PartsMeetPremise
 parts-meet-premise m h = all-map (parts m) meets (parts-convex m (accepted m h))

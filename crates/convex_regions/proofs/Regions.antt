@@ -81,8 +81,8 @@ module _ (size : ℕ) (m : Mesh) (k : ℕ) (flags : List Bool) (starts : List �
       where
         gathered : (seen : List ℕ) (ps : List (List Pt)) → Marked flags seen → Gathered starts points t ps → Gathered starts′ points′ (record { parts = t .parts + 1; corners = n }) (ps ++ (contourZ (zipped m seen k) ∷ []))
         gathered seen ps h q =
-            let new : withoutStraight (contourAt cs′ p) ≡ contourZ (zipped m seen k) = ap withoutStraight (sym (contour-zipper cs′ es′ flags′ p seen (zipped m seen k) (g .sound .ready .corners) (contour-whole .placed) (g .holds seen h))) in
-            subst (λ l. Gathered starts′ points′ (record { parts = t .parts + 1; corners = n }) (ps ++ (l ∷ []))) new (part-appended (withoutStraight (contourAt cs′ p)) starts points t start-room a e .gathered ps q)
+            let new : withoutStraight (contourAt cs′ p) ≡ contourZ (zipped m seen k) = ap withoutStraight (sym (contour-zipper (g .sound .ready .corners) (contour-whole .placed) (g .holds seen h))) in
+            subst (λ l. Gathered starts′ points′ (record { parts = t .parts + 1; corners = n }) (ps ++ (l ∷ []))) new (part-appended starts t start-room a e .gathered ps q)
 
 -- ---- a triangle visited
 
@@ -160,8 +160,8 @@ module _ (size starts-size points-size : ℕ) (m : Mesh) where
     rest = refl;
   }
 
-  pub visiting-turn : {cs : List (List ℤ)} {es : List (List ℕ)} {flags : List Bool} {starts : List ℕ} {points : List (List ℤ)} {t : Tally} {cs′ : List (List ℤ)} {es′ : List (List ℕ)} {flags′ : List Bool} {starts′ : List ℕ} {points′ : List (List ℤ)} {t′ : Tally} (k : ℕ) → k < length m → Visiting size starts-size points-size m cs es flags starts points t k → Visited (length cs) m k flags starts points t cs′ es′ flags′ starts′ points′ t′ → Visiting size starts-size points-size m cs′ es′ flags′ starts′ points′ t′ (k + 1)
-  visiting-turn k l v h =
+  pub visiting-turn : {cs : List (List ℤ)} {es : List (List ℕ)} {flags : List Bool} {starts : List ℕ} {points : List (List ℤ)} {t : Tally} {cs′ : List (List ℤ)} {es′ : List (List ℕ)} {flags′ : List Bool} {starts′ : List ℕ} {points′ : List (List ℤ)} {t′ : Tally} {k : ℕ} → k < length m → Visiting size starts-size points-size m cs es flags starts points t k → Visited (length cs) m k flags starts points t cs′ es′ flags′ starts′ points′ t′ → Visiting size starts-size points-size m cs′ es′ flags′ starts′ points′ t′ (k + 1)
+  visiting-turn {k} l v h =
       let w = visited-there (v .ready) h in
       let z = zipped m (v .seen) k in
       let d = drop (k + 1) (upTo (length m)) in
@@ -177,9 +177,9 @@ module _ (size starts-size points-size : ℕ) (m : Mesh) where
         rest = next-same (isIn k (v .seen)) (v .ps) z (λ s. regionsZ m s d) (v .seen) (v .seen ++ z .taken) ∙ ap (λ r. v .ps ++ map contourZ r) (sym (regions-turn m (v .seen) k l)) ∙ v .rest;
       }
 
-  pub visiting-end : {cs : List (List ℤ)} {es : List (List ℕ)} {flags : List Bool} {starts : List ℕ} {points : List (List ℤ)} {t : Tally} (k : ℕ) → length m ≤ k → Visiting size starts-size points-size m cs es flags starts points t k → Gathered starts points t (parts m) × (t .parts ≤ length m) × (t .corners ≤ 3 * length m)
+  pub visiting-end : {cs : List (List ℤ)} {es : List (List ℕ)} {flags : List Bool} {starts : List ℕ} {points : List (List ℤ)} {t : Tally} {k : ℕ} → length m ≤ k → Visiting size starts-size points-size m cs es flags starts points t k → Gathered starts points t (parts m) × (t .parts ≤ length m) × (t .corners ≤ 3 * length m)
   unfolding regionsZ
-  visiting-end {starts = starts} {points = points} {t = t} k h v = (
+  visiting-end {starts = starts} {points = points} {t = t} {k} h v = (
     subst (Gathered starts points t) (sym (append-nil (v .ps)) ∙ ap (λ d. v .ps ++ map contourZ (regionsZ m (v .seen) d)) (sym (drop-of-length-le (upTo (length m)) {i = k} (omega (arith, length-upTo (length m))))) ∙ v .rest ∙ parts-zipped m (accepted m (v .ready .accepted))) (v .gathered),
     omega (arith, v .room .parts),
     omega (arith, v .room .corners),

@@ -102,8 +102,8 @@ module _ (cs : List (List ℤ)) where
   pub around-end-pending : (n d : ℕ) → 1 < n → n ≤ length cs → d ≤ length cs → getD (around cs n d) (length (around cs n d) - 1) O ≡ cornerIn cs (n - 2)
   around-end-pending n d h k l = around-past n d (length (around cs n d) - 1) (n - 2) l (omega (arith, length-around n d k)) (omega arith)
 
-  pub around-end-done : (n d : ℕ) → n ≡ 1 → n ≤ length cs → d < length cs → getD (around cs n d) (length (around cs n d) - 1) O ≡ cornerIn cs (length cs - 1)
-  around-end-done n d h k l =
+  pub around-end-done : {n : ℕ} (d : ℕ) → n ≡ 1 → n ≤ length cs → d < length cs → getD (around cs n d) (length (around cs n d) - 1) O ≡ cornerIn cs (length cs - 1)
+  around-end-done {n} d h k l =
       around-at n d (length (around cs n d) - 1) (omega (arith, length-around n d k)) ∙ ap (cornerIn cs) (omega (arith, length-around n d k))
 
 -- ---- what `Around` gives
@@ -119,11 +119,11 @@ module _ (cs : List (List ℤ)) (n d : ℕ) (a : Around cs n d) where
   around-below h = around-end-pending cs n d h (omega (arith, a .room, a .whole)) (a .whole)
 
   pub around-back : n ≤ 1 → getD (around cs n d) (length (around cs n d) - 1) O ≡ cornerIn cs (length cs - 1)
-  around-back h = around-end-done cs n d (omega (arith, a .some)) (omega (arith, a .room, a .whole)) (omega (arith, a .three))
+  around-back h = around-end-done cs d (omega (arith, a .some)) (omega (arith, a .room, a .whole)) (omega (arith, a .three))
 
 -- the side of a row that names a triangle
 pub side-below : {j : ℕ} (t : List ℤ) (k : ℕ) → j ≡ opposite (rowTriangle t) k → j < 3
 side-below t k e = omega (arith, e, opposite-side (rowTriangle t) k)
 
-pub around-of : (size : ℕ) (m : Mesh) (cs : List (List ℤ)) (es : List (List ℕ)) (flags : List Bool) (p : Progress) → Sound size m cs es flags p → 0 < p .pending → Around cs (p .pending) (p .done)
-around-of size m cs es flags p s some = record { some = some; room = omega (arith, s .room); whole = omega (arith, s .whole, s .ready .corners); three = omega (arith, s .three, s .ready .corners); grid = s .ready .grid }
+pub around-of : {size : ℕ} {m : Mesh} {cs : List (List ℤ)} {es : List (List ℕ)} {flags : List Bool} {p : Progress} → Sound size m cs es flags p → 0 < p .pending → Around cs (p .pending) (p .done)
+around-of s some = record { some = some; room = omega (arith, s .room); whole = omega (arith, s .whole, s .ready .corners); three = omega (arith, s .three, s .ready .corners); grid = s .ready .grid }

@@ -14,10 +14,10 @@ module _ (from : List ℤ) (at : ℕ) (out₀ : List ℤ) where
   pub copied-start : Copied from at 0 out₀ out₀
   copied-start = record { size = refl; written = λ front old e o. o ∙ ap (λ l. overlay l old) (sym (append-nil front)) }
 
-  pub copied-next : (i : ℕ) {out : List ℤ} {v : ℤ} → i < length from → 2 * at + i < length out₀ → v ≡ getD from i (pos 0) → Copied from at i out₀ out → Copied from at (i + 1) out₀ (set out (2 * at + i) v)
-  copied-next i {out} {v} h k e c = record {
+  pub copied-next : {i : ℕ} {out : List ℤ} {v : ℤ} → i < length from → 2 * at + i < length out₀ → v ≡ getD from i (pos 0) → Copied from at i out₀ out → Copied from at (i + 1) out₀ (set out (2 * at + i) v)
+  copied-next {i} {out} {v} h k e c = record {
     size = length-set out (2 * at + i) v ∙ c .size;
     written = λ front old f o.
-        copy-turn-past front from old i (2 * at + i) (pos 0) (omega (arith, f)) h
+        copy-turn-past front from old i (pos 0) (omega (arith, f)) h
         (omega (arith, k, f, ap length (o ∙ overlay-eq front old), length-append front (drop (length front) old), length-drop (length front) old)) (c .written front old f o) e;
   }

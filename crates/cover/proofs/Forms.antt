@@ -158,7 +158,7 @@ record Bound (d : ℤ) : Type 0 where
 
 bound : (d : ℤ) → Bound d
 bound d = ⊎-elim
-    (λ h. record { size = d; least = h; holds = λ b y k. nn-is (up d b y) (nn-mul h (low b y k)) })
+    (λ h. record { size = d; least = h; holds = λ b y k. nn-is (up d b y) (nn-mul h (low k)) })
     (λ h. record { size = negℤ d; least = turned d h; holds = λ b y k. nn-is (down d b y) (nn-mul (turned d h) (sub-of-≤ (k .1))) })
     (≤-or-> (pos 0) d)
   where
@@ -168,8 +168,8 @@ bound d = ⊎-elim
     down : (d b y : ℤ) → negℤ d *ℤ b +ℤ d *ℤ y ≡ negℤ d *ℤ (b -ℤ y)
     down = ring (int ∷ int ∷ int ∷ []) (λ d b y. :neg d :* b :+ d :* y :≡ :neg d :* (b :- y)) tt
 
-    low : (b y : ℤ) → AtMost b y → pos 0 ≤ℤ (b +ℤ y)
-    low b y k = omega (zarith, add-parts b y, neg-parts b, k .0)
+    low : {b y : ℤ} → AtMost b y → pos 0 ≤ℤ (b +ℤ y)
+    low {b} {y} k = omega (zarith, add-parts b y, neg-parts b, k .0)
 
     turned : (d : ℤ) → d <ℤ pos 0 → pos 0 ≤ℤ negℤ d
     turned d h = omega (zarith, neg-parts d)
@@ -194,8 +194,8 @@ module _ (f : Form) (q : ℤ) (z : Pt) (hq : pos 0 <ℤ q) (hf : pos 0 <ℤ val 
   enough-above : pos 0 <ℤ enough-near
   enough-above = pos-add {a = pos 1} (omega zarith) (nn-mul (nn-add (bound-x .least) (bound-y .least)) (<-≤ hq))
 
-  form-steady : (m : ℤ) → enough-near ≤ℤ m → (p : ℤ) (w : Pt) → pos 0 <ℤ p → Near m q z p w → pos 0 <ℤ val f p w
-  form-steady m h p w hp c =
+  form-steady : {m : ℤ} → enough-near ≤ℤ m → {p : ℤ} {w : Pt} → pos 0 <ℤ p → Near m q z p w → pos 0 <ℤ val f p w
+  form-steady {m} h {p} {w} hp c =
       let hm : pos 0 <ℤ m = past enough-near m enough-above h in
       pos-cancel (pos-mul hm hq)
       (pos-is (apart (f .d) (f .a) q z m p w (bound-x .size) (bound-y .size))
@@ -220,7 +220,7 @@ steady (f ∷ Fs) q z hq h =
     record {
       n = r .n +ℤ n;
       above = pos-add (r .above) (<-≤ above);
-      all = λ m k p w hp c. (form-steady f q z hq (h .0) m (second (r .n) n m (r .above) k) p w hp c, r .all m (first (r .n) n m above k) p w hp c);
+      all = λ m k p w hp c. (form-steady f q z hq (h .0) (second (r .n) n m (r .above) k) hp c, r .all m (first (r .n) n m above k) p w hp c);
     }
 
 -- the square as four forms, each q² at its middle

@@ -115,8 +115,8 @@ module _ (A B K : List Pt) (a : Turning A) (b : Turning B) (covers : (q : ℤ) (
 
   strict-overlap : StrictlyInside K q z → Overlap A B q z
   strict-overlap i =
-      let x = mid A a in
-      let y = mid B b in
+      let x = mid a in
+      let y = mid b in
       overlap-away (y .q *ℤ x .q) (y .q ·ᵖ x .z) (x .q ·ᵖ y .z) (strict-scale A (y .q) (x .q) (x .z) (y .above) (x .strict))
       (subst (λ p. StrictlyInside B p (x .q ·ᵖ y .z)) (*ℤ-comm (x .q) (y .q)) (strict-scale B (x .q) (y .q) (y .z) (x .above) (y .strict))) i
 

@@ -57,7 +57,7 @@ forms-all P (e ∷ m) = by-test (isZero (e .1 -ᵖ e .0))
     (λ t. rw t (λ h. (inl (sym (sub-zero (isZero-true (e .1 -ᵖ e .0) t))), forms-all P m .0 h), λ h. forms-all P m .1 (h .1)))
     (λ t. rw t (
       λ h. (inr (h .0), forms-all P m .0 (h .1)),
-      λ h. (⊎-elim (λ z. absurd (isZero-false (e .1 -ᵖ e .0) t (no-length z))) (λ k. k) (h .0), forms-all P m .1 (h .1)),
+      λ h. (⊎-elim (λ z. absurd (isZero-false t (no-length z))) (λ k. k) (h .0), forms-all P m .1 (h .1)),
     ))
 
 pub forms-nonzero : (l : List Pt) → All (λ f. f .d ≡ O → ⊥) (forms l)
@@ -66,7 +66,7 @@ forms-nonzero l = of (neighbours l)
   where
     of : (m : List (Pt × Pt)) → All (λ f. f .d ≡ O → ⊥) (formsOf m)
     of [] = tt
-    of (e ∷ m) = by-test (isZero (e .1 -ᵖ e .0)) (λ t. rw t (of m)) (λ t. rw t (isZero-false (e .1 -ᵖ e .0) t, of m))
+    of (e ∷ m) = by-test (isZero (e .1 -ᵖ e .0)) (λ t. rw t (of m)) (λ t. rw t (isZero-false t, of m))
 
 pub strict-forms : (l : List Pt) (q : ℤ) (z : Pt) → StrictlyInside l q z → All (λ f. pos 0 <ℤ val f q z) (forms l)
 strict-forms l q z h = forms-all (λ f. pos 0 <ℤ val f q z) (neighbours l) .1 (all-map (neighbours l) (λ e k. ⊎-elim inl (λ s. inr (pos-is (form-side e q z) s)) k) h)
@@ -139,8 +139,8 @@ mid-edge l w e k n =
     flat : (r : Pt) (a : ℤ) (x y : Pt) → (cross r x +ℤ a) ≡ pos 0 → (cross r y +ℤ a) ≡ pos 0 → cross (y -ᵖ x) r ≡ pos 0
     flat = arithℤ (pt ∷ int ∷ pt ∷ pt ∷ []) (λ r a x y. crossE r x :+ a := con (pos 0) ⇒ crossE r y :+ a := con (pos 0) ⇒ crossE (y -E x) r := con (pos 0)) (omega arith)
 
-pub mid : (l : List Pt) → Turning l → Mid l
-mid l r = record {
+pub mid : {l : List Pt} → Turning l → Mid l
+mid {l} r = record {
   q = pos (length l);
   z = sumᵖ l;
   above = omega (zarith, filled l r);

@@ -22,7 +22,7 @@ use Rattle.cover.proofs.Strict.{forms, forms-nonzero, strict-forms, for
 -- ---- a point strictly inside one contour
 
 pub inner-of-some : (L : List (List Pt)) (q : ℤ) (z : Pt) → pos 0 <ℤ q → Any (λ l. StrictlyInside l q z) L → Inner L q z
-inner-of-some L q z hq h = any-find (λ l. StrictlyInside l q z) L h (λ l among s.
+inner-of-some L q z hq h = any-find L h (λ l among s.
     let y = steady (forms l) q z hq (strict-forms l q z s) in
     record {
       n = y .n;
@@ -45,13 +45,13 @@ all-nonzero L = all-flatten (λ f. f .d ≡ O → ⊥) (map forms L) .1 (all-ima
 
 covered-strict : (L : List (List Pt)) (q : ℤ) (z : Pt) → All (Off q z) (allForms L) → Covered L q z → Any (λ l. StrictlyInside l q z) L
 covered-strict L q z h c =
-    any-map2 (λ l. All (Off q z) (forms l)) (λ l. Inside l q z) (λ l. StrictlyInside l q z) L (λ l off i. off-strict l q z off i) (all-image (All (Off q z)) forms L .0 (all-flatten (Off q z) (map forms L) .0 h)) c
+    any-map2 (λ l. StrictlyInside l q z) L (λ l off i. off-strict l q z off i) (all-image (All (Off q z)) forms L .0 (all-flatten (Off q z) (map forms L) .0 h)) c
 
 -- ---- the second piece moved by z/q
 
 -- as near as before: both points moved back
-near-moved : (n k q : ℤ) (u z : Pt) (p : ℤ) (w : Pt) → pos 0 <ℤ q → Near n (k *ℤ q) u p w → Near n (k *ℤ q) (u -ᵖ k ·ᵖ z) (p *ℤ q) (q ·ᵖ w -ᵖ p ·ᵖ z)
-near-moved n k q u z p w hq c = record { across = back (u .x) (z .x) (w .x) (c .across); upward = back (u .y) (z .y) (w .y) (c .upward) }
+near-moved : {n : ℤ} (k q : ℤ) {u : Pt} (z : Pt) {p : ℤ} {w : Pt} → pos 0 <ℤ q → Near n (k *ℤ q) u p w → Near n (k *ℤ q) (u -ᵖ k ·ᵖ z) (p *ℤ q) (q ·ᵖ w -ᵖ p ·ᵖ z)
+near-moved {n} k q {u} z {p} {w} hq c = record { across = back (u .x) (z .x) (w .x) (c .across); upward = back (u .y) (z .y) (w .y) (c .upward) }
   where
     shift : (n k q u z p w : ℤ) → q *ℤ (n *ℤ ((k *ℤ q) *ℤ w -ℤ p *ℤ u)) ≡ n *ℤ ((k *ℤ q) *ℤ (q *ℤ w -ℤ p *ℤ z) -ℤ (p *ℤ q) *ℤ (u -ℤ k *ℤ z))
     shift = ring (int ∷ int ∷ int ∷ int ∷ int ∷ int ∷ int ∷ []) (λ n k q u z p w. q :* (n :* ((k :* q) :* w :- p :* u)) :≡ n :* ((k :* q) :* (q :* w :- p :* z) :- (p :* q) :* (u :- k :* z))) tt
@@ -96,7 +96,7 @@ module _ (X Y : List (List Pt)) (q : ℤ) (z : Pt) (hq : pos 0 <ℤ q) where
       let off = all-append (Off (w .q) (w .z)) (allForms X) (map moved (allForms Y)) .0 (w .off) in
       let x : Covered X (w .q) (w .z) = o .first .near (w .q) (w .z) (w .above) (box-near i r (o .u) (w .q) (w .z) (near .0)) in
       let y : Covered Y (w .q *ℤ q) (q ·ᵖ w .z -ᵖ w .q ·ᵖ z) =
-      o .second .near (w .q *ℤ q) (q ·ᵖ w .z -ᵖ w .q ·ᵖ z) (pos-mul (w .above) hq) (near-moved j (o .k) q (o .u) z (w .q) (w .z) hq (box-near j r (o .u) (w .q) (w .z) (near .1))) in
+      o .second .near (w .q *ℤ q) (q ·ᵖ w .z -ᵖ w .q ·ᵖ z) (pos-mul (w .above) hq) (near-moved (o .k) q z hq (box-near j r (o .u) (w .q) (w .z) (near .1))) in
       common (w .q) (w .z) (w .above) (covered-strict X (w .q) (w .z) (off .0) x) (covered-strict Y (w .q *ℤ q) (q ·ᵖ w .z -ᵖ w .q ·ᵖ z) (from-moved (w .q) (w .z) (off .1)) y)
     where
       from-moved : (p : ℤ) (w : Pt) → All (Off p w) (map (movedForm q z) (allForms Y)) → All (Off (p *ℤ q) (q ·ᵖ w -ᵖ p ·ᵖ z)) (allForms Y)
@@ -104,7 +104,7 @@ module _ (X Y : List (List Pt)) (q : ℤ) (z : Pt) (hq : pos 0 <ℤ q) where
 
   wholes-of-parts : SomePair (λ A B. Overlap A B q z) X Y → Overlapping X Y q z
   wholes-of-parts h =
-      any-find (λ A. Any (λ B. Overlap A B q z) Y) X h (λ A among-x k. any-find (λ B. Overlap A B q z) Y k (λ B among-y o.
+      any-find X h (λ A among-x k. any-find Y k (λ B among-y o.
       let hr : pos 0 <ℤ (o .k *ℤ q) = pos-mul (o .above) hq in
       record {
         k = o .k;
@@ -119,14 +119,14 @@ wholes-overlap X Y q z hq = (parts-overlap X Y q z hq, wholes-of-parts X Y q z h
 
 -- ---- pieces that cover the same
 
-same-inner : (K L : List (List Pt)) → SameCover K L → (q : ℤ) (z : Pt) → Inner K q z → Inner L q z
-same-inner K L f q z i = record { n = i .n; above = i .above; near = λ p w hp c. f p w hp .0 (i .near p w hp c) }
+same-inner : {K L : List (List Pt)} → SameCover K L → {q : ℤ} {z : Pt} → Inner K q z → Inner L q z
+same-inner f i = record { n = i .n; above = i .above; near = λ p w hp c. f p w hp .0 (i .near p w hp c) }
 
-pub same-overlap : (X Y S T : List (List Pt)) → SameCover X S → SameCover Y T → (q : ℤ) (z : Pt) → Overlapping X Y q z → Overlapping S T q z
-same-overlap X Y S T f g q z o = record {
+pub same-overlap : {X Y S T : List (List Pt)} → SameCover X S → SameCover Y T → {q : ℤ} {z : Pt} → Overlapping X Y q z → Overlapping S T q z
+same-overlap f g o = record {
   k = o .k;
   u = o .u;
   above = o .above;
-  first = same-inner X S f (o .k *ℤ q) (o .u) (o .first);
-  second = same-inner Y T g (o .k *ℤ q) (o .u -ᵖ o .k ·ᵖ z) (o .second);
+  first = same-inner f (o .first);
+  second = same-inner g (o .second);
 }

@@ -41,7 +41,7 @@ record SumOf (reflected : Bool) (X Y : List (List Pt)) (q : ℤ) (z : Pt) : Type
 
 sums : (reflected : Bool) (X Y : List (List Pt)) (q : ℤ) (z : Pt) → SomePair (λ A B. Sum reflected A B q z) X Y ↔ SumOf reflected X Y q z
 sums reflected X Y q z = (
-  λ h. any-find (λ A. Any (λ B. Sum reflected A B q z) Y) X h (λ A among-x k. any-find (λ B. Sum reflected A B q z) Y k (λ B among-y s. record {
+  λ h. any-find X h (λ A among-x k. any-find Y k (λ B among-y s. record {
     k = s .k;
     u = s .u;
     v = s .v;
@@ -53,8 +53,8 @@ sums reflected X Y q z = (
   λ s. any-map X (λ A a. any-map Y (λ B b. record { k = s .k; u = s .u; v = s .v; above = s .above; first = a; second = b; sum = s .sum }) (s .second)) (s .first),
 )
 
-sum-same : (reflected : Bool) (X Y X′ Y′ : List (List Pt)) (q : ℤ) (z : Pt) → pos 0 <ℤ q → SameCover X X′ → SameCover Y Y′ → SumOf reflected X Y q z → SumOf reflected X′ Y′ q z
-sum-same reflected X Y X′ Y′ q z hq f g s = record {
+sum-same : {reflected : Bool} {X Y X′ Y′ : List (List Pt)} {q : ℤ} {z : Pt} → pos 0 <ℤ q → SameCover X X′ → SameCover Y Y′ → SumOf reflected X Y q z → SumOf reflected X′ Y′ q z
+sum-same {q} hq f g s = record {
   k = s .k;
   u = s .u;
   v = s .v;
@@ -68,23 +68,23 @@ pub same-back : (X Y : List (List Pt)) → SameCover X Y → SameCover Y X
 same-back X Y f q z hq = Iff·symm (f q z hq)
 
 -- a polygon runs counter-clockwise
-pub polygon-ccw : (l : List Pt) → Polygon l → anticlockwise l ≡ l
+pub polygon-ccw : {l : List Pt} → Polygon l → anticlockwise l ≡ l
 unfolding anticlockwise
-polygon-ccw l p = ap (λ b. cond b (reverse l) l) (≤-ltZ {x = contourArea l} {y = pos 0} (<-≤ (polygon-area l p)))
+polygon-ccw {l} p = ap (λ b. cond b (reverse l) l) (≤-ltZ {x = contourArea l} {y = pos 0} (<-≤ (polygon-area p)))
 
-pub polygon-once : (l : List Pt) → Polygon l → onceRound l ≡ true
-polygon-once l p = meets l (polygon-convex l p) .1
+pub polygon-once : {l : List Pt} → Polygon l → onceRound l ≡ true
+polygon-once {l} p = meets l (polygon-convex p) .1
 
-pair-sum : (reflected : Bool) (A B : List Pt) → Polygon A → Polygon B → (q : ℤ) (z : Pt) → pos 0 <ℤ q → Inside (pairContour reflected A B) q z ↔ Sum reflected A B q z
-pair-sum reflected A B a b q z hq =
-    subst₂ (λ C D. Inside (pairContour reflected A B) q z ↔ Sum reflected C D q z) (polygon-ccw A a) (polygon-ccw B b)
-    (pair-covers reflected A B (polygon-once A a) (polygon-once B b) q z hq)
+pair-sum : (reflected : Bool) {A B : List Pt} → Polygon A → Polygon B → (q : ℤ) (z : Pt) → pos 0 <ℤ q → Inside (pairContour reflected A B) q z ↔ Sum reflected A B q z
+pair-sum reflected {A} {B} a b q z hq =
+    subst₂ (λ C D. Inside (pairContour reflected A B) q z ↔ Sum reflected C D q z) (polygon-ccw a) (polygon-ccw b)
+    (pair-covers reflected A B (polygon-once a) (polygon-once b) q z hq)
 
 -- ---- pairs
 
 -- R and S of a pair of each
-pub pairs-iff : {A B : Type 0} (R S : A → B → Type 0) (P : A → Type 0) (Q : B → Type 0) (X : List A) (Y : List B) → ((a : A) (b : B) → P a → Q b → R a b ↔ S a b) → All P X → All Q Y → SomePair R X Y ↔ SomePair S X Y
-pairs-iff R S P Q X Y f h k = any-iff (λ a. Any (R a) Y) (λ a. Any (S a) Y) X (all-map X (λ a p. any-iff (R a) (S a) Y (all-map Y (λ b r. f a b p r) k)) h)
+pub pairs-iff : {A B : Type 0} (R S : A → B → Type 0) {P : A → Type 0} {Q : B → Type 0} (X : List A) (Y : List B) → ((a : A) (b : B) → P a → Q b → R a b ↔ S a b) → All P X → All Q Y → SomePair R X Y ↔ SomePair S X Y
+pairs-iff R S X Y f h k = any-iff (λ a. Any (R a) Y) (λ a. Any (S a) Y) X (all-map X (λ a p. any-iff (R a) (S a) Y (all-map Y (λ b r. f a b p r) k)) h)
 
 pub pairs-image : {A B C D : Type 0} (R : C → D → Type 0) (f : A → C) (g : B → D) (X : List A) (Y : List B) → SomePair R (map f X) (map g Y) ↔ SomePair (λ a b. R (f a) (g b)) X Y
 pairs-image R f g X Y = Iff·trans (any-image (λ c. Any (R c) (map g Y)) f X)
@@ -107,7 +107,7 @@ pairs-cover reflected how m mesh how′ m′ mesh′ h k q z hq =
     let f : SameCover X S = split-parts-cover how m mesh h in
     let g : SameCover Y T = split-parts-cover how′ m′ mesh′ k in
     Iff·trans (any-pairs (λ l. Inside l q z) reflected X Y)
-    (Iff·trans (pairs-iff (λ A B. Inside (pairContour reflected A B) q z) (λ A B. Sum reflected A B q z) Polygon Polygon X Y (λ A B a b. pair-sum reflected A B a b q z hq) (split-polygons how m mesh h) (split-polygons how′ m′ mesh′ k))
+    (Iff·trans (pairs-iff (λ A B. Inside (pairContour reflected A B) q z) (λ A B. Sum reflected A B q z) X Y (λ A B a b. pair-sum reflected a b q z hq) (split-polygons how m mesh h) (split-polygons how′ m′ mesh′ k))
     (Iff·trans (sums reflected X Y q z)
-    (Iff·trans (sum-same reflected X Y S T q z hq f g, sum-same reflected S T X Y q z hq (same-back X S f) (same-back Y T g))
+    (Iff·trans (sum-same hq f g, sum-same hq (same-back X S f) (same-back Y T g))
     (Iff·trans (Iff·symm (sums reflected S T q z)) (pairs-image (λ A B. Sum reflected A B q z) triangleContour triangleContour mesh mesh′)))))

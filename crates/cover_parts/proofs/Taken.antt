@@ -32,7 +32,7 @@ module _ (m : Mesh) (s : List ℕ) (c : List ℤ) (h : partsFault m (length s) (
   count-parts = length-map (regions m) contourOf
 
   left : firstContours (length (regions m)) (partsStarts m s c) (partsCorners m s c) ≡ parts m
-  left = contours-left (parts m) (length (regions m)) (partsFault m (length s) (length c)) s c (sym count-parts) h
+  left = contours-left (parts m) s c (sym count-parts) h
 
   part : (k : ℕ) → partLeft m s c k ≡ contourOf (regionAt m k)
   unfolding parts contourOf withoutStraight placeOf rotate

@@ -82,10 +82,10 @@ module _ (q c d : ℕ) where
 -- points to the side that comes first there
 
 pub turned-by :
-    (v : Pt) {w h : ℕ} (low first : Bool) → w ≡ natAbs (v .x) → h ≡ natAbs (v .y) → low ≡ lower v → first ≡ cond low (ltZ (v .x) (pos 0)) (ltZ (pos 0) (v .x)) →
+    (v : Pt) {w h : ℕ} {low first : Bool} → w ≡ natAbs (v .x) → h ≡ natAbs (v .y) → low ≡ lower v → first ≡ cond low (ltZ (v .x) (pos 0)) (ltZ (pos 0) (v .x)) →
     turnedBack v ≡ turnedAs (cond low 2 0 + cond first 0 1) (cond first w h) (cond first h w)
 unfolding turnedBack
-turned-by v true true ew eh el ef = rw (sym el, sym ef, ew, eh)
-turned-by v true false ew eh el ef = rw (sym el, sym ef, ew, eh)
-turned-by v false true ew eh el ef = rw (sym el, sym ef, ew, eh)
-turned-by v false false ew eh el ef = rw (sym el, sym ef, ew, eh)
+turned-by v {low = true} {first = true} ew eh el ef = rw (sym el, sym ef, ew, eh)
+turned-by v {low = true} {first = false} ew eh el ef = rw (sym el, sym ef, ew, eh)
+turned-by v {low = false} {first = true} ew eh el ef = rw (sym el, sym ef, ew, eh)
+turned-by v {low = false} {first = false} ew eh el ef = rw (sym el, sym ef, ew, eh)

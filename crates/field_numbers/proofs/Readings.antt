@@ -32,9 +32,9 @@ pub is-right : (t : Bool) (n : ℕ) {r : Reading} → r ≡ told t n → r .righ
 is-right true n e h = (refl, ap (λ q. q .bits) e)
 is-right false n e h = absurd (true-false (sym h ∙ ap (λ q. q .right) e))
 
-pub is-wrong : (t : Bool) (n : ℕ) {r : Reading} → r ≡ told t n → r .right ≡ false → (t ≡ false) × (r ≡ record { right = false; bits = 0 })
-is-wrong true n e h = absurd (true-false (sym (ap (λ q. q .right) e) ∙ h))
-is-wrong false n e h = (refl, e)
+pub is-wrong : {t : Bool} (n : ℕ) {r : Reading} → r ≡ told t n → r .right ≡ false → (t ≡ false) × (r ≡ record { right = false; bits = 0 })
+is-wrong {t = true} n e h = absurd (true-false (sym (ap (λ q. q .right) e) ∙ h))
+is-wrong {t = false} n e h = (refl, e)
 
 -- ---- numbers
 
@@ -104,7 +104,7 @@ module _ (l : List ℕ) (h : getD l 0 0 ≡ 45) where
 
   pub no-number-behind : {n : Reading} → n ≡ numberRead 2147483648 (take (length l - 1) (drop 1 l)) → n .right ≡ false → n ≡ coordinateRead l
   no-number-behind e r =
-      let w = is-wrong _ _ (e ∙ ap (numberRead 2147483648) (tail-whole l)) r in
+      let w = is-wrong _ (e ∙ ap (numberRead 2147483648) (tail-whole l)) r in
       told-wrong _ (minus .0 ∙ w .0) (w .1)
 
 -- a number that was read is no larger than it may be

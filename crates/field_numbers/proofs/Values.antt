@@ -43,8 +43,8 @@ pub value-end : (v : ℕ) (l : List ℕ) (i : ℕ) → length l ≤ i → valueF
 value-end v l i h = ap (valueFrom v) (drop-of-length-le l h) ∙ value-none v
 
 -- a digit more, of value d
-pub value-more : (v d : ℕ) (l : List ℕ) (i : ℕ) → i < length l → d ≡ getD l i 0 - 48 → valueFrom v (drop i l) ≡ valueFrom (10 * v + d) (drop (i + 1) l)
-value-more v d l i h e =
+pub value-more : (v : ℕ) {d : ℕ} (l : List ℕ) (i : ℕ) → i < length l → d ≡ getD l i 0 - 48 → valueFrom v (drop i l) ≡ valueFrom (10 * v + d) (drop (i + 1) l)
+value-more v l i h e =
     rw add-one (ap (valueFrom v) (drop-cons l i 0 h) ∙ value-cons v (getD l i 0) (drop (suc i) l) ∙ ap (λ n. valueFrom (10 * v + n) (drop (suc i) l)) (sym e))
 
 -- ---- how large

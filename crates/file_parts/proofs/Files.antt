@@ -40,8 +40,8 @@ module _ (how : ConvexSplitStrategy) (m : ℕ) (mesh : Mesh) where
   room-enough e =
       let s = split-table how m mesh e in
       let n : length (startsOf (splitParts how m mesh)) ≤ 2049 = omega (arith, length-starts (splitParts how m mesh), s .few-parts) in
-      first-next 22 _ _ (le-ltb 2049 (length (startsOf (splitParts how m mesh))) n)
-      ∙ first-next 21 _ _ (le-ltb 6144 (length (flatten (splitParts how m mesh))) (s .few-corners)) ∙ first-empty
+      first-next 22 _ (le-ltb 2049 (length (startsOf (splitParts how m mesh))) n)
+      ∙ first-next 21 _ (le-ltb 6144 (length (flatten (splitParts how m mesh))) (s .few-corners)) ∙ first-empty
 
   kinds-positive : All (λ k. 0 < k .0) (meshKinds mesh)
   kinds-positive = (lit< tt, (lit< tt, (lit< tt, (lit< tt, (lit< tt, (lit< tt, (lit< tt, tt)))))))

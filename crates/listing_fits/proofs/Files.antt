@@ -46,7 +46,7 @@ module _ (how : ConvexSplitStrategy) (m : ℕ) (mesh : Mesh) (h : firstFault (me
   ps = splitParts how m mesh
 
   split-plain : All Plain ps
-  split-plain = all-map2 ps (λ l p g. record { some = above (contourArea l) (polygon-area l p); words = all-map l word g }) (split-polygons how m mesh h) (split-on-grid how m mesh h)
+  split-plain = all-map2 ps (λ l p g. record { some = above (contourArea l) (polygon-area p); words = all-map l word g }) (split-polygons how m mesh h) (split-on-grid how m mesh h)
     where
       above : (z : ℤ) → pos 0 <ℤ z → 0 < natAbs z
       above z k = omega (zarith, abs-parts z)
@@ -62,7 +62,7 @@ module _ (how : ConvexSplitStrategy) (m : ℕ) (mesh : Mesh) (h : firstFault (me
   split-listable = record {
     whole = split-table how m mesh h .table;
     ranged = ap offRange (sym (append-nil (numbersOf (flatten ps)))) ∙ numbers-range (flatten ps) [] (all-flatten (λ p. onGrid p ≡ true) ps .1 (split-on-grid how m mesh h)) refl;
-    above = subst (All (λ p. ltZ (pos 0) (contourArea p) ≡ true)) (sym (parts-table ps)) (all-map ps (λ l p. <-ltZ (polygon-area l p)) (split-polygons how m mesh h));
+    above = subst (All (λ p. ltZ (pos 0) (contourArea p) ≡ true)) (sym (parts-table ps)) (all-map ps (λ l p. <-ltZ (polygon-area p)) (split-polygons how m mesh h));
     below = subst (λ qs. totalArea qs < 2 ^ 63) (sym (parts-table ps)) (listing-total how m mesh h .fits);
   }
 

@@ -46,22 +46,22 @@ below-in n h =
 below-out : (n : ℕ) → 2 ^ 63 < n → inWord (negℤ (pos n)) ≡ false
 below-out n h = rw (<-ltZ {x = negℤ (pos n)} {y = negsuc 9223372036854775807} (omega (zarith, neg-parts (pos n))))
 
-told-in : (z : ℤ) {u : ℤ} → inWord z ≡ true → u ≡ z → record { fault = 0; «area_two» = u } ≡ areaTold z
+told-in : {z : ℤ} {u : ℤ} → inWord z ≡ true → u ≡ z → record { fault = 0; «area_two» = u } ≡ areaTold z
 unfolding areaTold
-told-in z h e = rw (h, e)
+told-in h e = rw (h, e)
 
 told-out : (z : ℤ) → inWord z ≡ false → areaRefused faultTotal ≡ areaTold z
 unfolding areaTold
 told-out z h = rw h
 
 pub above-told : (n : ℕ) {u : ℤ} → n < 2 ^ 63 → u ≡ pos n → record { fault = 0; «area_two» = u } ≡ areaTold (pos n)
-above-told n h e = told-in (pos n) (above-in n h) e
+above-told n h e = told-in (above-in n h) e
 
 pub above-refused : (n : ℕ) → 2 ^ 63 ≤ n → areaRefused faultTotal ≡ areaTold (pos n)
 above-refused n h = told-out (pos n) (above-out n h)
 
 pub below-told : (n : ℕ) {u : ℤ} → n ≤ 2 ^ 63 → u ≡ negℤ (pos n) → record { fault = 0; «area_two» = u } ≡ areaTold (negℤ (pos n))
-below-told n h e = told-in (negℤ (pos n)) (below-in n h) e
+below-told n h e = told-in (below-in n h) e
 
 pub below-refused : (n : ℕ) → 2 ^ 63 < n → areaRefused faultTotal ≡ areaTold (negℤ (pos n))
 below-refused n h = told-out (negℤ (pos n)) (below-out n h)
@@ -86,15 +86,15 @@ value-above p h e = rw (e, h) (ap pos (zero-add (p .words .low)))
 module _ (c : List ℤ) where
   pub contour-7 : ragged c ≡ true → faultRules ≡ contourFault c
   unfolding contourFault
-  contour-7 h = sym (first-this faultRules _ _ h)
+  contour-7 h = sym (first-this faultRules _ h)
 
   pub contour-2 : ragged c ≡ false → offRange c ≡ true → faultRange ≡ contourFault c
   unfolding contourFault
-  contour-2 h o = sym (first-next faultRules _ _ h ∙ first-this faultRange _ [] o)
+  contour-2 h o = sym (first-next faultRules _ h ∙ first-this faultRange [] o)
 
   pub contour-none : ragged c ≡ false → offRange c ≡ false → 0 ≡ contourFault c
   unfolding contourFault
-  contour-none h o = sym (first-next faultRules _ _ h ∙ first-next faultRange _ [] o ∙ first-empty)
+  contour-none h o = sym (first-next faultRules _ h ∙ first-next faultRange [] o ∙ first-empty)
 
   pub contour-ranged : contourFault c ≡ 0 → offRange c ≡ false
   unfolding contourFault
@@ -103,15 +103,15 @@ module _ (c : List ℤ) where
 module _ (s : List ℕ) (c : List ℤ) where
   pub table-7 : resultBroken s c ≡ true → faultRules ≡ tableFault s c
   unfolding tableFault
-  table-7 e = sym (first-this faultRules _ _ e)
+  table-7 e = sym (first-this faultRules _ e)
 
   pub table-2 : resultBroken s c ≡ false → offRange c ≡ true → faultRange ≡ tableFault s c
   unfolding tableFault
-  table-2 e o = sym (first-next faultRules _ _ e ∙ first-this faultRange _ [] o)
+  table-2 e o = sym (first-next faultRules _ e ∙ first-this faultRange [] o)
 
   pub table-none : resultBroken s c ≡ false → offRange c ≡ false → 0 ≡ tableFault s c
   unfolding tableFault
-  table-none e o = sym (first-next faultRules _ _ e ∙ first-next faultRange _ [] o ∙ first-empty)
+  table-none e o = sym (first-next faultRules _ e ∙ first-next faultRange [] o ∙ first-empty)
 
   pub table-accepted : tableFault s c ≡ 0 → Placeable s c
   unfolding tableFault
@@ -129,13 +129,13 @@ module _ (s : List ℕ) (c : List ℤ) where
     unfolding partFault
     part-12 e h =
         let a = table-accepted e in
-        sym (first-next faultRules _ _ (a .whole) ∙ first-next faultRange _ _ (a .ranged) ∙ first-this faultPart _ [] (le-leb _ k h))
+        sym (first-next faultRules _ (a .whole) ∙ first-next faultRange _ (a .ranged) ∙ first-this faultPart [] (le-leb _ k h))
 
     pub part-none : tableFault s c ≡ 0 → k < partCount s → 0 ≡ partFault s c k
     unfolding partFault
     part-none e h =
         let a = table-accepted e in
-        sym (first-next faultRules _ _ (a .whole) ∙ first-next faultRange _ _ (a .ranged) ∙ first-next faultPart _ [] (lt-leb _ k h) ∙ first-empty)
+        sym (first-next faultRules _ (a .whole) ∙ first-next faultRange _ (a .ranged) ∙ first-next faultPart [] (lt-leb _ k h) ∙ first-empty)
 
     pub part-accepted : partFault s c k ≡ 0 → Placeable s c × (k < partCount s)
     unfolding partFault
@@ -146,11 +146,11 @@ module _ (s : List ℕ) (c : List ℤ) where
 
 -- ---- answers
 
-pub behind-refused : (f : ℕ) (z : ℤ) {g : ℕ} {r : Measured} → g ≡ f → (g ≡ 0 → ⊥) → r ≡ areaRefused g → r ≡ areaBehind f z
-behind-refused f z {g} e h p = p ∙ ap areaRefused e ∙ rw (ne-eqb f 0 (λ n. h (e ∙ n)))
+pub behind-refused : {f : ℕ} (z : ℤ) {g : ℕ} {r : Measured} → g ≡ f → (g ≡ 0 → ⊥) → r ≡ areaRefused g → r ≡ areaBehind f z
+behind-refused {f} z {g} e h p = p ∙ ap areaRefused e ∙ rw (ne-eqb f 0 (λ n. h (e ∙ n)))
 
-pub behind-told : (f : ℕ) (z : ℤ) {g : ℕ} {r : Measured} → g ≡ f → g ≡ 0 → r ≡ areaTold z → r ≡ areaBehind f z
-behind-told f z {g} e h p = p ∙ rw (eq-eqb f 0 (sym e ∙ h))
+pub behind-told : {f : ℕ} (z : ℤ) {g : ℕ} {r : Measured} → g ≡ f → g ≡ 0 → r ≡ areaTold z → r ≡ areaBehind f z
+behind-told {f} z {g} e h p = p ∙ rw (eq-eqb f 0 (sym e ∙ h))
 
 -- ---- bounds
 

@@ -31,14 +31,14 @@ module _ (test : ℕ → Triangle → Bool) (rows : List (List ℤ)) where
       some-turn test (rowsMesh rows) k (omega (arith, length-rows rows))
       ∙ ap (λ t. cond (test k t) true (someFrom test (suc k) (drop (suc k) (rowsMesh rows)))) (triangle-row rows k h)
 
-  pub pass-found : (k : ℕ) → k < length rows → Pass test rows k → test k (rowTriangle (getD rows k [])) ≡ true → true ≡ some test (rowsMesh rows)
-  pass-found k h p e = sym (p .rest ∙ turn k h ∙ rw e)
+  pub pass-found : {k : ℕ} → k < length rows → Pass test rows k → test k (rowTriangle (getD rows k [])) ≡ true → true ≡ some test (rowsMesh rows)
+  pass-found {k} h p e = sym (p .rest ∙ turn k h ∙ rw e)
 
-  pub pass-next : (k : ℕ) → k < length rows → Pass test rows k → test k (rowTriangle (getD rows k [])) ≡ false → Pass test rows (k + 1)
-  pass-next k h p e = record { rest = p .rest ∙ turn k h ∙ rw (e, add-one) }
+  pub pass-next : {k : ℕ} → k < length rows → Pass test rows k → test k (rowTriangle (getD rows k [])) ≡ false → Pass test rows (k + 1)
+  pass-next {k} h p e = record { rest = p .rest ∙ turn k h ∙ rw (e, add-one) }
 
-  pub pass-end : (k : ℕ) → length rows ≤ k → Pass test rows k → false ≡ some test (rowsMesh rows)
-  pass-end k h p = sym (p .rest ∙ some-end test (rowsMesh rows) k (omega (arith, length-rows rows)))
+  pub pass-end : {k : ℕ} → length rows ≤ k → Pass test rows k → false ≡ some test (rowsMesh rows)
+  pass-end {k} h p = sym (p .rest ∙ some-end test (rowsMesh rows) k (omega (arith, length-rows rows)))
 
 -- ---- a row
 

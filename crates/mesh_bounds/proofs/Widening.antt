@@ -41,9 +41,9 @@ widened-append b [] m = refl
 widened-append b (p ∷ l) m = widened-append (widened b p) l m
 
 -- three points, one after another
-pub three-points : (t : Triangle) (b b₁ b₂ b₃ : IntRect) (p q s : Pt) → p ≡ vertex t 0 → q ≡ vertex t 1 → s ≡ vertex t 2 → b₁ ≡ widened b p → b₂ ≡ widened b₁ q → b₃ ≡ widened b₂ s → b₃ ≡ widenedBy b (corners t)
+pub three-points : (t : Triangle) (b : IntRect) {b₁ b₂ b₃ : IntRect} {p q s : Pt} → p ≡ vertex t 0 → q ≡ vertex t 1 → s ≡ vertex t 2 → b₁ ≡ widened b p → b₂ ≡ widened b₁ q → b₃ ≡ widened b₂ s → b₃ ≡ widenedBy b (corners t)
 unfolding widenedBy vertex
-three-points t b b₁ b₂ b₃ p q s ep eq es e₁ e₂ e₃ = e₃ ∙ (λ i. widened ((e₂ ∙ (λ j. widened ((e₁ ∙ ap (widened b) ep) j) (eq j))) i) (es i))
+three-points t b ep eq es e₁ e₂ e₃ = e₃ ∙ (λ i. widened ((e₂ ∙ (λ j. widened ((e₁ ∙ ap (widened b) ep) j) (eq j))) i) (es i))
 
 -- ---- rows
 

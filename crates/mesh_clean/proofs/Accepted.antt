@@ -139,4 +139,4 @@ module _ (m : Mesh) (c : clean m ≡ true) (few : length m ≤ maxTriangles) whe
 
   pub clean-accepted : firstFault (meshKinds m) ≡ 0
   clean-accepted =
-      first-next 1 (tooMany m) _ no-many ∙ first-next 2 (offGrid m) _ no-off ∙ first-next 3 (strayNeighbour m) _ no-stray ∙ first-next 4 (misnamed m) _ no-misnamed ∙ first-next 5 (mismatched m) _ no-mismatched ∙ first-next 6 (flat m) _ no-flat ∙ first-next 11 (tooLarge m) _ fits ∙ first-empty
+      first-next 1 _ no-many ∙ first-next 2 _ no-off ∙ first-next 3 _ no-stray ∙ first-next 4 _ no-misnamed ∙ first-next 5 _ no-mismatched ∙ first-next 6 _ no-flat ∙ first-next 11 _ fits ∙ first-empty

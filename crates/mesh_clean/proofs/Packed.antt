@@ -42,5 +42,5 @@ packs-eq {p} {q} {a} {b} g h =
     (λ t. ne-eqb a b (λ e. differ (sym t ∙ ap (eqPt p) (sym (one-point g h e)) ∙ eqPt-refl p)) ∙ sym t)
 
 -- the sum of the two is odd
-pub none-apart : (b : ℕ) → 18446744073709551615 - b ≡ b → ⊥
-none-apart b e = omega arith
+pub none-apart : {b : ℕ} → 18446744073709551615 - b ≡ b → ⊥
+none-apart e = omega arith

@@ -21,9 +21,9 @@ use Rattle.mesh_clean.specs.Clean.{namesBefore, namesAfter, sidesWith, s
 use Rattle.mesh_clean.proofs.Sides.{Meets, Shared, vertices, round}
 
 -- where a side names n, so does the first that does
-first-names : (t : Triangle) (n i : ℕ) → neighbour t i ≡ n → neighbour t (opposite t n) ≡ n
+first-names : (t : Triangle) {n : ℕ} (i : ℕ) → neighbour t i ≡ n → neighbour t (opposite t n) ≡ n
 unfolding opposite neighbour
-first-names t n i e =
+first-names t {n} i e =
     by-test (eqb (t .n0) n) (λ x. rw x (eqb-true (t .n0) n x))
     (λ x. rw x (by-test (eqb (t .n1) n) (λ y. rw y (eqb-true (t .n1) n y)) (λ y. rw y (last i e x y))))
   where
@@ -39,16 +39,16 @@ module _ (m : Mesh) (test : ℕ → ℕ → Bool) where
   abbrev pub passes : ℕ → Bool
   passes c = test (c / 3) (neighbour (triangleAt m (c / 3)) (c % 3))
 
-  passes-side : (k i c : ℕ) → i < 3 → c ≡ 3 * k + i → passes c ≡ test k (neighbour (triangleAt m k) i)
-  passes-side k i c h e =
+  passes-side : (k i : ℕ) {c : ℕ} → i < 3 → c ≡ 3 * k + i → passes c ≡ test k (neighbour (triangleAt m k) i)
+  passes-side k i {c} h e =
       let d : c / 3 ≡ k = omega arith in
       let r : c % 3 ≡ i = omega arith in
       λ z. test (d z) (neighbour (triangleAt m (d z)) (r z))
 
-  counted-row : (k : ℕ) (t : Triangle) → triangleAt m k ≡ t → sidesWith test k t + counted passes (3 * k) ≡ counted passes (3 * suc k)
+  counted-row : (k : ℕ) {t : Triangle} → triangleAt m k ≡ t → sidesWith test k t + counted passes (3 * k) ≡ counted passes (3 * suc k)
   unfolding counted sidesWith neighbour
-  counted-row k t e =
-      let at : (i c : ℕ) → i < 3 → c ≡ 3 * k + i → passes c ≡ test k (neighbour t i) = λ i c h q. passes-side k i c h q ∙ ap (λ u. test k (neighbour u i)) e in
+  counted-row k {t} e =
+      let at : (i c : ℕ) → i < 3 → c ≡ 3 * k + i → passes c ≡ test k (neighbour t i) = λ i c h q. passes-side k i h q ∙ ap (λ u. test k (neighbour u i)) e in
       let n : 3 * suc k ≡ suc (suc (suc (3 * k))) = omega arith in
       let a = at 0 (3 * k) (omega arith) (omega arith) in
       let b = at 1 (suc (3 * k)) (omega arith) (omega arith) in
@@ -59,7 +59,7 @@ module _ (m : Mesh) (test : ℕ → ℕ → Bool) where
   unfolding sidesFrom
   sides-counted k [] f = omega (arith, ap (λ n. counted passes (3 * n)) (let e : k ≡ k + 0 = omega arith in e))
   sides-counted k (t ∷ l) f =
-      let r = counted-row k t (ap (triangleAt m) (omega arith) ∙ f 0 (omega arith)) in
+      let r = counted-row k (ap (triangleAt m) (omega arith) ∙ f 0 (omega arith)) in
       let s = sides-counted (suc k) l (λ j h. ap (triangleAt m) (omega arith) ∙ f (suc j) (omega arith)) in
       omega (arith, r, s, ap (λ n. counted passes (3 * n)) (let e : k + suc (length l) ≡ suc k + length l = omega arith in e))
 
@@ -98,7 +98,7 @@ module _ (m : Mesh) (few : length m ≤ maxTriangles) (area : (k : ℕ) → k < 
       let a = earlier k i (omega arith) (omega arith) l in
       let b = opposite-side (triangleAt m n) k in
       let later : namesAfter n k ≡ true = rw (le-ltb k n (omega arith), ne-eqb k none (omega arith)) in
-      (omega arith, passes-side m namesAfter n (back k i) (across c) b refl ∙ ap (namesAfter n) (a .names) ∙ later)
+      (omega arith, passes-side m namesAfter n (back k i) b refl ∙ ap (namesAfter n) (a .names) ∙ later)
 
   apart : (b c : ℕ) → b < 3 * length m → c < 3 * length m → passes m namesBefore b ≡ true → passes m namesBefore c ≡ true → across b ≡ across c → b ≡ c
   apart b c hb hc eb ec e =
@@ -130,7 +130,7 @@ module _ (m : Mesh) (few : length m ≤ maxTriangles) (area : (k : ℕ) → k < 
 
     met-by : n ≤ named n j → MetBy
     met-by g =
-        let o = onto (passes m namesBefore) (passes m namesAfter) across (3 * length m) into apart no-more (3 * n + j) (omega arith) (passes-side m namesAfter n j (3 * n + j) h refl ∙ rw (le-ltb (named n j) n g, ne-eqb (named n j) none d)) in
+        let o = onto (passes m namesBefore) (passes m namesAfter) across (3 * length m) into apart no-more (3 * n + j) (omega arith) (passes-side m namesAfter n j h refl ∙ rw (le-ltb (named n j) n g, ne-eqb (named n j) none d)) in
         let k = o .0 / 3 in
         let i = o .0 % 3 in
         let b = opposite-side (triangleAt m (named k i)) k in
@@ -156,7 +156,7 @@ module _ (m : Mesh) (few : length m ≤ maxTriangles) (area : (k : ℕ) → k < 
         let k = s .k in
         let t = triangleAt m k in
         let w = s .later in
-        let o = first-names t n (s .i) (s .names) in
+        let o = first-names t (s .i) (s .names) in
         let f : opposite t n ≡ s .i = same-side k (opposite t n) k (s .i) (s .in-mesh) (opposite-side t n) (omega (arith, o, w)) (s .in-mesh) (s .side) (omega (arith, s .names, w)) (o ∙ sym (s .names)) (ap (λ u. opposite (triangleAt m u) k) (o ∙ sym (s .names))) .1 in (
           omega (arith, s .is, s .in-mesh),
           subst (λ u. Meets n (triangleAt m n) j (triangleAt m u)) (sym (s .is)) (record {

@@ -33,16 +33,16 @@ module _ (rows : List (List ℤ)) where
   abbrev m : Mesh
   m = rowsMesh rows
 
-  pub linking-start : (s : Seen) → s .before ≡ 0 → s .after ≡ 0 → Linking rows 0 s
-  linking-start s e f = record { rest = refl; before = omega arith; after = omega arith; few-before = omega arith; few-after = omega arith }
+  pub linking-start : {s : Seen} → s .before ≡ 0 → s .after ≡ 0 → Linking rows 0 s
+  linking-start e f = record { rest = refl; before = omega arith; after = omega arith; few-before = omega arith; few-after = omega arith }
 
   none-left : (test : ℕ → ℕ → Bool) (k : ℕ) → length rows ≤ k → sidesFrom test k (drop k m) ≡ 0
   unfolding sidesFrom
   none-left test k h = ap (sidesFrom test k) (past-rows rows k h)
 
-  pub linking-end : (k : ℕ) {s : Seen} → length rows ≤ k → Linking rows k s → eqb (s .before) (s .after) ≡ linked m
+  pub linking-end : {k : ℕ} {s : Seen} → length rows ≤ k → Linking rows k s → eqb (s .before) (s .after) ≡ linked m
   unfolding linkedFrom
-  linking-end k {s} h g =
+  linking-end {k} {s} h g =
       let b : s .before ≡ sidesFrom namesBefore 0 m = omega (arith, g .before, none-left namesBefore k h) in
       let a : s .after ≡ sidesFrom namesAfter 0 m = omega (arith, g .after, none-left namesAfter k h) in
       (λ i. eqb (b i) (a i)) ∙ sym (rw (g .rest ∙ ap (linkedFrom m k) (past-rows rows k h)))

@@ -53,11 +53,11 @@ round (suc zero) h = refl
 round (suc (suc zero)) h = refl
 round (suc (suc (suc i))) h = absurd (omega arith)
 
-moves : (i : ℕ) → after i ≡ i → ⊥
+moves : {i : ℕ} → after i ≡ i → ⊥
 unfolding after
-moves zero e = omega (arith, e)
-moves (suc zero) e = omega (arith, e)
-moves (suc (suc i)) e = omega (arith, e)
+moves {i = zero} e = omega (arith, e)
+moves {i = suc zero} e = omega (arith, e)
+moves {i = suc (suc i)} e = omega (arith, e)
 
 -- where no other side has its neighbour, a side's neighbour is named once
 alone : (t : Triangle) (i : ℕ) → i < 3 → ((j : ℕ) → j < 3 → neighbour t j ≡ neighbour t i → j ≡ i) → named t (neighbour t i) ≡ 1
@@ -112,4 +112,4 @@ module _ (m : Mesh) (s : Shared m) where
         let w = ap (triangleAt m) e in
         let p = vertices t (s .area k l) (after i) (before j) (after-side i) (after-side (after j)) (s .meets k i l h d .begins ∙ ap (λ u. vertex u (before (opposite u k))) w) in
         let q = vertices t (s .area k l) (before i) (after j) (after-side (after i)) (after-side j) (s .meets k i l h d .ends ∙ ap (λ u. vertex u (after (opposite u k))) w) in
-        moves j (sym q ∙ ap after p ∙ round j (opposite-side t k))
+        moves (sym q ∙ ap after p ∙ round j (opposite-side t k))

@@ -34,7 +34,7 @@ module _ (u : Triangle) (k : ℕ) {p q : Pt} {a b : ℕ} (ea : Packs p a) (eb : 
   one-of true y z = λ i. cond (packs-eq e1 eb i) (packs-eq e2 ea i) false
   one-of false true z = λ i. cond (packs-eq e2 eb i) (packs-eq e0 ea i) false
   one-of false false true = λ i. cond (packs-eq e0 eb i) (packs-eq e1 ea i) false
-  one-of false false false = rw (ne-eqb (none-of b) b (none-apart b))
+  one-of false false false = rw (ne-eqb (none-of b) b (none-apart))
 
   -- r0 is where the chosen side begins, s0 where it ends
   module _ {n0 n1 n2 : ℕ} (f0 : n0 ≡ neighbour u 0) (f1 : n1 ≡ neighbour u 1) (f2 : n2 ≡ neighbour u 2) {r0 r1 r2 s0 s1 : ℕ}

@@ -72,9 +72,9 @@ module _ (rows : List (List ℤ)) where
       sum-past g =
           sym (<-ltZ {x = pos 9223372036854775807} {y = meshArea (rowsMesh rows)} (omega (zarith, g, s .whole, rest-low (suc k), turn k h, add-parts z (rest rows k), add-parts area (rest rows (suc k)), add-parts z area)))
 
-  pub sum-end : (k : ℕ) {z : ℤ} → length rows ≤ k → Sum rows k z → false ≡ tooLarge (rowsMesh rows)
+  pub sum-end : {k : ℕ} {z : ℤ} → length rows ≤ k → Sum rows k z → false ≡ tooLarge (rowsMesh rows)
   unfolding tooLarge sumℤ
-  sum-end k {z} h s =
+  sum-end {k} {z} h s =
       sym (≤-ltZ {x = pos 9223372036854775807} {y = meshArea (rowsMesh rows)} (omega (zarith, s .high, s .whole, add-parts z (rest rows k), empty)))
     where
       empty : rest rows k ≡ pos 0

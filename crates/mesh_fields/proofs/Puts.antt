@@ -17,8 +17,8 @@ true-false q = let z : _≡_ {A = ℕ} 0 1 = ap (λ t. cond t 0 1) q in omega ar
 
 -- ---- one word
 
-pub put-word : (t : Bool) (at w : ℕ) (old : List ℕ) → at + 1 ≤ length old → t ≡ true → Put t (w ∷ []) at old (set old at w) true
-put-word t at w old h e =
+pub put-word : {t : Bool} (at w : ℕ) (old : List ℕ) → at + 1 ≤ length old → t ≡ true → Put t (w ∷ []) at old (set old at w) true
+put-word at w old h e =
     record {
       answer = sym e;
       front = λ q. rw add-one (take-suc-set old at w (omega arith));
@@ -27,12 +27,12 @@ put-word t at w old h e =
 
 -- ---- nothing put
 
-pub put-wrong : {t : Bool} (ws : List ℕ) (at : ℕ) (old : List ℕ) → t ≡ false → Put t ws at old old false
-put-wrong ws at old e = record { answer = sym e; front = λ q. absurd (true-false (sym q ∙ e)); as-many = refl }
+pub put-wrong : {t : Bool} {ws : List ℕ} {at : ℕ} {old : List ℕ} → t ≡ false → Put t ws at old old false
+put-wrong e = record { answer = sym e; front = λ q. absurd (true-false (sym q ∙ e)); as-many = refl }
 
 -- a test that puts nothing
-pub put-none : {t r : Bool} (at : ℕ) (old : List ℕ) → r ≡ t → Put t [] at old old r
-put-none at old e =
+pub put-none : {t r : Bool} {at : ℕ} {old : List ℕ} → r ≡ t → Put t [] at old old r
+put-none {at} {old} e =
     let n : at + 0 ≡ at = omega arith in
     record { answer = e; front = λ q. ap (λ k. take k old) n ∙ sym (append-nil (take at old)); as-many = refl }
 

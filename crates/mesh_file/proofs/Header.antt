@@ -34,21 +34,21 @@ module _ (bytes : List ℕ) where
       by-length h = rw (← p, eq-eqb _ 20 a, ← q, le-ltb 2 s b, ← r, ← u, eq-eqb _ _ h)
 
   pub no-header : length bytes < 20 → 13 ≡ firstFault (headerKinds bytes)
-  no-header h = sym (first-this 13 _ _ (lt-ltb (length bytes) 20 h))
+  no-header h = sym (first-this 13 _ (lt-ltb (length bytes) 20 h))
 
   module _ (h : 20 ≤ length bytes) {n : ℕ} (u : n ≡ wordAt bytes 1) where
     past-length : firstFault (headerKinds bytes) ≡ firstFault ((1, ltb maxTriangles n) ∷ (13, headerBroken bytes) ∷ [])
-    past-length = first-next 13 _ _ (le-ltb (length bytes) 20 h) ∙ ap (λ m. firstFault ((1, ltb maxTriangles m) ∷ (13, headerBroken bytes) ∷ [])) (sym u)
+    past-length = first-next 13 _ (le-ltb (length bytes) 20 h) ∙ ap (λ m. firstFault ((1, ltb maxTriangles m) ∷ (13, headerBroken bytes) ∷ [])) (sym u)
 
     pub too-many : maxTriangles < n → 1 ≡ firstFault (headerKinds bytes)
-    too-many k = sym (past-length ∙ first-this 1 _ _ (lt-ltb maxTriangles n k))
+    too-many k = sym (past-length ∙ first-this 1 _ (lt-ltb maxTriangles n k))
 
     module _ (k : n ≤ maxTriangles) {b : Bool} (e : b ≡ headerBroken bytes) where
       past-count : firstFault (headerKinds bytes) ≡ firstFault ((13, b) ∷ [])
-      past-count = past-length ∙ first-next 1 _ _ (le-ltb maxTriangles n k) ∙ ap (λ t. firstFault ((13, t) ∷ [])) (sym e)
+      past-count = past-length ∙ first-next 1 _ (le-ltb maxTriangles n k) ∙ ap (λ t. firstFault ((13, t) ∷ [])) (sym e)
 
       pub broken-header : b ≡ true → 13 ≡ firstFault (headerKinds bytes)
-      broken-header t = sym (past-count ∙ first-this 13 b _ t)
+      broken-header t = sym (past-count ∙ first-this 13 _ t)
 
       pub sound-header : b ≡ false → 0 ≡ firstFault (headerKinds bytes)
-      sound-header t = sym (past-count ∙ first-next 13 b _ t ∙ first-empty)
+      sound-header t = sym (past-count ∙ first-next 13 _ t ∙ first-empty)

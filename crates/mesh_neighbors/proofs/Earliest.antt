@@ -37,29 +37,29 @@ same : (n : ℕ) → 0 < n → earlier n n ≡ n
 unfolding earlier
 same n h = rw (ne-eqb n 0 (omega arith), le-ltb n n (omega arith))
 
-before : (n x : ℕ) → 0 < n → Later n x → earlier n x ≡ n
+before : {n x : ℕ} → 0 < n → Later n x → earlier n x ≡ n
 unfolding earlier
-before n x h l = by-test (eqb x 0) (λ e. rw (ne-eqb n 0 (omega arith), e)) (λ e. rw (ne-eqb n 0 (omega arith), e, lt-ltb n x (l (eqb-false x 0 e))))
+before {n} {x} h l = by-test (eqb x 0) (λ e. rw (ne-eqb n 0 (omega arith), e)) (λ e. rw (ne-eqb n 0 (omega arith), e, lt-ltb n x (l (eqb-false x 0 e))))
 
-after : (n x : ℕ) → 0 < n → Later n x → earlier x n ≡ n
+after : {n x : ℕ} → 0 < n → Later n x → earlier x n ≡ n
 unfolding earlier
-after n x h l =
+after {n} {x} h l =
     by-test (eqb x 0) (λ e. rw e)
     (λ e. rw (e, ne-eqb n 0 (omega arith), le-ltb x n (omega (arith, l (eqb-false x 0 e)))))
 
-one-told : (n : ℕ) → 0 < n → (a b : Bool) (x y : ℕ) → Later n x → Later n y → cond (or a b) n (earlier x y) ≡ earlier (cond a n x) (cond b n y)
-one-told n h true true x y k l = sym (same n h)
-one-told n h true false x y k l = sym (before n y h l)
-one-told n h false true x y k l = sym (after n x h k)
-one-told n h false false x y k l = refl
+one-told : {n : ℕ} → 0 < n → (a b : Bool) {x y : ℕ} → Later n x → Later n y → cond (or a b) n (earlier x y) ≡ earlier (cond a n x) (cond b n y)
+one-told {n} h true true k l = sym (same n h)
+one-told h true false k l = sym (before h l)
+one-told h false true k l = sym (after h k)
+one-told h false false k l = refl
 
 later-last : (n m : ℕ) → n < m → (c : Bool) → Later n (cond c m 0)
 later-last n m h true e = h
 later-last n m h false e = absurd (e refl)
 
-later-next : (n m : ℕ) → n < m → (b : Bool) (x : ℕ) → Later n x → Later n (cond b m x)
-later-next n m h true x l e = h
-later-next n m h false x l e = l e
+later-next : {n : ℕ} (m : ℕ) → n < m → (b : Bool) {x : ℕ} → Later n x → Later n (cond b m x)
+later-next m h true l e = h
+later-next m h false l e = l e
 
 last-told : (a b : Bool) → _≡_ {A = ℕ} (cond (or a b) 5 0) (earlier (cond a 5 0) (cond b 5 0))
 unfolding earlier
@@ -75,9 +75,9 @@ both-told a b c a′ b′ c′ =
     let x : ℕ = cond c 5 0 in
     let y : ℕ = cond c′ 5 0 in
     ap (λ w. cond (or a a′) 3 (cond (or b b′) 4 w)) (last-told c c′)
-    ∙ ap (cond (or a a′) 3) (one-told 4 (omega arith) b b′ x y (later-last 4 5 (omega arith) c) (later-last 4 5 (omega arith) c′))
-    ∙ one-told 3 (omega arith) a a′ (cond b 4 x) (cond b′ 4 y)
-    (later-next 3 4 (omega arith) b x (later-last 3 5 (omega arith) c)) (later-next 3 4 (omega arith) b′ y (later-last 3 5 (omega arith) c′))
+    ∙ ap (cond (or a a′) 3) (one-told (omega arith) b b′ (later-last 4 5 (omega arith) c) (later-last 4 5 (omega arith) c′))
+    ∙ one-told (omega arith) a a′
+    (later-next 4 (omega arith) b (later-last 3 5 (omega arith) c)) (later-next 4 (omega arith) b′ (later-last 3 5 (omega arith) c′))
 
 -- ---- three sides
 
@@ -115,13 +115,13 @@ module _ (m : Mesh) where
   abbrev Left : (ℕ → Triangle → Bool) → ℕ → Bool → Type 0
   Left test k b = some test m ≡ or b (someFrom test k (drop k m))
 
-  left-turn : (test : ℕ → Triangle → Bool) (k : ℕ) (b : Bool) → k < length m → Left test k b → Left test (k + 1) (or b (test k (triangleAt m k)))
-  left-turn test k b h e =
+  left-turn : (test : ℕ → Triangle → Bool) {k : ℕ} (b : Bool) → k < length m → Left test k b → Left test (k + 1) (or b (test k (triangleAt m k)))
+  left-turn test {k} b h e =
       e ∙ ap (or b) (some-turn test m k h) ∙ or-assoc b (test k (triangleAt m k)) (someFrom test (suc k) (drop (suc k) m))
       ∙ ap (λ n. or (or b (test k (triangleAt m k))) (someFrom test n (drop n m))) (sym (add-one k))
 
-  left-end : (test : ℕ → Triangle → Bool) (k : ℕ) (b : Bool) → length m ≤ k → Left test k b → some test m ≡ b
-  left-end test k b h e = e ∙ ap (or b) (some-end test m k h) ∙ or-false b
+  left-end : (test : ℕ → Triangle → Bool) {k : ℕ} (b : Bool) → length m ≤ k → Left test k b → some test m ≡ b
+  left-end test {k} b h e = e ∙ ap (or b) (some-end test m k h) ∙ or-false b
 
   -- the faults of the triangles before k
   pub record Judged (k fault : ℕ) : Type 0 where
@@ -136,19 +136,19 @@ module _ (m : Mesh) where
   pub judged-start : Judged 0 0
   judged-start = record { a = false; b = false; c = false; told = unfold firstFault in refl; strays-left = refl; misnames-left = refl; mismatches-left = refl }
 
-  pub judged-turn : {f r g : ℕ} (k : ℕ) → k < length m → Judged k f → r ≡ rowFault m k → g ≡ earlier f r → Judged (k + 1) g
-  judged-turn {f} k h j e p = record {
+  pub judged-turn : {f r g : ℕ} {k : ℕ} → k < length m → Judged k f → r ≡ rowFault m k → g ≡ earlier f r → Judged (k + 1) g
+  judged-turn {f} {k} h j e p = record {
     a = or (j .a) (straying k (triangleAt m k));
     b = or (j .b) (misnaming k (triangleAt m k));
     c = or (j .c) (mismatching k (triangleAt m k));
     told = p ∙ (λ i. earlier (j .told i) (e i)) ∙ sym (both-told (j .a) (j .b) (j .c) (straying k (triangleAt m k)) (misnaming k (triangleAt m k)) (mismatching k (triangleAt m k)));
-    strays-left = left-turn straying k (j .a) h (j .strays-left);
-    misnames-left = left-turn misnaming k (j .b) h (j .misnames-left);
-    mismatches-left = left-turn mismatching k (j .c) h (j .mismatches-left);
+    strays-left = left-turn straying (j .a) h (j .strays-left);
+    misnames-left = left-turn misnaming (j .b) h (j .misnames-left);
+    mismatches-left = left-turn mismatching (j .c) h (j .mismatches-left);
   }
 
-  pub judged-end : {f : ℕ} (k : ℕ) → length m ≤ k → Judged k f → f ≡ neighbourFault m
+  pub judged-end : {f : ℕ} {k : ℕ} → length m ≤ k → Judged k f → f ≡ neighbourFault m
   unfolding neighbourFault strayNeighbour misnamed mismatched
-  judged-end k h j =
+  judged-end h j =
       j .told
-      ∙ sym (λ i. firstFault (neighbourKinds (left-end straying k (j .a) h (j .strays-left) i) (left-end misnaming k (j .b) h (j .misnames-left) i) (left-end mismatching k (j .c) h (j .mismatches-left) i)))
+      ∙ sym (λ i. firstFault (neighbourKinds (left-end straying (j .a) h (j .strays-left) i) (left-end misnaming (j .b) h (j .misnames-left) i) (left-end mismatching (j .c) h (j .mismatches-left) i)))

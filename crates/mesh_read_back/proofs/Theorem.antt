@@ -58,7 +58,7 @@ rows-small (t ∷ m) h =
 module _ (limit split : ℕ) (m : Mesh) (l : Word limit) (s : split ≤ 2) (n : length m ≤ maxWritten) (h : All TriangleFits m) where
   file-words : wordsOf (fileOf limit split m) ≡ (20 + rowBytes * length m) ∷ length m ∷ 20 ∷ limit ∷ split ∷ flatten (map triangleWords m)
   unfolding fileOf
-  file-words = words-wordBytes _ (omega arith, (omega arith, (omega arith, (l, (omega arith, rows-small m h)))))
+  file-words = words-wordBytes (omega arith, (omega arith, (omega arith, (l, (omega arith, rows-small m h)))))
 
   mesh-back : meshOf (fileOf limit split m) ≡ m
   unfolding meshOf

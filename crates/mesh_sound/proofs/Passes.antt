@@ -76,9 +76,9 @@ module _ (rows : List (List ℤ)) where
   pub going-start : Going rows 0 (pos 0)
   going-start = record { low = omega zarith; rest = refl }
 
-  pub going-end : (k : ℕ) {z : ℤ} → length rows ≤ k → Going rows k z → true ≡ soundFrom (pos 0) m
+  pub going-end : {k : ℕ} {z : ℤ} → length rows ≤ k → Going rows k z → true ≡ soundFrom (pos 0) m
   unfolding soundFrom
-  going-end k {z} h g = sym (g .rest ∙ ap (soundFrom z) (past-rows k h))
+  going-end {k} {z} h g = sym (g .rest ∙ ap (soundFrom z) (past-rows k h))
 
   module _ (k : ℕ) (h : k < length rows) where
     abbrev t : Triangle

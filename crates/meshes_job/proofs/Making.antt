@@ -38,9 +38,9 @@ use Rattle.meshes_job.proofs.Putting.{put-kept, put-on, operand-length}
 
 -- ---- a file's operand has at most 2,048 parts and 6,144 corners
 
-pub few-held : (file : List ℕ) (u : Taken) {s : List ℕ} {c : List ℤ} → Held file u s c → (u .parts + 1 ≤ 2049) × (2 * u .corners ≤ 12288)
+pub few-held : {file : List ℕ} {u : Taken} {s : List ℕ} {c : List ℤ} → Held file u s c → (u .parts + 1 ≤ 2049) × (2 * u .corners ≤ 12288)
 unfolding cornersOf
-few-held file u {s} {c} h =
+few-held {file} {u} {s} {c} h =
     let w = split-table (strategyOf (splitNumber file)) (cornerLimit file) (meshOf file) (accepted-mesh file (h .accepted)) in
     (omega (arith, length-take-le (u .parts + 1) s (h .starts-in), ap length (h .starts), length-starts (fileParts file), w .few-parts), omega (arith, length-take-le (2 * u .corners) c (h .corners-in), ap length (h .corners), length-numbers (flatten (fileParts file)), w .few-corners))
 
@@ -130,10 +130,10 @@ module _ (bytes : List ℕ) where
 
     module _ (y : t .fault ≡ 0) where
       pub few-left-parts : (t .left .parts + 1 ≤ 2049) × (2 * t .left .corners ≤ 12288)
-      few-left-parts = few-held (leftFile (drop 4 bytes)) (t .left) (k .left-held y)
+      few-left-parts = few-held (k .left-held y)
 
       pub few-right-parts : (t .right .parts + 1 ≤ 2049) × (2 * t .right .corners ≤ 12288)
-      few-right-parts = few-held (rightFile (drop 4 bytes)) (t .right) (k .right-held y)
+      few-right-parts = few-held (k .right-held y)
 
       -- the corners as the code takes them
       module _ {lf rf : List ℤ} (el : lf ≡ frontCorners (t .left .corners) lc) (er : rf ≡ frontCorners (t .right .corners) rc) where
@@ -168,8 +168,8 @@ module _ (bytes : List ℕ) where
             let r = k .right-held y in
             (λ i. wordBytes (e i ∷ (operandWords (record { starts = l .starts i; corners = (el ∙ l .corners) i; bounds = l .bounds i }) ++ operandWords (record { starts = r .starts i; corners = (er ∙ r .corners) i; bounds = r .bounds i }))))
 
-        pub job-answered : (old : List ℕ) → 114748 ≤ length old → {op size : ℕ} {new : List ℕ} → op ≡ wordAt bytes 0 → JobPut op leftPut rightPut old new size → Answered old (record { fault = t .fault; length = size }) new
-        job-answered old h {op} {size} {new} e p =
+        pub job-answered : {old : List ℕ} → 114748 ≤ length old → {op size : ℕ} {new : List ℕ} → op ≡ wordAt bytes 0 → JobPut op leftPut rightPut old new size → Answered old (record { fault = t .fault; length = size }) new
+        job-answered {old} h {op} {size} {new} e p =
             let W = op ∷ (leftPut ++ rightPut) in
             let none : meshesFault bytes ≡ 0 = files-told z ∙ sym (k .fault) ∙ y in
             let n : size ≡ length (jobOf bytes) = p .after ∙ sym (length-wordBytes W) ∙ ap length (words-are e) in

@@ -65,13 +65,13 @@ module _ (b : IntRect) (s : List ℕ) (c : List ℤ) (k : ℕ) (old : List ℕ) 
 module _ (bytes : List ℕ) where
   pub too-short : length bytes < 4 → 13 ≡ operationFault bytes
   unfolding operationFault
-  too-short h = sym (first-this 13 _ _ (lt-ltb (length bytes) 4 h))
+  too-short h = sym (first-this 13 _ (lt-ltb (length bytes) 4 h))
 
   module _ (h : 4 ≤ length bytes) {w : ℕ} (e : w ≡ wordAt bytes 0) where
     pub no-operation : 1 < w → 13 ≡ operationFault bytes
     unfolding operationFault
-    no-operation k = sym (first-next 13 _ _ (le-ltb (length bytes) 4 h) ∙ first-this 13 _ _ (lt-ltb 1 (wordAt bytes 0) (omega (arith, e))))
+    no-operation k = sym (first-next 13 _ (le-ltb (length bytes) 4 h) ∙ first-this 13 _ (lt-ltb 1 (wordAt bytes 0) (omega (arith, e))))
 
     pub some-operation : w ≤ 1 → 0 ≡ operationFault bytes
     unfolding operationFault
-    some-operation k = sym (first-next 13 _ _ (le-ltb (length bytes) 4 h) ∙ first-next 13 _ _ (le-ltb 1 (wordAt bytes 0) (omega (arith, e))) ∙ first-empty)
+    some-operation k = sym (first-next 13 _ (le-ltb (length bytes) 4 h) ∙ first-next 13 _ (le-ltb 1 (wordAt bytes 0) (omega (arith, e))) ∙ first-empty)

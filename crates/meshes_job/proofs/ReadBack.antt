@@ -100,7 +100,7 @@ module _ (o : Operand) (table : tableBroken (o .starts) (o .corners) ≡ false) 
         ap (λ k. drop k (wordsOf J)) n ∙ sym (drop-drop (length (o .starts)) (b + 4 + 2) (wordsOf J)) ∙ ap (drop (length (o .starts))) table-words ∙ drop-at (o .starts) (c ++ rest) (length (o .starts)) refl in
         ap (map signed)
         ((λ i. take (2 * corners-count i) (d i)) ∙ take-at c rest (2 * (length (o .corners) / 2)) (omega (arith, length-map (o .corners) unsigned, t .even)))
-        ∙ signed-unsigned (o .corners) (fits .0)
+        ∙ signed-unsigned (fits .0)
 
     bounds-read : boundsAt J b ≡ o .bounds
     unfolding operandWords
@@ -127,7 +127,7 @@ module _ (op : ℕ) (l r : Operand) (h : op ≤ 1) (a : Unfaulted l) (b : Unfaul
 
   words-job : wordsOf J ≡ W
   unfolding jobBytes
-  words-job = words-wordBytes W (omega arith, all-append Word (operandWords l) (operandWords r) .1 (operand-words l (a .table) (a .range), operand-words r (b .table) (b .range)))
+  words-job = words-wordBytes (omega arith, all-append Word (operandWords l) (operandWords r) .1 (operand-words l (a .table) (a .range), operand-words r (b .table) (b .range)))
 
   operation-job : operation J ≡ op
   operation-job = ap (λ ws. getD ws 0 0) words-job

@@ -21,16 +21,16 @@ use Rattle.meshes_place.specs.Placed.{placeOf, filesOf, pointFault, plac
 module _ (bytes : List ℕ) where
   pub too-short : length bytes < 8 → 13 ≡ pointFault bytes
   unfolding pointFault
-  too-short h = sym (first-this 13 _ _ (lt-ltb (length bytes) 8 h))
+  too-short h = sym (first-this 13 _ (lt-ltb (length bytes) 8 h))
 
   module _ (h : 8 ≤ length bytes) where
     pub off-grid : onGrid (placeOf bytes) ≡ false → 2 ≡ pointFault bytes
     unfolding pointFault
-    off-grid e = sym (first-next 13 _ _ (le-ltb (length bytes) 8 h) ∙ first-this 2 _ _ (ap not e))
+    off-grid e = sym (first-next 13 _ (le-ltb (length bytes) 8 h) ∙ first-this 2 _ (ap not e))
 
     pub on-grid : onGrid (placeOf bytes) ≡ true → 0 ≡ pointFault bytes
     unfolding pointFault
-    on-grid e = sym (first-next 13 _ _ (le-ltb (length bytes) 8 h) ∙ first-next 2 _ _ (ap not e) ∙ first-empty)
+    on-grid e = sym (first-next 13 _ (le-ltb (length bytes) 8 h) ∙ first-next 2 _ (ap not e) ∙ first-empty)
 
   pub point-good : pointFault bytes ≡ 0 → (8 ≤ length bytes) × (onGrid (placeOf bytes) ≡ true)
   unfolding pointFault

@@ -42,18 +42,18 @@ module _ (ps : List (List Pt)) (b : IntRect) (s : List ℕ) (c : List ℤ) where
 
   -- fewer places for starts than contours and one
   pub starts-refused : {r : PairCounts} → length s < suc (length ps) → r ≡ refusalOf 22 → PairsAnswered F ps b s c r s c
-  starts-refused h e = refused (sym (first-this 22 _ _ (lt-ltb (length s) (length (startsOf ps)) (omega (arith, length-starts ps))))) (λ q. omega (arith, q)) e
+  starts-refused h e = refused (sym (first-this 22 _ (lt-ltb (length s) (length (startsOf ps)) (omega (arith, length-starts ps))))) (λ q. omega (arith, q)) e
 
   module _ (h : suc (length ps) ≤ length s) where
     starts-fit : F ≡ firstFault ((21, ltb (length c / 2) (length (flatten ps))) ∷ [])
-    starts-fit = first-next 22 _ _ (le-ltb (length s) (length (startsOf ps)) (omega (arith, length-starts ps)))
+    starts-fit = first-next 22 _ (le-ltb (length s) (length (startsOf ps)) (omega (arith, length-starts ps)))
 
     pub corners-refused : {r : PairCounts} → length c / 2 < length (flatten ps) → r ≡ refusalOf 21 → PairsAnswered F ps b s c r s c
-    corners-refused k e = refused (sym (starts-fit ∙ first-this 21 _ _ (lt-ltb (length c / 2) (length (flatten ps)) k))) (λ q. omega (arith, q)) e
+    corners-refused k e = refused (sym (starts-fit ∙ first-this 21 _ (lt-ltb (length c / 2) (length (flatten ps)) k))) (λ q. omega (arith, q)) e
 
     pub handed : {s′ : List ℕ} {c′ : List ℤ} {m n : ℕ} → length (flatten ps) ≤ length c / 2 → m ≡ length ps → n ≡ length (flatten ps) → s′ ≡ overlay (startsOf ps) s → c′ ≡ overlay (cornersOf ps) c → PairsAnswered F ps b s c (record { fault = 0; contours = m; corners = n; bounds = b }) s′ c′
     handed k p q u v =
-        let e : F ≡ 0 = starts-fit ∙ first-next 21 _ _ (le-ltb (length c / 2) (length (flatten ps)) k) ∙ first-empty in
+        let e : F ≡ 0 = starts-fit ∙ first-next 21 _ (le-ltb (length c / 2) (length (flatten ps)) k) ∙ first-empty in
         record {
           counts = (λ i. record { fault = 0; contours = p i; corners = q i; bounds = b }) ∙ sym (accepted-counts F e ps b);
           starts = u ∙ sym (accepted-buffer F e (startsOf ps) s);

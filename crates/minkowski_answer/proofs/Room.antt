@@ -29,7 +29,7 @@ most-fit room n most h k = sym (le-ltb room n (omega arith))
 
 module _ {firsts : List ℕ} {points : List (List ℤ)} {left right most : ℕ} (u : Unrolleds firsts points left right most) where
   pub count-contours : length (contoursIn firsts points left right) ≡ left * right
-  count-contours = contours-count firsts points left right (u .walks)
+  count-contours = contours-count left right (u .walks)
 
   module _ (s : List ℕ) (c : List ℤ) (h : left * right + 1 ≤ length s) (k : length (flatten (contoursIn firsts points left right)) ≤ length c / 2) where
     pub room-for : PairsRoom (contoursIn firsts points left right) s 0 c 0

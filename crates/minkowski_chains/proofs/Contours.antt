@@ -56,10 +56,10 @@ four-piece ps n h = piece-whole ps n 4 (fourFrom ps n) (
 
 module _ {ps c : List (List Pt)} {n m : ℕ} (e : Piece ps n m c) {s₀ s : List ℕ} {o₀ o : List ℤ} {k : ℕ} (p : PairsPut (take n ps) s₀ 0 o₀ 0 s n o k) where
   pub piece-room : PairsRoom ps s₀ 0 o₀ 0 → PairsRoom c s n o k
-  piece-room r = room-next (take n ps) c (drop (n + m) ps) (subst (λ l. PairsRoom l s₀ 0 o₀ 0) (e .whole) r) p
+  piece-room r = room-next c (drop (n + m) ps) (subst (λ l. PairsRoom l s₀ 0 o₀ 0) (e .whole) r) p
 
   pub piece-more : {s′ : List ℕ} {o′ : List ℤ} {n′ k′ : ℕ} → PairsPut c s n o k s′ n′ o′ k′ → n′ ≡ n + m → PairsPut (take n′ ps) s₀ 0 o₀ 0 s′ n′ o′ k′
-  piece-more {s′} {o′} {n′} {k′} q f = subst (λ l. PairsPut l s₀ 0 o₀ 0 s′ n′ o′ k′) (sym (ap (λ j. take j ps) f ∙ e .more)) (pairs-then (take n ps) c p q)
+  piece-more {s′} {o′} {n′} {k′} q f = subst (λ l. PairsPut l s₀ 0 o₀ 0 s′ n′ o′ k′) (sym (ap (λ j. take j ps) f ∙ e .more)) (pairs-then p q)
 
 -- ---- the first of some contours
 
@@ -80,15 +80,15 @@ module _ (p : List Pt) (ps : List (List Pt)) {s : List ℕ} {n : ℕ} {o : List 
 -- ---- corners in a work buffer
 
 -- those put on its front are its first ones
-pub work-corners : (p : List Pt) {w w′ : List ℤ} {c : ℕ} → CornersPut p w 0 w′ c → workCorners c w′ ≡ p
+pub work-corners : {p : List Pt} {w w′ : List ℤ} {c : ℕ} → CornersPut p w 0 w′ c → workCorners c w′ ≡ p
 unfolding numbersOf
-work-corners p {w} {w′} {c} a =
+work-corners {p} {w} {w′} {c} a =
     let e : w′ ≡ overlay (numbersOf p) w = a .written [] w refl (sym (overlay-nil w)) in
     let z : 2 * c ≡ length (numbersOf p) = omega (arith, a .count, length-numbers p) in
     ap₂ (λ n l. pointsOf (take n l)) z e ∙ ap pointsOf (take-overlay (numbersOf p) w) ∙ points-numbers p
 
-pub work-size : (p : List Pt) {w w′ : List ℤ} {c : ℕ} → CornersPut p w 0 w′ c → RoomAfter p w 0 → 2 * c ≤ length w′
-work-size p a r = omega (arith, a .count, a .size, r)
+pub work-size : {p : List Pt} {w w′ : List ℤ} {c : ℕ} → CornersPut p w 0 w′ c → RoomAfter p w 0 → 2 * c ≤ length w′
+work-size a r = omega (arith, a .count, a .size, r)
 
 pub corners-count : (c : ℕ) (w : List ℤ) → 2 * c ≤ length w → length (workCorners c w) ≡ c
 corners-count c w h = omega (arith, length-points (take (2 * c) w), length-take (2 * c) w)
@@ -96,18 +96,18 @@ corners-count c w h = omega (arith, length-points (take (2 * c) w), length-take 
 -- contours put from a work buffer
 module _ (p : List Pt) {w w′ : List ℤ} {c : ℕ} (a : CornersPut p w 0 w′ c) {s : List ℕ} {n : ℕ} {o : List ℤ} {k : ℕ} where
   pub copied-room : PairsRoom (p ∷ []) s n o k → PairsRoom (workCorners c w′ ∷ []) s n o k
-  copied-room r = subst (λ l. PairsRoom (l ∷ []) s n o k) (sym (work-corners p a)) r
+  copied-room r = subst (λ l. PairsRoom (l ∷ []) s n o k) (sym (work-corners a)) r
 
   pub copied-put : {s′ : List ℕ} {n′ : ℕ} {o′ : List ℤ} {k′ : ℕ} → PairsPut (workCorners c w′ ∷ []) s n o k s′ (n + 1) o′ k′ → n + 1 ≡ n′ → PairsPut (p ∷ []) s n o k s′ n′ o′ k′
-  copied-put {s′} {n′} {o′} {k′} q e = subst (λ m. PairsPut (p ∷ []) s n o k s′ m o′ k′) e (subst (λ l. PairsPut (l ∷ []) s n o k s′ (n + 1) o′ k′) (work-corners p a) q)
+  copied-put {s′} {n′} {o′} {k′} q e = subst (λ m. PairsPut (p ∷ []) s n o k s′ m o′ k′) e (subst (λ l. PairsPut (l ∷ []) s n o k s′ (n + 1) o′ k′) (work-corners a) q)
 
 -- ---- contours put so far
 
 -- contours put, and the place after them
 pub put-on :
-    (left right : ℕ) {m k : ℕ} {new : List (List Pt)} {s r : Place} {starts starts′ : List ℕ} {out out′ : List ℤ} → Onward left right m k s r → PairsPut new starts (s .n) out (s .k) starts′ (s .n + m) out′ k →
+    {left right : ℕ} {m k : ℕ} {new : List (List Pt)} {s r : Place} {starts starts′ : List ℕ} {out out′ : List ℤ} → Onward left right m k s r → PairsPut new starts (s .n) out (s .k) starts′ (s .n + m) out′ k →
     PutOn left right m new s starts out r starts′ out′
-put-on left right {m} {k} {new} {s} {r} {starts} {starts′} {out} {out′} a p = record {
+put-on {m} {k} {new} {s} {r} {starts} {starts′} {out} {out′} a p = record {
   place = record { order = a .order; number = a .number; corners = refl };
   put = subst₂ (λ n j. PairsPut new starts (s .n) out (s .k) starts′ n out′ j) (sym (a .number)) (sym (a .corners)) p;
 }
@@ -129,27 +129,27 @@ module _ (left right : ℕ) {ps : List (List Pt)} (e : length ps ≡ left * righ
 
   -- all are put
   pub to-end : (s₁ : List ℕ) → left * right ≤ t .n → 0 < length s₁ → s₀ ≡ set s₁ 0 0 → AllPut ps s₁ o₀ s o (t .k)
-  to-end s₁ h l z = all-put ps s₁ o₀ l z (subst (λ l. PairsPut l s₀ 0 o₀ 0 s (t .n) o (t .k)) (take-all (t .n) ps (omega (arith, e, h))) (a .put))
+  to-end s₁ h l z = all-put s₁ l z (subst (λ l. PairsPut l s₀ 0 o₀ 0 s (t .n) o (t .k)) (take-all (t .n) ps (omega (arith, e, h))) (a .put))
 
 -- whatever was put before, more is put since
 pub record Since (left right : ℕ) (ps : List (List Pt)) (t : Place) (s : List ℕ) (o : List ℤ) (t′ : Place) (s′ : List ℕ) (o′ : List ℤ) : Type 0 where
   pub to : {s₀ : List ℕ} {o₀ : List ℤ} → PutTo left right ps s₀ o₀ t s o → PutTo left right ps s₀ o₀ t′ s′ o′
 
 -- the room is the same once the first start is put
-pub room-started : {ps : List (List Pt)} (s : List ℕ) {s₀ : List ℕ} {o : List ℤ} → s₀ ≡ set s 0 0 → PairsRoom ps s 0 o 0 → PairsRoom ps s₀ 0 o 0
-room-started s e r = record { for-starts = omega (arith, r .for-starts, ap length e, length-set s 0 0); for-corners = r .for-corners; small = r .small }
+pub room-started : {ps : List (List Pt)} {s : List ℕ} {s₀ : List ℕ} {o : List ℤ} → s₀ ≡ set s 0 0 → PairsRoom ps s 0 o 0 → PairsRoom ps s₀ 0 o 0
+room-started {s} e r = record { for-starts = omega (arith, r .for-starts, ap length e, length-set s 0 0); for-corners = r .for-corners; small = r .small }
 
 -- work buffers that are so long
-pub rooms-long : (points : List (List ℤ)) (n : ℕ) → 2 * mostEdges points ≤ n → {wb wc wd : List ℤ} → length wb ≡ n → length wc ≡ n → length wd ≡ n → PairRooms points wb wc wd
-rooms-long points n h e f g = record { second = omega (arith, h, e); third = omega (arith, h, f); fourth = omega (arith, h, g) }
+pub rooms-long : (points : List (List ℤ)) {n : ℕ} → 2 * mostEdges points ≤ n → {wb wc wd : List ℤ} → length wb ≡ n → length wc ≡ n → length wd ≡ n → PairRooms points wb wc wd
+rooms-long points h e f g = record { second = omega (arith, h, e); third = omega (arith, h, f); fourth = omega (arith, h, g) }
 
 -- work buffers of the same lengths have the same room
-pub rooms-same : (points : List (List ℤ)) {wb wc wd wb′ wc′ wd′ : List ℤ} → PairRooms points wb wc wd → length wb′ ≡ length wb → length wc′ ≡ length wc → length wd′ ≡ length wd → PairRooms points wb′ wc′ wd′
-rooms-same points r e f g = record { second = omega (arith, r .second, e); third = omega (arith, r .third, f); fourth = omega (arith, r .fourth, g) }
+pub rooms-same : {points : List (List ℤ)} {wb wc wd wb′ wc′ wd′ : List ℤ} → PairRooms points wb wc wd → length wb′ ≡ length wb → length wc′ ≡ length wc → length wd′ ≡ length wd → PairRooms points wb′ wc′ wd′
+rooms-same r e f g = record { second = omega (arith, r .second, e); third = omega (arith, r .third, f); fourth = omega (arith, r .fourth, g) }
 
 -- the contours of all pairs put are the same of the buffers cut to the points in use
 pub all-same :
-    (firsts : List ℕ) (points : List (List ℤ)) (numbers : List ℕ) (left right : ℕ) → Keyed firsts points numbers left right → {n : ℕ} {s s′ : List ℕ} {c c′ : List ℤ} {m : ℕ} →
+    {firsts : List ℕ} {points : List (List ℤ)} {numbers : List ℕ} {left right : ℕ} → Keyed firsts points numbers left right → {n : ℕ} {s s′ : List ℕ} {c c′ : List ℤ} {m : ℕ} →
     n ≡ getD firsts (left + right) 0 → AllPut (contoursIn firsts (take n points) left right) s c s′ c′ m → AllPut (contoursIn firsts points left right) s c s′ c′ m
-all-same firsts points numbers left right k {s = s} {s′} {c} {c′} {m} e r =
+all-same {firsts} {points} {numbers} {left} {right} k {s = s} {s′} {c} {c′} {m} e r =
     subst (λ l. AllPut l s c s′ c′ m) (ap (λ n. contoursIn firsts (take n points) left right) e ∙ contours-same firsts points numbers left right k) r

@@ -14,8 +14,8 @@ use Rattle.corners.proofs.Corners.{length-numbers, numbers-append, numbers-poin
 use Rattle.minkowski_chains.specs.Contours.{workCorners}
 use Rattle.minkowski_chains.proofs.Contours.{corners-count}
 
-pub copied-end : (work : List ℤ) (at : ℕ) (out₀ : List ℤ) (count : ℕ) {out : List ℤ} → 2 * count ≤ length work → Copied work at (2 * count) out₀ out → CornersPut (workCorners count work) out₀ at out (at + count)
-copied-end work at out₀ count h c = record {
+pub copied-end : {work : List ℤ} {at : ℕ} {out₀ : List ℤ} (count : ℕ) {out : List ℤ} → 2 * count ≤ length work → Copied work at (2 * count) out₀ out → CornersPut (workCorners count work) out₀ at out (at + count)
+copied-end {work} count h c = record {
   size = c .size;
   count = omega (arith, corners-count count work h);
   written = λ done old f o.

@@ -88,9 +88,9 @@ module _ (firsts : List ℕ) (points : List (List ℤ)) (numbers : List ℕ) (le
       some l zero h = absurd (omega (arith, h))
       some l (suc r) h = omega arith
 
-  pub bounds-start : (m : ℕ) → m ≡ sumℕ es → Bounds firsts points left right (record { p = 0; q = 0; n = 0; k = m })
+  pub bounds-start : {m : ℕ} → m ≡ sumℕ es → Bounds firsts points left right (record { p = 0; q = 0; n = 0; k = m })
   unfolding flatten sumℕ
-  bounds-start m e = record { order = order-start left right m; some = omega arith; bound = omega (arith, e) }
+  bounds-start {m} e = record { order = order-start left right m; some = omega arith; bound = omega (arith, e) }
 
   module _ (s : Place) (a : Bounds firsts points left right s) where
     -- no fewer than all corners
@@ -151,8 +151,8 @@ module _ (firsts : List ℕ) (points : List (List ℤ)) (numbers : List ℕ) (le
   unfolding sumℕ
   summed-start = record { order = order-start left right 0; some = omega arith; sum = refl; small = omega arith }
 
-  pub summed-next : (s : Place) {r : Place} {m e : ℕ} → Summed firsts points left right s → s .n + 1 ≤ left * right → e ≡ getD es (s .n) 0 → e ≤ 2 * maxContour → m ≡ s .k + e → Onward left right 1 m s r → Summed firsts points left right r
-  summed-next s {r} a h f g w o =
+  pub summed-next : {s : Place} {r : Place} {m e : ℕ} → Summed firsts points left right s → s .n + 1 ≤ left * right → e ≡ getD es (s .n) 0 → e ≤ 2 * maxContour → m ≡ s .k + e → Onward left right 1 m s r → Summed firsts points left right r
+  summed-next {s} {r} a h f g w o =
       let e : r .n ≡ s .n + 1 = o .number in
       record {
         order = o .order;
@@ -161,8 +161,8 @@ module _ (firsts : List ℕ) (points : List (List ℤ)) (numbers : List ℕ) (le
         small = omega (arith, a .small, g, w, o .corners, e);
       }
 
-  pub summed-end : (s : Place) → Summed firsts points left right s → left * right ≤ s .n → s .k ≡ sumℕ es
-  summed-end s a h = a .sum ∙ ap sumℕ (take-all (s .n) es (omega (arith, h, same-edges)))
+  pub summed-end : {s : Place} → Summed firsts points left right s → left * right ≤ s .n → s .k ≡ sumℕ es
+  summed-end {s} a h = a .sum ∙ ap sumℕ (take-all (s .n) es (omega (arith, h, same-edges)))
 
 -- ---- a pair counted
 
@@ -187,11 +187,11 @@ above-none {t} {r} a = by-test (ltb 0 r) (λ e. a .exact (ltb-true 0 r e)) (λ e
 
 -- the same of the buffers cut to the points in use
 pub above-same :
-    (firsts : List ℕ) (points : List (List ℤ)) (numbers : List ℕ) (left right : ℕ) → Keyed firsts points numbers left right → {n room m : ℕ} →
+    {firsts : List ℕ} {points : List (List ℤ)} {numbers : List ℕ} {left right : ℕ} → Keyed firsts points numbers left right → {n room m : ℕ} →
     n ≡ getD firsts (left + right) 0 → Above room (allCorners firsts (take n points) left right) m → Above room (allCorners firsts points left right) m
-above-same firsts points numbers left right k {room = room} {m} e r =
+above-same {firsts} {points} {numbers} {left} {right} k {room = room} {m} e r =
     subst (λ l. Above room (length (flatten l)) m) (ap (λ n. contoursIn firsts (take n points) left right) e ∙ contours-same firsts points numbers left right k) r
 
 -- pairs counted, and the place after them
-pub lowered : (left right : ℕ) {m k c e : ℕ} {s r : Place} → Onward left right m k s r → k + e ≡ s .k + c → Lowered left right m c e s r
-lowered left right a h = record { place = record { order = a .order; number = a .number; corners = refl }; corners = omega (arith, a .corners, h) }
+pub lowered : {left right : ℕ} {m k c e : ℕ} {s r : Place} → Onward left right m k s r → k + e ≡ s .k + c → Lowered left right m c e s r
+lowered a h = record { place = record { order = a .order; number = a .number; corners = refl }; corners = omega (arith, a .corners, h) }

@@ -44,9 +44,9 @@ within-inside b p h =
     let w = both-true (leZ (b .«min_y») (p .y)) _ (v .1) in
     record { left = leZ-≤ _ _ (u .0); right = leZ-≤ _ _ (v .0); low = leZ-≤ _ _ (w .0); high = leZ-≤ _ _ (w .1) }
 
-inside-within : (b : IntRect) (p : Pt) → InBounds b p → withinBounds b p ≡ true
+inside-within : {b : IntRect} {p : Pt} → InBounds b p → withinBounds b p ≡ true
 unfolding withinBounds
-inside-within b p i = rw (≤-leZ (i .left), ≤-leZ (i .right), ≤-leZ (i .low), ≤-leZ (i .high))
+inside-within i = rw (≤-leZ (i .left), ≤-leZ (i .right), ≤-leZ (i .low), ≤-leZ (i .high))
 
 -- what the test of an operand's bounds tells
 bounds-hold : (b : IntRect) (l : List Pt) → boundsBroken b l ≡ false → All (InBounds b) l
@@ -59,8 +59,8 @@ bounds-hold b l h = none l (either-false (ltZ (b .«max_y») (b .«min_y»)) (so
 
 -- ---- a sum of corners
 
-inside-add : (l r : IntRect) (a b : Pt) → InBounds l a → InBounds r b → InBounds (sumBounds l r) (a +ᵖ b)
-inside-add l r a b i j = record {
+inside-add : {l r : IntRect} {a b : Pt} → InBounds l a → InBounds r b → InBounds (sumBounds l r) (a +ᵖ b)
+inside-add i j = record {
   left = +-mono (i .left) (j .left);
   right = +-mono (i .right) (j .right);
   low = +-mono (i .low) (j .low);
@@ -71,34 +71,34 @@ inside-add l r a b i j = record {
 abbrev pub turnedBounds : IntRect → IntRect
 turnedBounds r = record { «min_x» = negℤ (r .«max_x»); «max_x» = negℤ (r .«min_x»); «min_y» = negℤ (r .«max_y»); «max_y» = negℤ (r .«min_y») }
 
-pub inside-neg : (r : IntRect) (b : Pt) → InBounds r b → InBounds (turnedBounds r) (negᵖ b)
-inside-neg r b i = record { left = neg-mono (i .right); right = neg-mono (i .left); low = neg-mono (i .high); high = neg-mono (i .low) }
+pub inside-neg : {r : IntRect} {b : Pt} → InBounds r b → InBounds (turnedBounds r) (negᵖ b)
+inside-neg i = record { left = neg-mono (i .right); right = neg-mono (i .left); low = neg-mono (i .high); high = neg-mono (i .low) }
 
 sum-inside : (l r : IntRect) (c : Pt) (A B : List Pt) → All (InBounds l) A → All (InBounds r) B → Any (λ a. Any (λ b. c ≡ a +ᵖ b) B) A → InBounds (sumBounds l r) c
-sum-inside l r c A B ha hb s = all-any A ha s (λ a i t. all-any B hb t (λ b j e. subst (InBounds (sumBounds l r)) (sym e) (inside-add l r a b i j)))
+sum-inside l r c A B ha hb s = all-any A ha s (λ a i t. all-any B hb t (λ b j e. subst (InBounds (sumBounds l r)) (sym e) (inside-add i j)))
 
 -- each corner of a pair lies within the bounds of the pair
 pair-inside : (reflected : Bool) (l r : IntRect) (A B : List Pt) → All (InBounds l) A → All (InBounds r) B → All (InBounds (resultBounds reflected l r)) (pairContour reflected A B)
 unfolding resultBounds second throughOrigin
 pair-inside false l r A B ha hb = all-map (pairContour false A B) (λ c s. sum-inside l r c A B ha hb s) (corners-are-sums false A B)
 pair-inside true l r A B ha hb =
-    let turned : All (InBounds (turnedBounds r)) (map negᵖ B) = all-image (InBounds (turnedBounds r)) negᵖ B .1 (all-map B (λ b i. inside-neg r b i) hb) in
+    let turned : All (InBounds (turnedBounds r)) (map negᵖ B) = all-image (InBounds (turnedBounds r)) negᵖ B .1 (all-map B (λ b i. inside-neg i) hb) in
     all-map (pairContour true A B) (λ c s. sum-inside l (turnedBounds r) c A (map negᵖ B) ha turned s) (corners-are-sums true A B)
 
 -- ---- on the grid, where the bounds are
 
-between : (a b z : ℤ) → inRange a ≡ true → inRange b ≡ true → a ≤ℤ z → z ≤ℤ b → inRange z ≡ true
+between : {a b : ℤ} (z : ℤ) → inRange a ≡ true → inRange b ≡ true → a ≤ℤ z → z ≤ℤ b → inRange z ≡ true
 unfolding inRange
-between a b z ha hb h k = rw (<-leZ {x = z} {y = negsuc 1073741823} (omega (zarith, abs-parts a, in-range-coordinate a ha .abs)), <-ltZ {x = z} {y = pos 1073741824} (omega (zarith, abs-parts b, in-range-coordinate b hb .abs)))
+between {a} {b} z ha hb h k = rw (<-leZ {x = z} {y = negsuc 1073741823} (omega (zarith, abs-parts a, in-range-coordinate a ha .abs)), <-ltZ {x = z} {y = pos 1073741824} (omega (zarith, abs-parts b, in-range-coordinate b hb .abs)))
 
-inside-grid : (b : IntRect) (p : Pt) → offRange (boundsList b) ≡ false → InBounds b p → onGrid p ≡ true
+inside-grid : {b : IntRect} {p : Pt} → offRange (boundsList b) ≡ false → InBounds b p → onGrid p ≡ true
 unfolding offRange onGrid
-inside-grid b p h i =
+inside-grid {b} {p} h i =
     let t = was-taken (inRange (b .«min_x»)) _ h in
     let u = was-taken (inRange (b .«max_x»)) _ (t .1) in
     let v = was-taken (inRange (b .«min_y»)) _ (u .1) in
     let w = was-taken (inRange (b .«max_y»)) _ (v .1) in
-    rw (between _ _ (p .x) (t .0) (u .0) (i .left) (i .right), between _ _ (p .y) (v .0) (w .0) (i .low) (i .high))
+    rw (between (p .x) (t .0) (u .0) (i .left) (i .right), between (p .y) (v .0) (w .0) (i .low) (i .high))
 
 -- ---- all pairs of accepted operands
 
@@ -143,6 +143,6 @@ result-within reflected l r s c h =
     pairs-all (All (λ p. (withinBounds (resultBounds reflected (l .bounds) (r .bounds)) p ≡ true) × (onGrid p ≡ true))) reflected (operandParts l) (operandParts r)
     (all-map (operandParts l)
     (λ A ha. all-map (operandParts r)
-    (λ B hb. all-map (pairContour reflected A B) (λ p i. (inside-within _ p i, inside-grid _ p (u .result-bounds) i)) (pair-inside reflected (l .bounds) (r .bounds) A B ha hb))
+    (λ B hb. all-map (pairContour reflected A B) (λ p i. (inside-within i, inside-grid (u .result-bounds) i)) (pair-inside reflected (l .bounds) (r .bounds) A B ha hb))
     (parts-inside r (u .right-table) (u .right-bounds)))
     (parts-inside l (u .left-table) (u .left-bounds)))

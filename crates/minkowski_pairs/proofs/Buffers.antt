@@ -18,7 +18,7 @@ use Rattle.minkowski.proofs.EachPair.{length-pairs, each-pair}
 use Rattle.minkowski_pairs.specs.Results.{resultContours, ResultIsPairs, EmittedWhole, TableReach, TableDeBerg, PairsShard}
 
 pub result-is-pairs : ResultIsPairs
-result-is-pairs reflected l r s c h = contours-left (pairContours reflected l r) (length (operandParts l) * length (operandParts r)) (pairsFault reflected l r (length s) (length c)) s c (sym (length-pairs reflected (operandParts l) (operandParts r))) h
+result-is-pairs reflected l r s c h = contours-left (pairContours reflected l r) s c (sym (length-pairs reflected (operandParts l) (operandParts r))) h
 
 -- what stands for pair i, j is the pair's contour
 pair-stands :

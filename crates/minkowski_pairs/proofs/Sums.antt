@@ -26,7 +26,7 @@ record On (reflected : Bool) (l : List Pt) (w : Place) : Type 0 where
 
 on-advance : {reflected : Bool} {l : List Pt} {w : Place} → On reflected l w → On reflected l (advance (length l) w)
 unfolding advance
-on-advance {l = l} {w} o = record { valid = valid-advance (length l) w (o .valid); turns = o .turns }
+on-advance {l = l} {w} o = record { valid = valid-advance (o .valid); turns = o .turns }
 
 on-begin : (reflected : Bool) (l : List Pt) → 0 < length l → On reflected l (begin reflected l)
 on-begin reflected l h = record {
@@ -35,10 +35,10 @@ on-begin reflected l h = record {
 }
 
 -- its point is a corner, negated where the walk is reflected
-on-point : (reflected : Bool) (l : List Pt) (w : Place) → On reflected l w → Any (λ c. pointOf l w ≡ c) (demand.second reflected l)
+on-point : {reflected : Bool} {l : List Pt} {w : Place} → On reflected l w → Any (λ c. pointOf l w ≡ c) (demand.second reflected l)
 unfolding pointOf demand.second throughOrigin
-on-point false l w o = getD-any (λ c. pointOf l w ≡ c) l O (w .index) (o .valid .index) (ap (λ t. turned t (cornerAt l (w .index))) (o .turns))
-on-point true l w o =
+on-point {reflected = false} {l} {w} o = getD-any (λ c. pointOf l w ≡ c) l O (w .index) (o .valid .index) (ap (λ t. turned t (cornerAt l (w .index))) (o .turns))
+on-point {reflected = true} {l} {w} o =
     any-image (λ c. pointOf l w ≡ c) negᵖ l .1
     (getD-any (λ c. pointOf l w ≡ negᵖ c) l O (w .index) (o .valid .index) (ap (λ t. turned t (cornerAt l (w .index))) (o .turns)))
 
@@ -54,21 +54,21 @@ module _ (reflected : Bool) (A B : List Pt) where
   Sum c = Any (λ a. Any (λ b. c ≡ a +ᵖ b) (demand.second reflected B)) A
 
   -- so the sum of their points is a sum of corners
-  sum-here : (s : ConvexSum) → Both s → Sum (sumPoint A B s)
-  sum-here s h =
-      any-map A (λ a e. any-map (demand.second reflected B) (λ b f. λ i. e i +ᵖ f i) (on-point reflected B (s .b) (h .1))) (plain A (s .a) (h .0))
+  sum-here : {s : ConvexSum} → Both s → Sum (sumPoint A B s)
+  sum-here h =
+      any-map A (λ a e. any-map (demand.second reflected B) (λ b f. λ i. e i +ᵖ f i) (on-point (h .1))) (plain (h .0))
     where
-      plain : (l : List Pt) (w : Place) → On false l w → Any (λ c. pointOf l w ≡ c) l
-      plain l w o = unfold demand.second in on-point false l w o
+      plain : {l : List Pt} {w : Place} → On false l w → Any (λ c. pointOf l w ≡ c) l
+      plain o = unfold demand.second in on-point o
 
   -- a run keeps them there
-  run-on : (n : ℕ) (h : Heading) (s : ConvexSum) → Both s → Both (run n A B h s .at)
+  run-on : (n : ℕ) (h : Heading) {s : ConvexSum} → Both s → Both (run n A B h s .at)
   unfolding run
-  run-on zero h s o = o
-  run-on (suc n) h s o = by (λ g t k. run-on n g t k) (nextStep A B s)
+  run-on zero h o = o
+  run-on (suc n) h {s} o = by (λ g t k. run-on n g k) (nextStep A B s)
     where
-      go : ((g : Heading) (t : ConvexSum) → Both t → Both (run n A B g t .at)) → (e : Pt) (t : ConvexSum) → Both t → Both ((cond (belongs h e) (run n A B (headed h e) t) (record { heading = h; at = s })) .at)
-      go rest e t k = by-test (belongs h e) (λ b. rw b (rest (headed h e) t k)) (λ b. rw b o)
+      go : ((g : Heading) (t : ConvexSum) → Both t → Both (run n A B g t .at)) → (e : Pt) {t : ConvexSum} → Both t → Both ((cond (belongs h e) (run n A B (headed h e) t) (record { heading = h; at = s })) .at)
+      go rest e {t} k = by-test (belongs h e) (λ b. rw b (rest (headed h e) t k)) (λ b. rw b o)
 
       by : ((g : Heading) (t : ConvexSum) → Both t → Both (run n A B g t .at)) → (p : Pick) → Stood (elim p [
         | none ↦ record { heading = h; at = s }
@@ -76,22 +76,22 @@ module _ (reflected : Bool) (A B : List Pt) where
         | second e ↦ cond (belongs h e) (run n A B (headed h e) (stepSecond B s)) (record { heading = h; at = s })
       ])
       by rest none = o
-      by rest (first e) = go rest e (stepFirst A s) (on-advance (o .0), o .1)
-      by rest (second e) = go rest e (stepSecond B s) (o .0, on-advance (o .1))
+      by rest (first e) = go rest e (on-advance (o .0), o .1)
+      by rest (second e) = go rest e (o .0, on-advance (o .1))
 
-  emit-sums : (n : ℕ) (s : ConvexSum) → Both s → All Sum (emit n A B s)
+  emit-sums : (n : ℕ) {s : ConvexSum} → Both s → All Sum (emit n A B s)
   unfolding emit pairStep
-  emit-sums zero s o = tt
-  emit-sums (suc n) s o = by (λ t k. emit-sums n t k) (run (stepsLeft s) A B unset s .heading) (run (stepsLeft s) A B unset s .at) (run-on (stepsLeft s) unset s o)
+  emit-sums zero o = tt
+  emit-sums (suc n) {s} o = by (λ t k. emit-sums n k) (run (stepsLeft s) A B unset s .heading) (run-on (stepsLeft s) unset o)
     where
-      by : ((t : ConvexSum) → Both t → All Sum (emit n A B t)) → (h : Heading) (t : ConvexSum) → Both t → All Sum (elim (emittedBy (sumPoint A B s) (record { heading = h; at = t })) [ corner p t ↦ p ∷ emit n A B t | end t ↦ [] ])
-      by rest unset t k = tt
-      by rest (along d) t k = (sum-here s o, rest t k)
+      by : ((t : ConvexSum) → Both t → All Sum (emit n A B t)) → (h : Heading) {t : ConvexSum} → Both t → All Sum (elim (emittedBy (sumPoint A B s) (record { heading = h; at = t })) [ corner p t ↦ p ∷ emit n A B t | end t ↦ [] ])
+      by rest unset k = tt
+      by rest (along d) {t} k = (sum-here o, rest t k)
 
 pub corners-are-sums : CornersAreSums
 unfolding pairContour
 corners-are-sums reflected [] B = tt
 corners-are-sums reflected (p ∷ A) [] = tt
 corners-are-sums reflected (p ∷ A) (q ∷ B) =
-    emit-sums reflected (p ∷ A) (q ∷ B) (stepsLeft (startOf reflected (p ∷ A) (q ∷ B))) (startOf reflected (p ∷ A) (q ∷ B))
+    emit-sums reflected (p ∷ A) (q ∷ B) (stepsLeft (startOf reflected (p ∷ A) (q ∷ B)))
     (on-begin false (p ∷ A) (omega arith), on-begin reflected (q ∷ B) (omega arith))

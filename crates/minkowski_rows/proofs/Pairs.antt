@@ -28,9 +28,9 @@ use Rattle.minkowski_rows.specs.Rows.{PairsRoom, PairsPut, AllPut}
 
 -- its corners put, and the start after it
 pub pairs-one :
-    (p : List Pt) (starts : List ℕ) (n : ℕ) (out : List ℤ) (k : ℕ) {starts′ : List ℕ} {out′ : List ℤ} {k′ : ℕ} → n + 1 < length starts → CornersPut p out k out′ k′ → starts′ ≡ set starts (n + 1) k′ →
+    {p : List Pt} (starts : List ℕ) (n : ℕ) {out : List ℤ} {k : ℕ} {starts′ : List ℕ} {out′ : List ℤ} {k′ : ℕ} → n + 1 < length starts → CornersPut p out k out′ k′ → starts′ ≡ set starts (n + 1) k′ →
     PairsPut (p ∷ []) starts n out k starts′ (n + 1) out′ k′
-pairs-one p starts n out k {starts′} {out′} {k′} h a e = record {
+pairs-one {p} starts n {out} {k} {starts′} {out′} {k′} h a e = record {
   starts-size = ap length e ∙ length-set starts (n + 1) k′;
   out-size = a .size;
   contours = refl;
@@ -47,7 +47,7 @@ pairs-one p starts n out k {starts′} {out′} {k′} h a e = record {
         let size : length (startsOf done) ≡ n + 1 = length-starts done ∙ sym (add-one (length done)) ∙ ap (λ m. m + 1) d in
         let room : n + 1 < length s = omega (arith, ap length (u ∙ overlay-eq (startsOf done) s), length-append (startsOf done) (drop (length (startsOf done)) s), length-drop (length (startsOf done)) s) in
         let count : k′ ≡ length (flatten done ++ p) = omega (arith, a .count, f, length-append (flatten done) p) in (
-          e ∙ overlay-turn (startsOf done) s (n + 1) k′ u size room ∙ (λ i. overlay (startsOf done ++ (count i ∷ [])) s) ∙ ap (λ l. overlay l s) (sym (starts-more done p)),
+          e ∙ overlay-turn (startsOf done) s k′ u size room ∙ (λ i. overlay (startsOf done ++ (count i ∷ [])) s) ∙ ap (λ l. overlay l s) (sym (starts-more done p)),
           a .written (flatten done) c f (v ∙ corners-of done c) ∙ ap (λ l. overlay (numbersOf l) c) (sym (flatten-more done p)) ∙ sym (corners-of (done ++ (p ∷ [])) c),
         )
       where
@@ -67,9 +67,9 @@ pairs-none starts n out k = record {
 }
 
 pub pairs-then :
-    (x y : List (List Pt)) {s s′ s″ : List ℕ} {n n′ n″ : ℕ} {o o′ o″ : List ℤ} {k k′ k″ : ℕ} → PairsPut x s n o k s′ n′ o′ k′ → PairsPut y s′ n′ o′ k′ s″ n″ o″ k″ →
+    {x y : List (List Pt)} {s s′ s″ : List ℕ} {n n′ n″ : ℕ} {o o′ o″ : List ℤ} {k k′ k″ : ℕ} → PairsPut x s n o k s′ n′ o′ k′ → PairsPut y s′ n′ o′ k′ s″ n″ o″ k″ →
     PairsPut (x ++ y) s n o k s″ n″ o″ k″
-pairs-then x y {s″ = s″} {o″ = o″} a b = record {
+pairs-then {x} {y} {s″ = s″} {o″ = o″} a b = record {
   starts-size = b .starts-size ∙ a .starts-size;
   out-size = b .out-size ∙ a .out-size;
   contours = omega (arith, a .contours, b .contours, length-append x y);
@@ -82,8 +82,8 @@ pairs-then x y {s″ = s″} {o″ = o″} a b = record {
 
 -- room for the next ones
 pub room-next :
-    (x y z : List (List Pt)) {s s′ : List ℕ} {n n′ : ℕ} {o o′ : List ℤ} {k k′ : ℕ} → PairsRoom (x ++ (y ++ z)) s n o k → PairsPut x s n o k s′ n′ o′ k′ → PairsRoom y s′ n′ o′ k′
-room-next x y z r a =
+    {x : List (List Pt)} (y z : List (List Pt)) {s s′ : List ℕ} {n n′ : ℕ} {o o′ : List ℤ} {k k′ : ℕ} → PairsRoom (x ++ (y ++ z)) s n o k → PairsPut x s n o k s′ n′ o′ k′ → PairsRoom y s′ n′ o′ k′
+room-next {x} y z r a =
     let e = length-append x (y ++ z) in
     let f = length-append y z in
     let g = length-flatten-append x (y ++ z) in
@@ -96,10 +96,10 @@ room-next x y z r a =
 
 -- from the first on, once the first start is 0
 pub all-put :
-    (ps : List (List Pt)) (s : List ℕ) (c : List ℤ) {s₀ s′ : List ℕ} {c′ : List ℤ} {n k : ℕ} → 0 < length s → s₀ ≡ set s 0 0 → PairsPut ps s₀ 0 c 0 s′ n c′ k → AllPut ps s c s′ c′ k
+    {ps : List (List Pt)} (s : List ℕ) {c : List ℤ} {s₀ s′ : List ℕ} {c′ : List ℤ} {n k : ℕ} → 0 < length s → s₀ ≡ set s 0 0 → PairsPut ps s₀ 0 c 0 s′ n c′ k → AllPut ps s c s′ c′ k
 unfolding startsOf startsFrom cornersOf numbersOf flatten
-all-put ps s c h e a =
-    let w = a .written [] s c refl refl (e ∙ overlay-turn [] s 0 0 (sym (overlay-nil s)) refl h) (sym (overlay-nil c)) in
+all-put s {c} h e a =
+    let w = a .written [] s c refl refl (e ∙ overlay-turn [] s 0 (sym (overlay-nil s)) refl h) (sym (overlay-nil c)) in
     record { starts = w .0; corners = w .1; count = a .corners ∙ omega arith }
 
 -- ---- a turn of a row, and of all rows
@@ -120,25 +120,25 @@ module _ {s s′ : List ℕ} {n n′ : ℕ} {o o′ : List ℤ} {k k′ : ℕ} w
   pub row-room : (a : List Pt) (rs : List (List Pt)) (q : ℕ) {b : List Pt} → q < length rs → getD rs q [] ≡ b → PairsRoom (mergedRow a rs) s n o k → PairsPut (mergedRow a (take q rs)) s n o k s′ n′ o′ k′ → PairsRoom (mergedOf a b ∷ []) s′ n′ o′ k′
   row-room a rs q h e r p =
       subst (λ l. PairsRoom (mergedOf a l ∷ []) s′ n′ o′ k′) e
-      (room-next (mergedRow a (take q rs)) (mergedOf a (getD rs q []) ∷ []) (mergedRow a (drop (suc q) rs)) (subst (λ l. PairsRoom l s n o k) (row-whole a rs q h) r) p)
+      (room-next (mergedOf a (getD rs q []) ∷ []) (mergedRow a (drop (suc q) rs)) (subst (λ l. PairsRoom l s n o k) (row-whole a rs q h) r) p)
 
   pub row-more : (a : List Pt) (rs : List (List Pt)) (q : ℕ) {b : List Pt} {s″ : List ℕ} {m m′ : ℕ} {o″ : List ℤ} {k″ : ℕ} → q < length rs → getD rs q [] ≡ b → PairsPut (mergedRow a (take q rs)) s n o k s′ n′ o′ k′ → PairsPut (mergedOf a b ∷ []) s′ n′ o′ k′ s″ m o″ k″ → m ≡ m′ → PairsPut (mergedRow a (take (q + 1) rs)) s n o k s″ m′ o″ k″
   row-more a rs q {b} {s″} {m} {m′} {o″} {k″} h d p one e =
       subst (λ j. PairsPut (mergedRow a (take (q + 1) rs)) s n o k s″ j o″ k″) e
-      (subst (λ l. PairsPut l s n o k s″ m o″ k″) (sym (row-suc a rs q h ∙ ap (λ l. mergedRow a (take q rs) ++ (mergedOf a l ∷ [])) d)) (pairs-then (mergedRow a (take q rs)) (mergedOf a b ∷ []) p one))
+      (subst (λ l. PairsPut l s n o k s″ m o″ k″) (sym (row-suc a rs q h ∙ ap (λ l. mergedRow a (take q rs) ++ (mergedOf a l ∷ [])) d)) (pairs-then p one))
 
   pub all-room : (ls rs : List (List Pt)) (p : ℕ) {a : List Pt} → p < length ls → getD ls p [] ≡ a → PairsRoom (mergedAll ls rs) s n o k → PairsPut (mergedAll (take p ls) rs) s n o k s′ n′ o′ k′ → PairsRoom (mergedRow a rs) s′ n′ o′ k′
   all-room ls rs p h e r u =
       subst (λ l. PairsRoom (mergedRow l rs) s′ n′ o′ k′) e
-      (room-next (mergedAll (take p ls) rs) (mergedRow (getD ls p []) rs) (mergedAll (drop (suc p) ls) rs) (subst (λ l. PairsRoom l s n o k) (all-whole ls rs p h) r) u)
+      (room-next (mergedRow (getD ls p []) rs) (mergedAll (drop (suc p) ls) rs) (subst (λ l. PairsRoom l s n o k) (all-whole ls rs p h) r) u)
 
   pub all-more : (ls rs : List (List Pt)) (p : ℕ) {a : List Pt} {s″ : List ℕ} {m : ℕ} {o″ : List ℤ} {k″ : ℕ} → p < length ls → getD ls p [] ≡ a → PairsPut (mergedAll (take p ls) rs) s n o k s′ n′ o′ k′ → PairsPut (mergedRow a rs) s′ n′ o′ k′ s″ m o″ k″ → PairsPut (mergedAll (take (p + 1) ls) rs) s n o k s″ m o″ k″
   all-more ls rs p {a} {s″} {m} {o″} {k″} h e u row =
-      subst (λ l. PairsPut l s n o k s″ m o″ k″) (sym (all-suc ls rs p h ∙ ap (λ l. mergedAll (take p ls) rs ++ mergedRow l rs) e)) (pairs-then (mergedAll (take p ls) rs) (mergedRow a rs) u row)
+      subst (λ l. PairsPut l s n o k s″ m o″ k″) (sym (all-suc ls rs p h ∙ ap (λ l. mergedAll (take p ls) rs ++ mergedRow l rs) e)) (pairs-then u row)
 
 -- a row with all its walks
-pub row-done : (a : List Pt) (rs : List (List Pt)) (q : ℕ) {s s′ : List ℕ} {n m : ℕ} {o o′ : List ℤ} {k k′ : ℕ} → q ≡ m → m ≡ length rs → PairsPut (mergedRow a (take q rs)) s n o k s′ (n + q) o′ k′ → PairsPut (mergedRow a rs) s n o k s′ (n + m) o′ k′
-row-done a rs q {s} {s′} {n} {m} {o} {o′} {k} {k′} e f p =
+pub row-done : (a : List Pt) (rs : List (List Pt)) {q : ℕ} {s s′ : List ℕ} {n m : ℕ} {o o′ : List ℤ} {k k′ : ℕ} → q ≡ m → m ≡ length rs → PairsPut (mergedRow a (take q rs)) s n o k s′ (n + q) o′ k′ → PairsPut (mergedRow a rs) s n o k s′ (n + m) o′ k′
+row-done a rs {q} {s} {s′} {n} {m} {o} {o′} {k} {k′} e f p =
     subst (λ j. PairsPut (mergedRow a rs) s n o k s′ (n + j) o′ k′) e
     (subst (λ l. PairsPut (mergedRow a l) s n o k s′ (n + q) o′ k′) (take-all q rs (omega (arith, e, f))) p)
 
@@ -147,9 +147,9 @@ pub put-equal : {x y : List Pt} {o o′ : List ℤ} {k k′ : ℕ} → x ≡ y �
 put-equal {o = o} {o′} {k} {k′} e p = subst (λ l. CornersPut l o k o′ k′) e p
 
 -- the room is the same once the first start is put
-pub room-resized : {ps : List (List Pt)} (s : List ℕ) {s₀ : List ℕ} {n : ℕ} {o : List ℤ} {k : ℕ} → s₀ ≡ set s 0 0 → PairsRoom ps s n o k → PairsRoom ps s₀ n o k
-room-resized s e r = record { for-starts = omega (arith, r .for-starts, ap length e, length-set s 0 0); for-corners = r .for-corners; small = r .small }
+pub room-resized : {ps : List (List Pt)} {s : List ℕ} {s₀ : List ℕ} {n : ℕ} {o : List ℤ} {k : ℕ} → s₀ ≡ set s 0 0 → PairsRoom ps s n o k → PairsRoom ps s₀ n o k
+room-resized {s} e r = record { for-starts = omega (arith, r .for-starts, ap length e, length-set s 0 0); for-corners = r .for-corners; small = r .small }
 
 -- all rows
-pub all-done : (ls rs : List (List Pt)) (p : ℕ) (s : List ℕ) (c : List ℤ) {s₀ s′ : List ℕ} {c′ : List ℤ} {n k : ℕ} → length ls ≤ p → 0 < length s → s₀ ≡ set s 0 0 → PairsPut (mergedAll (take p ls) rs) s₀ 0 c 0 s′ n c′ k → AllPut (mergedAll ls rs) s c s′ c′ k
-all-done ls rs p s c {s₀} {s′} {c′} {n} {k} e h f a = all-put (mergedAll ls rs) s c h f (subst (λ l. PairsPut (mergedAll l rs) s₀ 0 c 0 s′ n c′ k) (take-all p ls e) a)
+pub all-done : (ls rs : List (List Pt)) (p : ℕ) (s : List ℕ) {c : List ℤ} {s₀ s′ : List ℕ} {c′ : List ℤ} {n k : ℕ} → length ls ≤ p → 0 < length s → s₀ ≡ set s 0 0 → PairsPut (mergedAll (take p ls) rs) s₀ 0 c 0 s′ n c′ k → AllPut (mergedAll ls rs) s c s′ c′ k
+all-done ls rs p s {c} {s₀} {s′} {c′} {n} {k} e h f a = all-put s h f (subst (λ l. PairsPut (mergedAll l rs) s₀ 0 c 0 s′ n c′ k) (take-all p ls e) a)

@@ -69,14 +69,14 @@ module _ (reflected : Bool) (l r : Operand) (s c : ℕ) where
 
 module _ (reflected : Bool) (l r : Operand) where
   pub left-leaves : someWindingLeaves false (operandParts l) ≡ true → 8 ≡ firstFault (walkKinds reflected l r)
-  left-leaves h = sym (first-this 8 _ _ h)
+  left-leaves h = sym (first-this 8 _ h)
 
   module _ (h : someWindingLeaves false (operandParts l) ≡ false) where
     pub right-leaves : someWindingLeaves reflected (operandParts r) ≡ true → 8 ≡ firstFault (walkKinds reflected l r)
-    right-leaves k = sym (first-next 8 _ _ h ∙ first-this 8 _ _ k)
+    right-leaves k = sym (first-next 8 _ h ∙ first-this 8 _ k)
 
     pub result-decides : someWindingLeaves reflected (operandParts r) ≡ false → firstFault (walkKinds reflected l r) ≡ firstFault (resultKinds reflected l r)
-    result-decides k = first-next 8 _ _ h ∙ first-next 8 _ _ k
+    result-decides k = first-next 8 _ h ∙ first-next 8 _ k
 
   -- the result's, by its bounds as they were computed
   pub result-kinds : {b : IntRect} → b ≡ resultBounds reflected (l .bounds) (r .bounds) → firstFault ((10, offRange (boundsList b)) ∷ (20, eqb (partCount (l .starts)) 0) ∷ (20, eqb (partCount (r .starts)) 0) ∷ []) ≡ firstFault (resultKinds reflected l r)

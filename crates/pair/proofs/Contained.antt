@@ -100,9 +100,9 @@ module _ (L K : List Pt) (full : L ≡ [] → ⊥) (same : (d : Pt) → reach d 
 
 module _ (L : List Pt) (full : L ≡ [] → ⊥) (P : Pt) (M : List Pt) (c : Convex M) (s : Sorted Lt M) (same : (d : Pt) → reach d L ≡ reach d (cornersFrom P M)) where
   -- between neighbours e and f
-  between : (e f : Pt) → Nz e → Nz f → pos 0 <ℤ cross e f → cut f M ≡ e +ᵖ cut e M → In L (P +ᵖ cut f M)
-  between e f ne nf turn on =
-      corner-in L (cornersFrom P M) full same (P +ᵖ cut f M) (cut-corner f nf P M c) e f turn
+  between : {e f : Pt} → Nz e → Nz f → pos 0 <ℤ cross e f → cut f M ≡ e +ᵖ cut e M → In L (P +ᵖ cut f M)
+  between {e} {f} ne nf turn on =
+      corner-in L (cornersFrom P M) full same (P +ᵖ cut f M) (cut-corner nf P c) e f turn
       (all-map (cornersFrom P M) (λ q k. subst (λ v. cross q e ≤ℤ v) (own P (cut e M) e ∙ ap (λ v. cross (P +ᵖ v) e) (sym on)) k) (corner-bound e ne P M c))
       (corner-bound f nf P M c)
     where
@@ -120,7 +120,7 @@ module _ (L : List Pt) (full : L ≡ [] → ⊥) (P : Pt) (M : List Pt) (c : Con
   contains =
       subst (All (In L)) (sym (corners-cuts P M s)) (all-image (In L) (λ f. P +ᵖ cut f M) M .1
       (all-perm corner-of (perm-rotate 1 M) (subst (All corner-of) (seconds-neighbours M) (all-image corner-of (λ t. t .1) (neighbours M) .1
-      (all-map2 (neighbours M) (λ t n h. between (t .0) (t .1) (n .0) (n .1) (h .0) (h .1)) (all-neighbours Nz M (c .nonzero)) turns)))))
+      (all-map2 (neighbours M) (λ t n h. between (n .0) (n .1) (h .0) (h .1)) (all-neighbours Nz M (c .nonzero)) turns)))))
     where
       turns : All (λ t. (pos 0 <ℤ cross (t .0) (t .1)) × (cut (t .1) M ≡ t .0 +ᵖ cut (t .0) M)) (neighbours M)
-      turns = all-map2 (neighbours M) (λ t a b. (a, b)) (turns-left M c s) (cut-next M s (c .closed))
+      turns = all-map2 (neighbours M) (λ t a b. (a, b)) (turns-left c s) (cut-next M s (c .closed))

@@ -45,19 +45,19 @@ merge-cases = record {
 -- nothing after e has its direction: its run ends
 runs-end : (e s : Pt) (X : List Pt) → All (Lt e) X → runs e s X ≡ s ∷ grouped X
 runs-end e s [] h = unfold runs grouped in refl
-runs-end e s (f ∷ X) h = runs-by e s f X (λ r. r ≡ s ∷ grouped (f ∷ X)) (lt-le (h .0)) (λ k. absurd (lt-not-same (h .0) k)) (λ k. unfold grouped in refl)
+runs-end e s (f ∷ X) h = runs-by s X (λ r. r ≡ s ∷ grouped (f ∷ X)) (lt-le (h .0)) (λ k. absurd (lt-not-same (h .0) k)) (λ k. unfold grouped in refl)
 
 -- each run is one edge
-grouped-strict : (l : List Pt) → Sorted Lt l → grouped l ≡ l
+grouped-strict : {l : List Pt} → Sorted Lt l → grouped l ≡ l
 unfolding grouped
-grouped-strict [] s = refl
-grouped-strict (e ∷ l) s = runs-end e e l (s .0) ∙ ap (λ r. e ∷ r) (grouped-strict l (s .1))
+grouped-strict {l = []} s = refl
+grouped-strict {l = e ∷ l} s = runs-end e e l (s .0) ∙ ap (λ r. e ∷ r) (grouped-strict (s .1))
 
 -- f before all of m steps first
-stepped-first : (f : Pt) (m l : List Pt) → Nz f → All Nz m → All (Lt f) m → stepped m (f ∷ l) ≡ f ∷ stepped m l
+stepped-first : {f : Pt} (m l : List Pt) → Nz f → All Nz m → All (Lt f) m → stepped m (f ∷ l) ≡ f ∷ stepped m l
 unfolding stepped
-stepped-first f [] l nf nm h = refl
-stepped-first f (g ∷ m) l nf nm h = step-by g (stepped m) f l (λ r. r ≡ f ∷ stepOne g (stepped m) l) (nm .0) nf (λ k. refl) (λ k. absurd (clash (h .0) k))
+stepped-first [] l nf nm h = refl
+stepped-first {f} (g ∷ m) l nf nm h = step-by g (stepped m) l (λ r. r ≡ f ∷ stepOne g (stepped m) l) (nm .0) nf (λ k. refl) (λ k. absurd (clash (h .0) k))
 
 -- ---- the merges agree
 
@@ -69,12 +69,12 @@ module _ (e : Pt) (m : List Pt) (ne : Nz e) (nm : All Nz m) (em : All (Lt e) m)
   alone l nl sl el = ap (λ r. e ∷ r) (rest l nl sl) ∙ sym (runs-end e e (stepped m l) (all-stepped (Lt e) m l em el))
 
   -- e and f in one direction
-  added : (f : Pt) (l : List Pt) → Nz f → All Nz l → All (Lt f) l → Sorted Lt l → Same e f → (e +ᵖ f) ∷ mergeByAngle m l ≡ grouped (e ∷ stepped m (f ∷ l))
+  added : {f : Pt} (l : List Pt) → Nz f → All Nz l → All (Lt f) l → Sorted Lt l → Same e f → (e +ᵖ f) ∷ mergeByAngle m l ≡ grouped (e ∷ stepped m (f ∷ l))
   unfolding grouped
-  added f l nf nl fl sl s =
+  added {f} l nf nl fl sl s =
       ap (λ r. (e +ᵖ f) ∷ r) (rest l nl sl)
-      ∙ sym (ap (runs e e) (stepped-first f m l nf nm (all-map2 m (λ g n k. same-lt nf ne n (same-sym s) k) nm em))
-      ∙ runs-by e e f (stepped m l) (λ r. r ≡ (e +ᵖ f) ∷ grouped (stepped m l)) (same-le s .0)
+      ∙ sym (ap (runs e e) (stepped-first m l nf nm (all-map2 m (λ g n k. same-lt nf ne n (same-sym s) k) nm em))
+      ∙ runs-by e (stepped m l) (λ r. r ≡ (e +ᵖ f) ∷ grouped (stepped m l)) (same-le s .0)
       (λ k. runs-end e (e +ᵖ f) (stepped m l) (all-stepped (Lt e) m l em (all-map2 l (λ g n k. same-lt ne nf n s k) nl fl))) (λ k. absurd (lt-not-same k s)))
 
   -- one edge of either list, or both on equality
@@ -82,26 +82,26 @@ module _ (e : Pt) (m : List Pt) (ne : Nz e) (nm : All Nz m) (em : All (Lt e) m)
   unfolding mergeOne stepOne grouped
   merge-front [] nl sl = alone [] nl sl tt
   merge-front (f ∷ l) nl sl =
-      step-by e (stepped m) f l (λ r. mergeOne e (mergeByAngle m) (f ∷ l) ≡ grouped r) ne (nl .0)
+      step-by e (stepped m) l (λ r. mergeOne e (mergeByAngle m) (f ∷ l) ≡ grouped r) ne (nl .0)
       (λ k. elim (angle-cases e f) [
         | before t x ↦ absurd (clash k (lt-le x))
         | beside t x ↦ absurd (clash k (same-le x .0))
         | after t x ↦
-            merge-one e f (mergeByAngle m) l t ∙ ap (λ r. f ∷ r) (merge-front l (nl .1) (sl .1)) ∙ sym (runs-end f f (stepOne e (stepped m) l) (later f l k (nl .0) (sl .0)))
+            merge-one e f (mergeByAngle m) l t ∙ ap (λ r. f ∷ r) (merge-front l (nl .1) (sl .1)) ∙ sym (runs-end f f (stepOne e (stepped m) l) (later l k (nl .0) (sl .0)))
       ])
       (λ k. elim (angle-cases e f) [
         | before t x ↦ merge-one e f (mergeByAngle m) l t ∙ alone (f ∷ l) nl sl (x, all-map2 l (λ g n j. lt-trans ne (nl .0) n x j) (nl .1) (sl .0))
-        | beside t x ↦ merge-one e f (mergeByAngle m) l t ∙ added f l (nl .0) (nl .1) (sl .0) (sl .1) x
+        | beside t x ↦ merge-one e f (mergeByAngle m) l t ∙ added l (nl .0) (nl .1) (sl .0) (sl .1) x
         | after t x ↦ absurd (clash x k)
       ])
     where
-      later : (f : Pt) (l : List Pt) → Lt f e → Nz f → All (Lt f) l → All (Lt f) (stepOne e (stepped m) l)
-      later f l k nf fl = unfold stepped in all-stepped (Lt f) (e ∷ m) l (k, all-map2 m (λ g n j. lt-trans nf ne n k j) nm em) fl
+      later : {f : Pt} (l : List Pt) → Lt f e → Nz f → All (Lt f) l → All (Lt f) (stepOne e (stepped m) l)
+      later {f} l k nf fl = unfold stepped in all-stepped (Lt f) (e ∷ m) l (k, all-map2 m (λ g n j. lt-trans nf ne n k j) nm em) fl
 
 -- both merges, list by list
 merge-grouped : (m l : List Pt) → All Nz m → All Nz l → Sorted Lt m → Sorted Lt l → mergeByAngle m l ≡ grouped (stepped m l)
 unfolding mergeByAngle stepped
-merge-grouped [] l nm nl sm sl = sym (grouped-strict l sl)
+merge-grouped [] l nm nl sm sl = sym (grouped-strict sl)
 merge-grouped (e ∷ m) l nm nl sm sl = merge-front e m (nm .0) (nm .1) (sm .0) (λ l nl sl. merge-grouped m l (nm .1) nl (sm .1) sl) l nl sl
 
 -- de Berg et al.'s merge is the join

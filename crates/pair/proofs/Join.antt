@@ -52,8 +52,8 @@ module _ (a : Pt) (k : List Pt → List Pt) where
       (λ y. by-test (isGreater (angleCmp a b)) (λ t. subst Q (sym (step-second b l z y t)) g) (λ t. subst Q (sym (step-first b l z y t)) h)))
 
   -- the lesser of two that are not zero, the first on equality
-  pub step-by : (b : Pt) (l : List Pt) (Q : List Pt → Type 0) → Nz a → Nz b → (Lt b a → Q (b ∷ stepOne a k l)) → (Le a b → Q (a ∷ k (b ∷ l))) → Q (stepOne a k (b ∷ l))
-  step-by b l Q na nb g h = elim (angle-cases a b) [
+  pub step-by : {b : Pt} (l : List Pt) (Q : List Pt → Type 0) → Nz a → Nz b → (Lt b a → Q (b ∷ stepOne a k l)) → (Le a b → Q (a ∷ k (b ∷ l))) → Q (stepOne a k (b ∷ l))
+  step-by {b} l Q na nb g h = elim (angle-cases a b) [
     | before e x ↦ subst Q (sym (step-first b l (not-zero na) (not-zero nb) (ap isGreater e))) (h (lt-le x))
     | beside e x ↦ subst Q (sym (step-first b l (not-zero na) (not-zero nb) (ap isGreater e))) (h (same-le x .0))
     | after e x ↦ subst Q (sym (step-second b l (not-zero na) (not-zero nb) (ap isGreater e))) (g x)
@@ -91,7 +91,7 @@ ascends-stepped (a ∷ m) l nm nl am al = with-front (λ l nl al. ascends-steppe
     with-front : ((l : List Pt) → All Nz l → Sorted Le l → Sorted Le (stepped m l)) → (l : List Pt) → All Nz l → Sorted Le l → Sorted Le (stepOne a (stepped m) l)
     with-front rest [] nl al = unfold stepOne in (all-stepped (Le a) m [] (am .0) tt, rest [] tt tt)
     with-front rest (b ∷ l) nl al =
-        step-by a (stepped m) b l (Sorted Le) (nm .0) (nl .0)
+        step-by a (stepped m) l (Sorted Le) (nm .0) (nl .0)
         (λ x. (all-stepped (Le b) (a ∷ m) l (lt-le x, all-map2 m (λ e n k. le-trans (nl .0) (nm .0) n (lt-le x) k) (nm .1) (am .0)) (al .0), with-front rest l (nl .1) (al .1)))
         (λ x. (all-stepped (Le a) m (b ∷ l) (am .0) (x, all-map2 l (λ e n k. le-trans (nm .0) (nl .0) n x k) (nl .1) (al .0)), rest (b ∷ l) nl al))
 
@@ -123,9 +123,9 @@ grouped-live-stepped m l = ap grouped (live-stepped m l)
 -- ---- runs of one direction
 
 -- the next edge in the run's direction, or after it
-pub runs-by : (d s f : Pt) (l : List Pt) (Q : List Pt → Type 0) → Le d f → (Same d f → Q (runs d (s +ᵖ f) l)) → (Lt d f → Q (s ∷ runs f f l)) → Q (runs d s (f ∷ l))
+pub runs-by : {d : Pt} (s : Pt) {f : Pt} (l : List Pt) (Q : List Pt → Type 0) → Le d f → (Same d f → Q (runs d (s +ᵖ f) l)) → (Lt d f → Q (s ∷ runs f f l)) → Q (runs d s (f ∷ l))
 unfolding runs
-runs-by d s f l Q le g h = elim (angle-cases d f) [
+runs-by {d} s {f} l Q le g h = elim (angle-cases d f) [
   | before e x ↦ subst (λ o. Q (cond (isEqual o) (runs d (s +ᵖ f) l) (s ∷ runs f f l))) (sym e) (h x)
   | beside e x ↦ subst (λ o. Q (cond (isEqual o) (runs d (s +ᵖ f) l) (s ∷ runs f f l))) (sym e) (g x)
   | after e x ↦ absurd (clash x le)
@@ -140,30 +140,30 @@ pub record Grouped (l R : List Pt) : Type 0 where
   pub lines : (v : Pt) → All (Line v) R → All (Line v) l
 
 -- a test that a, b and a + b pass alike, counted on the sum
-one-add : (a b : Pt) (s t u : Bool) → s ≡ u → t ≡ u → cond u (a +ᵖ b) O ≡ cond s a O +ᵖ cond t b O
-one-add a b s t true d e = λ i. cond (sym d i) a O +ᵖ cond (sym e i) b O
-one-add a b s t false d e = sym (+ᵖ-zero O) ∙ (λ i. cond (sym d i) a O +ᵖ cond (sym e i) b O)
+one-add : (a b : Pt) {s t u : Bool} → s ≡ u → t ≡ u → cond u (a +ᵖ b) O ≡ cond s a O +ᵖ cond t b O
+one-add a b {u = true} d e = λ i. cond (sym d i) a O +ᵖ cond (sym e i) b O
+one-add a b {u = false} d e = sym (+ᵖ-zero O) ∙ (λ i. cond (sym d i) a O +ᵖ cond (sym e i) b O)
 
 -- a run's first two edges added up
-grouped-two : (s f : Pt) (l R : List Pt) → Nz s → Nz f → Same s f → Grouped ((s +ᵖ f) ∷ l) R → Grouped (s ∷ f ∷ l) R
-grouped-two s f l R ns nf e g =
+grouped-two : {s f : Pt} (l : List Pt) {R : List Pt} → Nz s → Nz f → Same s f → Grouped ((s +ᵖ f) ∷ l) R → Grouped (s ∷ f ∷ l) R
+grouped-two {s} {f} l ns nf e g =
     let a : AddSame s f = add-same ns nf e in
     record {
       nonzero = g .nonzero;
       strict = g .strict;
       above = λ c nc h. g .above c nc (lt-same nc nf (a .nonzero) (h .1 .0) (same-sym (a .same)), h .1 .1);
       totals = λ p dp. g .totals p dp ∙ added p (dp s f ns nf e ∙ sym (dp (s +ᵖ f) f (a .nonzero) nf (a .same))) (sym (dp (s +ᵖ f) f (a .nonzero) nf (a .same)));
-      lines = λ v h. let r = g .lines v h in let q : Line v f = line-trans v (s +ᵖ f) f (a .nonzero) (r .0) (line-swap (s +ᵖ f) f (a .same .flat)) in
-          (line-trans v f s nf q (e .flat), (q, r .1));
+      lines = λ v h. let r = g .lines v h in let q : Line v f = line-trans v f (a .nonzero) (r .0) (line-swap (s +ᵖ f) f (a .same .flat)) in
+          (line-trans v s nf q (e .flat), (q, r .1));
     }
   where
     added : (p : Pt → Bool) → p s ≡ p (s +ᵖ f) → p f ≡ p (s +ᵖ f) → total p ((s +ᵖ f) ∷ l) ≡ total p (s ∷ f ∷ l)
-    added p c d = unfold total in (ap (λ v. v +ᵖ total p l) (one-add s f (p s) (p f) (p (s +ᵖ f)) c d) ∙ +ᵖ-assoc (one p s) (one p f) (total p l))
+    added p c d = unfold total in (ap (λ v. v +ᵖ total p l) (one-add s f c d) ∙ +ᵖ-assoc (one p s) (one p f) (total p l))
 
 -- a run before the others
-grouped-next : (s : Pt) (l R : List Pt) → Nz s → All (Lt s) l → Grouped l R → Grouped (s ∷ l) (s ∷ R)
+grouped-next : {s : Pt} {l R : List Pt} → Nz s → All (Lt s) l → Grouped l R → Grouped (s ∷ l) (s ∷ R)
 unfolding total
-grouped-next s l R ns sl g = record {
+grouped-next {s} ns sl g = record {
   nonzero = (ns, g .nonzero);
   strict = (g .above s ns sl, g .strict);
   above = λ c nc h. (h .0, g .above c nc (h .1));
@@ -175,20 +175,20 @@ grouped-next s l R ns sl g = record {
 runs-is : (d s : Pt) (l : List Pt) → Nz d → Nz s → Same s d → All Nz l → All (Le d) l → Sorted Le l → Grouped (s ∷ l) (runs d s l)
 runs-is d s [] nd ns e nl dl al = unfold runs in record { nonzero = (ns, tt); strict = (tt, tt); above = λ c nc h. h; totals = λ p dp. refl; lines = λ v h. h }
 runs-is d s (f ∷ l) nd ns e nl dl al =
-    runs-by d s f l (Grouped (s ∷ f ∷ l)) (dl .0)
+    runs-by s l (Grouped (s ∷ f ∷ l)) (dl .0)
     (λ k. let t : Same s f = same-trans ns nd (nl .0) e k in
     let a : AddSame s f = add-same ns (nl .0) t in
-    grouped-two s f l (runs d (s +ᵖ f) l) ns (nl .0) t
+    grouped-two l ns (nl .0) t
     (runs-is d (s +ᵖ f) l nd (a .nonzero) (same-trans (a .nonzero) (nl .0) nd (a .same) (same-sym k)) (nl .1) (dl .1) (al .1)))
     (λ k. let t : Lt s f = same-lt ns nd (nl .0) e k in
-    grouped-next s (f ∷ l) (runs f f l) ns (t, all-map2 l (λ x n m. lt-le-trans ns (nl .0) n t m) (nl .1) (al .0))
+    grouped-next ns (t, all-map2 l (λ x n m. lt-le-trans ns (nl .0) n t m) (nl .1) (al .0))
     (runs-is f f l (nl .0) (nl .0) (same-refl f) (nl .1) (al .0) (al .1)))
 
 -- any weakly ascending list
-pub grouped-is : (l : List Pt) → All Nz l → Sorted Le l → Grouped l (grouped l)
+pub grouped-is : {l : List Pt} → All Nz l → Sorted Le l → Grouped l (grouped l)
 unfolding grouped
-grouped-is [] n a = record { nonzero = tt; strict = tt; above = λ c nc h. tt; totals = λ p dp. refl; lines = λ v h. tt }
-grouped-is (e ∷ l) n a = runs-is e e l (n .0) (n .0) (same-refl e) (n .1) (a .0) (a .1)
+grouped-is {l = []} n a = record { nonzero = tt; strict = tt; above = λ c nc h. tt; totals = λ p dp. refl; lines = λ v h. tt }
+grouped-is {l = e ∷ l} n a = runs-is e e l (n .0) (n .0) (same-refl e) (n .1) (a .0) (a .1)
 
 -- ---- both
 
@@ -202,7 +202,7 @@ module _ {E F : List Pt} (e : Convex E) (f : Convex F) where
   join-is : Grouped (stepped E F) (join E F)
   unfolding join
   join-is =
-      grouped-is (stepped E F) (all-stepped Nz E F (e .nonzero) (f .nonzero))
+      grouped-is (all-stepped Nz E F (e .nonzero) (f .nonzero))
       (ascends-stepped E F (e .nonzero) (f .nonzero) (e .ascends) (f .ascends))
 
   -- strictly ascending
@@ -210,18 +210,18 @@ module _ {E F : List Pt} (e : Convex E) (f : Convex F) where
   join-strict = join-is .strict
 
   -- the sum over a set of directions is the two sums added
-  pub total-join : (p : Pt → Bool) → Dirs p → total p (join E F) ≡ total p E +ᵖ total p F
-  total-join p dp = join-is .totals p dp ∙ total-perm p (perm-stepped E F) ∙ total-append p E F
+  pub total-join : {p : Pt → Bool} → Dirs p → total p (join E F) ≡ total p E +ᵖ total p F
+  total-join {p} dp = join-is .totals p dp ∙ total-perm p (perm-stepped E F) ∙ total-append p E F
 
   -- and so is the cut at any direction
-  pub cut-join : (r : Pt) → Nz r → cut r (join E F) ≡ cut r E +ᵖ cut r F
-  cut-join r nr = total-join (ahead-of r) (dirs-ahead nr)
+  pub cut-join : {r : Pt} → Nz r → cut r (join E F) ≡ cut r E +ᵖ cut r F
+  cut-join nr = total-join (dirs-ahead nr)
 
   -- no narrower than E, and closed
   pub join-convex : Convex (join E F)
   join-convex = record {
     nonzero = join-is .nonzero;
     ascends = sorted-le (join E F) join-strict;
-    closed = sym (total-sum (join E F)) ∙ total-join (λ e. true) (λ a b na nb s. refl) ∙ (λ i. (total-sum E ∙ e .closed) i +ᵖ (total-sum F ∙ f .closed) i) ∙ +ᵖ-zero O;
+    closed = sym (total-sum (join E F)) ∙ total-join (λ a b na nb s. refl) ∙ (λ i. (total-sum E ∙ e .closed) i +ᵖ (total-sum F ∙ f .closed) i) ∙ +ᵖ-zero O;
     wide = λ v nv h. e .wide v nv (all-append (Line v) E F .0 (all-perm (Line v) (perm-stepped E F) (join-is .lines v h)) .0);
   }

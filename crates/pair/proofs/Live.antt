@@ -80,9 +80,9 @@ live-nz [] = unfold live in tt
 live-nz (e ∷ l) = live-by e l (All Nz) (λ h. live-nz l) (λ h. (h, live-nz l))
 
 -- they are all where none is zero
-pub live-all : (l : List Pt) → All Nz l → live l ≡ l
-live-all [] n = unfold live in refl
-live-all (e ∷ l) n = live-by e l (λ r. r ≡ e ∷ l) (λ h. absurd (nz-not-zero (n .0) h)) (λ h. ap (λ r. e ∷ r) (live-all l (n .1)))
+pub live-all : {l : List Pt} → All Nz l → live l ≡ l
+live-all {l = []} n = unfold live in refl
+live-all {l = e ∷ l} n = live-by e l (λ r. r ≡ e ∷ l) (λ h. absurd (nz-not-zero (n .0) h)) (λ h. ap (λ r. e ∷ r) (live-all {l = l} (n .1)))
 
 -- zero edges add nothing
 pub sum-live : (l : List Pt) → sumᵖ (live l) ≡ sumᵖ l

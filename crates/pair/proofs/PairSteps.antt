@@ -43,11 +43,11 @@ data Ahead (l : List Pt) (w : Place) : Type 0 where
 
 ahead-by : (l : List Pt) (w : Place) → Ahead l w
 unfolding handed advance
-ahead-by l w = go (w .remaining) refl
+ahead-by l w = go refl
   where
-    go : (k : ℕ) → w .remaining ≡ k → Ahead l w
-    go zero e = done e (ap (λ k. handed k l w) e)
-    go (suc k) e =
+    go : {k : ℕ} → w .remaining ≡ k → Ahead l w
+    go {k = zero} e = done e (ap (λ k. handed k l w) e)
+    go {k = suc k} e =
         let r : w .remaining - 1 ≡ k = omega arith in
         more (ne-eqb (w .remaining) 0 (λ z. absurd (omega arith))) (e ∙ ap suc (sym r)) (ap (λ m. handed m l w) e ∙ ap (λ m. edgeOf l w ∷ handed m l (advance (length l) w)) (sym r))
 
@@ -140,26 +140,26 @@ module _ (A B : List Pt) where
   along-stop d s w = record { heads = refl; fewer = omega arith; corners = λ p u e. rw w }
 
   -- another direction: the edge ends here
-  along-turn : (d e : Pt) (s t : ConvexSum) → Stepped A B s e t → isZero e ≡ false → isEqual (angleCmp d e) ≡ false → Along A B d s (record { heading = along d; at = s })
+  along-turn : (d : Pt) {e : Pt} {s t : ConvexSum} → Stepped A B s e t → isZero e ≡ false → isEqual (angleCmp d e) ≡ false → Along A B d s (record { heading = along d; at = s })
   unfolding runs grouped cornersFrom
-  along-turn d e s t k z g = record {
+  along-turn d {e} {t} k z g = record {
     heads = refl;
     fewer = omega arith;
     corners = λ p u c. rw (k .order, live-keep e (ways A B t) z, g) (ap (λ k. p ∷ cornersFrom k (runs e e (live (ways A B t)))) (sym c));
   }
 
   -- a zero edge
-  along-zero : (d e : Pt) (s t : ConvexSum) (r : Run) → Stepped A B s e t → isZero e ≡ true → Along A B d t r → Along A B d s r
-  along-zero d e s t r k z a = record {
+  along-zero : {d e : Pt} {s t : ConvexSum} {r : Run} → Stepped A B s e t → isZero e ≡ true → Along A B d t r → Along A B d s r
+  along-zero {e} {s} {t} k z a = record {
     heads = a .heads;
     fewer = omega (arith, a .fewer, k .count);
     corners = λ p u c. rw (k .order, live-zero e (ways A B t) z) (a .corners p u (k .moves ∙ ap (λ v. sumPoint A B s +ᵖ v) (isZero-true e z) ∙ +ᵖ-zero (sumPoint A B s) ∙ c));
   }
 
   -- the same direction
-  along-on : (d e : Pt) (s t : ConvexSum) (r : Run) → Stepped A B s e t → isZero e ≡ false → isEqual (angleCmp d e) ≡ true → Along A B d t r → Along A B d s r
+  along-on : {d e : Pt} {s t : ConvexSum} {r : Run} → Stepped A B s e t → isZero e ≡ false → isEqual (angleCmp d e) ≡ true → Along A B d t r → Along A B d s r
   unfolding runs
-  along-on d e s t r k z g a = record {
+  along-on {e} {t} k z g a = record {
     heads = a .heads;
     fewer = omega (arith, a .fewer, k .count);
     corners = λ p u c. rw (k .order, live-keep e (ways A B t) z, g) (a .corners p (u +ᵖ e) (k .moves ∙ ap (λ v. v +ᵖ e) c ∙ +ᵖ-assoc p u e));
@@ -177,10 +177,10 @@ module _ (A B : List Pt) where
     | step e t k ru ↦
         subst (Along A B d s) (sym (ru n (along d)))
         (by-test (isZero e)
-        (λ z. rw z (along-zero d e s t (run n A B (along d) t) k z (run-along n d t (omega (arith, k .count)))))
+        (λ z. rw z (along-zero k z (run-along n d t (omega (arith, k .count)))))
         (λ z. by-test (isEqual (angleCmp d e))
-        (λ g. rw (z, g) (along-on d e s t (run n A B (along d) t) k z g (run-along n d t (omega (arith, k .count)))))
-        (λ g. rw (z, g) (along-turn d e s t k z g))))
+        (λ g. rw (z, g) (along-on k z g (run-along n d t (omega (arith, k .count)))))
+        (λ g. rw (z, g) (along-turn d k z g))))
   ]
 
   -- zero edges are passed over, and the first that is not gives the direction
@@ -224,11 +224,11 @@ module _ (A B : List Pt) where
   pub emit-is : (n : ℕ) (s : ConvexSum) → stepsLeft s ≤ n → emit n A B s ≡ toCome A B s
   unfolding emit pairStep
   emit-is zero s h = sym (no-steps s h)
-  emit-is (suc n) s h = by (run (stepsLeft s) A B unset s) (λ t k. emit-is n t k) (run-unset (stepsLeft s) s (omega arith))
+  emit-is (suc n) s h = by (λ t k. emit-is n t k) (run-unset (stepsLeft s) s (omega arith))
     where
-      by : (r : Run) → ((t : ConvexSum) → stepsLeft t ≤ n → emit n A B t ≡ toCome A B t) → Ran A B s r → elim (emittedBy (sumPoint A B s) r) [ corner p t ↦ p ∷ emit n A B t | end t ↦ [] ] ≡ toCome A B s
-      by r ih (ended u c) = rw u (sym c)
-      by r ih (went d u f c) = rw u (ap (λ l. sumPoint A B s ∷ l) (ih (r .at) (omega arith)) ∙ sym c)
+      by : {r : Run} → ((t : ConvexSum) → stepsLeft t ≤ n → emit n A B t ≡ toCome A B t) → Ran A B s r → elim (emittedBy (sumPoint A B s) r) [ corner p t ↦ p ∷ emit n A B t | end t ↦ [] ] ≡ toCome A B s
+      by ih (ended u c) = rw u (sym c)
+      by {r} ih (went d u f c) = rw u (ap (λ l. sumPoint A B s ∷ l) (ih (r .at) (omega arith)) ∙ sym c)
 
   -- ---- more fuel changes nothing
 

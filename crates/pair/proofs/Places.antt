@@ -95,9 +95,9 @@ pub record Valid (n : ℕ) (w : Place) : Type 0 where
   pub end : w .end < n
 
 -- and so is the next place
-pub valid-next : (n : ℕ) (w : Place) → Valid n w → nextIndex n w < n
+pub valid-next : {n : ℕ} {w : Place} → Valid n w → nextIndex n w < n
 unfolding nextIndex
-valid-next n w v =
+valid-next {n} {w} v =
     cond-ind (w .segment) (cond (eqb (w .index) (w .start)) (w .end) (w .start)) _ (λ i. i < n)
     (λ t. cond-ind (eqb (w .index) (w .start)) (w .end) (w .start) (λ i. i < n) (λ t. v .end) (λ t. v .start))
     (λ t. cond-ind (w .reverse) (cond (eqb (w .index) 0) (n - 1) (w .index - 1)) (cond (eqb (suc (w .index)) n) 0 (suc (w .index))) (λ i. i < n)
@@ -107,9 +107,9 @@ valid-next n w v =
     further : (i : ℕ) → eqb (suc i) n ≡ false → i < n → suc i < n
     further i e h = let k : suc i ≡ n → ⊥ = eqb-false (suc i) n e in omega arith
 
-pub valid-advance : (n : ℕ) (w : Place) → Valid n w → Valid n (advance n w)
+pub valid-advance : {n : ℕ} {w : Place} → Valid n w → Valid n (advance n w)
 unfolding advance
-valid-advance n w v = record { index = valid-next n w v; start = v .start; end = v .end }
+valid-advance v = record { index = valid-next v; start = v .start; end = v .end }
 
 pub valid-begin : (reflected : Bool) (l : List Pt) → 0 < length l → Valid (length l) (begin reflected l)
 valid-begin reflected l h =
@@ -146,7 +146,7 @@ handed-onward l reflected s (suc k) m i h g =
     let fits : k ≤ length rest = omega (arith, length-append (drop (suc i) (edges l)) (take i (edges l)), length-drop (suc i) (edges l), length-take-le i (edges l) (omega arith)) in
     let after : rotate next (edges l) ≡ rest ++ (getD (edges l) i O ∷ []) = rw n at (rotate-after i (edges l) O (omega arith)) in
     ap₂ _∷_ (ap (turned reflected) (sym (getD-edges l i g)))
-    (handed-onward l reflected s k (m - 1) next (omega arith) (valid-next (length l) (around false reflected i m i) (record { index = g; start = g; end = g }))
+    (handed-onward l reflected s k (m - 1) next (omega arith) (valid-next {n = length l} {w = around false reflected i m i} (record { index = g; start = g; end = g }))
     ∙ ap (λ r. map (turned reflected) (take k r)) after ∙ ap (map (turned reflected)) (take-append-le k rest (getD (edges l) i O ∷ []) fits))
     ∙ ap (λ r. map (turned reflected) (take (suc k) r)) (sym (rotate-at i (edges l) O (omega arith)))
 
@@ -158,13 +158,13 @@ handed-backward l reflected s zero m i j h = refl
 handed-backward l reflected s (suc k) m i j h =
     let before : ℕ = cond (eqb i 0) (length l - 1) (i - 1) in
     let next : ℕ = cond (eqb (suc j) (length (reverse l))) 0 (suc j) in
-    let still : suc (before + next) ≡ length l = rw length-reverse (opposite (length l) h) in
+    let still : suc (before + next) ≡ length l = rw length-reverse (opposite h) in
     ap₂ _∷_
     (ap₂ (λ c d. turned reflected (c -ᵖ d)) (sym (getD-reverse l next before O (omega (arith, still)))) (sym (getD-reverse l j i O (omega arith))))
     (handed-backward l reflected s k (m - 1) before next still)
   where
-    opposite : (n : ℕ) → suc (i + j) ≡ n → suc (cond (eqb i 0) (n - 1) (i - 1) + cond (eqb (suc j) n) 0 (suc j)) ≡ n
-    opposite n e = by-test (eqb i 0)
+    opposite : {n : ℕ} → suc (i + j) ≡ n → suc (cond (eqb i 0) (n - 1) (i - 1) + cond (eqb (suc j) n) 0 (suc j)) ≡ n
+    opposite {n} e = by-test (eqb i 0)
         (λ t. let z : i ≡ 0 = eqb-true i 0 t in rw (t, eq-eqb (suc j) n (omega arith)) (omega arith))
         (λ t. let z : i ≡ 0 → ⊥ = eqb-false i 0 t in rw (t, ne-eqb (suc j) n (λ q. z (omega arith))) (omega arith))
 
@@ -233,7 +233,7 @@ begin-remaining reflected (p ∷ l) =
     (λ h. by-test (eqPt (firstCorner reflected (p ∷ l)) (farCorner reflected (p ∷ l)))
     (λ t. rw t (omega arith))
     (λ t. rw t (two (startAt reflected (p ∷ l)) (endAt reflected (p ∷ l)) (start-inside reflected (p ∷ l) (omega arith)) (end-inside reflected (p ∷ l) (omega arith))
-    (λ e. eqPt-false (firstCorner reflected (p ∷ l)) (farCorner reflected (p ∷ l)) t (ap (cornerAt (p ∷ l)) e)))))
+    (λ e. eqPt-false t (ap (cornerAt (p ∷ l)) e)))))
   where
     two : (s e : ℕ) → s < suc (length l) → e < suc (length l) → (s ≡ e → ⊥) → 2 ≤ suc (length l)
     two s e a b ne = omega arith

@@ -51,8 +51,8 @@ reach-is d (p ∷ l) m h k =
     greatest-is (dot d p) m (map (dot d) l) (all-image (λ z. z ≤ℤ m) (dot d) (p ∷ l) .1 h) (any-image (λ z. z ≡ m) (dot d) (p ∷ l) .1 k)
 
 -- lists with the same points have the same reach
-pub reach-same : (d : Pt) (K L : List Pt) → (K ≡ [] → ⊥) → All (In L) K → All (In K) L → reach d L ≡ reach d K
-reach-same d K L f h k =
+pub reach-same : (d : Pt) {K : List Pt} (L : List Pt) → (K ≡ [] → ⊥) → All (In L) K → All (In K) L → reach d L ≡ reach d K
+reach-same d {K} L f h k =
     reach-is d L (reach d K)
     (all-map L (λ c a. all-any K (reach-bound d K) a (λ q b e. subst (λ v. dot d v ≤ℤ reach d K) e b)) k)
     (all-any K h (reach-attained d K f) (λ c a b. any-map L (λ q e. ap (dot d) e ∙ b) a))
@@ -77,14 +77,14 @@ reach-zero (p ∷ l) = reach-is O (p ∷ l) (pos 0) (zeros (p ∷ l)) (inl (dot-
 -- ---- a convex list has an edge, and its contour a corner
 
 -- no edges lie on every line
-pub convex-nonempty : (E : List Pt) → Convex E → E ≡ [] → ⊥
-convex-nonempty E c e = c .wide (record { x = pos 1; y = pos 0 }) (nz-of-up (level refl (omega zarith))) (subst (All (Line (record { x = pos 1; y = pos 0 }))) (sym e) tt)
+pub convex-nonempty : {E : List Pt} → Convex E → E ≡ [] → ⊥
+convex-nonempty c e = c .wide (record { x = pos 1; y = pos 0 }) (nz-of-up (level refl (omega zarith))) (subst (All (Line (record { x = pos 1; y = pos 0 }))) (sym e) tt)
 
 -- a corner for each edge
-pub corners-nonempty : (P : Pt) (E : List Pt) → Convex E → cornersFrom P E ≡ [] → ⊥
+pub corners-nonempty : (P : Pt) {E : List Pt} → Convex E → cornersFrom P E ≡ [] → ⊥
 unfolding cornersFrom
-corners-nonempty P [] c h = convex-nonempty [] c refl
-corners-nonempty P (e ∷ l) c h = let z : _≡_ {A = ℕ} 0 1 = cc in omega arith
+corners-nonempty P {E = []} c h = convex-nonempty c refl
+corners-nonempty P {E = e ∷ l} c h = let z : _≡_ {A = ℕ} 0 1 = cc in omega arith
 
 -- ---- no corner passes the cut: A, the edges before the corner, in any order; b ∷ B, those after
 -- it
@@ -129,31 +129,31 @@ module _ (r : Pt) (nr : Nz r) (E : List Pt) (c : Convex E) (A : List Pt) (b : Pt
       not-level = arithℤ (pt ∷ pt ∷ []) (λ b r. con (pos 0) :< crossE b r ⇒ crossE r b := con (pos 0) ⇒ :⊥) (omega arith)
 
       -- in numbers: c of E is cA + cB, and sA + sB = 0
-      left-after : (sA cA cB c : ℤ) → c ≡ cA +ℤ cB → cA ≡ sA → pos 0 ≤ℤ cB → sA ≤ℤ c
-      left-after sA cA cB c e f h = omega (zarith, add-parts cA cB)
+      left-after : {sA cA : ℤ} (cB : ℤ) {c : ℤ} → c ≡ cA +ℤ cB → cA ≡ sA → pos 0 ≤ℤ cB → sA ≤ℤ c
+      left-after {cA} cB e f h = omega (zarith, add-parts cA cB)
 
-      right-before : (sA sB cA cB c : ℤ) → c ≡ cA +ℤ cB → (sA +ℤ sB) ≡ pos 0 → cA ≡ sA → sA ≤ℤ pos 0 → sB ≤ℤ cB → sA ≤ℤ c
-      right-before sA sB cA cB c e z f h k = omega (zarith, add-parts cA cB, add-parts sA sB)
+      right-before : {sA : ℤ} (sB : ℤ) {cA : ℤ} (cB : ℤ) {c : ℤ} → c ≡ cA +ℤ cB → (sA +ℤ sB) ≡ pos 0 → cA ≡ sA → sA ≤ℤ pos 0 → sB ≤ℤ cB → sA ≤ℤ c
+      right-before {sA} sB {cA} cB e z f h k = omega (zarith, add-parts cA cB, add-parts sA sB)
 
-      right-left-out : (sA cA cB c : ℤ) → c ≡ cA +ℤ cB → cB ≡ pos 0 → sA ≤ℤ cA → sA ≤ℤ c
-      right-left-out sA cA cB c e f h = omega (zarith, add-parts cA cB)
+      right-left-out : (sA cA : ℤ) {cB c : ℤ} → c ≡ cA +ℤ cB → cB ≡ pos 0 → sA ≤ℤ cA → sA ≤ℤ c
+      right-left-out sA cA {cB} e f h = omega (zarith, add-parts cA cB)
 
-      left-past : (sA sB cA cB c : ℤ) → c ≡ cA +ℤ cB → (sA +ℤ sB) ≡ pos 0 → cB ≡ pos 0 → pos 0 ≤ℤ sB → pos 0 ≤ℤ cA → sA ≤ℤ c
-      left-past sA sB cA cB c e z f h k = omega (zarith, add-parts cA cB, add-parts sA sB)
+      left-past : (sA sB cA : ℤ) {cB c : ℤ} → c ≡ cA +ℤ cB → (sA +ℤ sB) ≡ pos 0 → cB ≡ pos 0 → pos 0 ≤ℤ sB → pos 0 ≤ℤ cA → sA ≤ℤ c
+      left-past sA sB cA {cB} e z f h k = omega (zarith, add-parts cA cB, add-parts sA sB)
 
       by : Ahead b r → (cross b r ≤ℤ pos 0) ⊎ (pos 0 <ℤ cross b r) → cross (sumᵖ A) r ≤ℤ cross (cut r E) r
       by (ahead t h) (inr k) =
-          left-after (cross (sumᵖ A) r) (cross (cut r A) r) (cross (cut r (b ∷ B)) r) (cross (cut r E) r) whole (all-before h)
+          left-after (cross (cut r (b ∷ B)) r) whole (all-before h)
           (cut-left r (b ∷ B) (all-map2 (b ∷ B) (λ e n l m. between-left (nB .0) n nr l m (<-≤ k)) nB after-b))
       by (ahead t h) (inl k) =
-          right-before (cross (sumᵖ A) r) (cross (sumᵖ (b ∷ B)) r) (cross (cut r A) r) (cross (cut r (b ∷ B)) r) (cross (cut r E) r) whole closed (all-before h)
+          right-before (cross (sumᵖ (b ∷ B)) r) (cross (cut r (b ∷ B)) r) whole closed (all-before h)
           (right (sumᵖ A) r (sum-right r A (all-map2 A (λ a n l. before-right n (nB .0) nr l h (turned b r k)) nA (split-before s))))
           (cut-most r (b ∷ B) (all-map (b ∷ B) (λ e n m. past-right h m (turned b r k)) nB))
       by (behind t h) (inl k) =
-          right-left-out (cross (sumᵖ A) r) (cross (cut r A) r) (cross (cut r (b ∷ B)) r) (cross (cut r E) r) whole (none-after h)
+          right-left-out (cross (sumᵖ A) r) (cross (cut r A) r) whole (none-after h)
           (cut-most r A (all-map2 A (λ a n l m. between-right nr n (nB .0) m l (turned b r k)) nA (split-before s)))
       by (behind t h) (inr k) =
-          left-past (cross (sumᵖ A) r) (cross (sumᵖ (b ∷ B)) r) (cross (cut r A) r) (cross (cut r (b ∷ B)) r) (cross (cut r E) r) whole closed (none-after h)
+          left-past (cross (sumᵖ A) r) (cross (sumᵖ (b ∷ B)) r) (cross (cut r A) r) whole closed (none-after h)
           (sum-left r (b ∷ B) (all-map2 (b ∷ B) (λ e n l. past-left nr (nB .0) n (le-lt h (not-level b r k)) l (<-≤ k)) nB after-b))
           (cut-left r A (all-map A (λ a n m. before-left (le-lt h (not-level b r k)) (lt-le m) (<-≤ k)) nA))
 
@@ -161,12 +161,12 @@ module _ (r : Pt) (nr : Nz r) (E : List Pt) (c : Convex E) (A : List Pt) (b : Pt
 
 module _ (r : Pt) (nr : Nz r) (P : Pt) (E : List Pt) (c : Convex E) where
   -- of the corners from q = P + ΣA on
-  bound-from : (A B : List Pt) (q : Pt) → Split Le E A B → q ≡ P +ᵖ sumᵖ A → All (λ p. cross p r ≤ℤ cross (P +ᵖ cut r E) r) (cornersFrom q B)
+  bound-from : {A B : List Pt} {q : Pt} → Split Le E A B → q ≡ P +ᵖ sumᵖ A → All (λ p. cross p r ≤ℤ cross (P +ᵖ cut r E) r) (cornersFrom q B)
   unfolding cornersFrom
-  bound-from A [] q s e = tt
-  bound-from A (b ∷ B) q s e = (
+  bound-from {B = []} s e = tt
+  bound-from {A} {B = b ∷ B} s e = (
     subst (λ v. cross v r ≤ℤ cross (P +ᵖ cut r E) r) (sym e) (shift P (sumᵖ A) (cut r E) r (no-corner-passes r nr E c A b B s)),
-    bound-from (b ∷ A) B (q +ᵖ b) (split-next s) (ap (λ v. v +ᵖ b) e ∙ +ᵖ-next P (sumᵖ A) b ∙ ap (λ v. P +ᵖ v) (sym (sum-cons b A))),
+    bound-from (split-next s) (ap (λ v. v +ᵖ b) e ∙ +ᵖ-next P (sumᵖ A) b ∙ ap (λ v. P +ᵖ v) (sym (sum-cons b A))),
   )
     where
       shift : (p a b r : Pt) → cross a r ≤ℤ cross b r → cross (p +ᵖ a) r ≤ℤ cross (p +ᵖ b) r
@@ -175,31 +175,31 @@ module _ (r : Pt) (nr : Nz r) (P : Pt) (E : List Pt) (c : Convex E) where
   -- no corner lies farther left of r than the one at the cut
   pub corner-bound : All (λ p. cross p r ≤ℤ cross (P +ᵖ cut r E) r) (cornersFrom P E)
   unfolding sumᵖ
-  corner-bound = bound-from [] E P (split-start Le E (c .ascends)) (sym (+ᵖ-zero P))
+  corner-bound = bound-from (split-start (c .ascends)) (sym (+ᵖ-zero P))
 
 -- the cut is a corner, or all edges come before r
-cut-at : (r q : Pt) (l : List Pt) → Nz r → All Nz l → Sorted Le l → In (cornersFrom q l) (q +ᵖ cut r l) ⊎ (cut r l ≡ sumᵖ l)
+cut-at : {r : Pt} (q : Pt) (l : List Pt) → Nz r → All Nz l → Sorted Le l → In (cornersFrom q l) (q +ᵖ cut r l) ⊎ (cut r l ≡ sumᵖ l)
 unfolding cornersFrom sumᵖ
-cut-at r q [] nr n s = inr (unfold total in refl)
-cut-at r q (e ∷ l) nr n s = elim (ahead-cases e r) [
+cut-at q [] nr n s = inr (unfold total in refl)
+cut-at {r} q (e ∷ l) nr n s = elim (ahead-cases e r) [
   | ahead t k ↦
       ⊎-elim (λ a. inl (inr (subst (In (cornersFrom (q +ᵖ e) l)) (+ᵖ-assoc q e (cut r l) ∙ ap (λ v. q +ᵖ v) (sym (cut-take r e l t))) a)))
-      (λ a. inr (cut-take r e l t ∙ ap (λ v. e +ᵖ v) a)) (cut-at r (q +ᵖ e) l nr (n .1) (s .1))
+      (λ a. inr (cut-take r e l t ∙ ap (λ v. e +ᵖ v) a)) (cut-at (q +ᵖ e) l nr (n .1) (s .1))
   | behind t k ↦ inl (inl (sym (ap (λ v. q +ᵖ v) (cut-none r (e ∷ l) (k, all-map2 l (λ a na h. le-trans nr (n .0) na k h) (n .1) (s .0))) ∙ +ᵖ-zero q)))
 ]
 
 -- the cut of a convex list is a corner
-pub cut-corner : (r : Pt) → Nz r → (P : Pt) (E : List Pt) → Convex E → In (cornersFrom P E) (P +ᵖ cut r E)
+pub cut-corner : {r : Pt} → Nz r → (P : Pt) {E : List Pt} → Convex E → In (cornersFrom P E) (P +ᵖ cut r E)
 unfolding cornersFrom
-cut-corner r nr P [] c = absurd (convex-nonempty [] c refl)
-cut-corner r nr P (e ∷ l) c = ⊎-elim (λ a. a) (λ a. inl (sym (ap (λ v. P +ᵖ v) (a ∙ c .closed) ∙ +ᵖ-zero P))) (cut-at r P (e ∷ l) nr (c .nonzero) (c .ascends))
+cut-corner nr P {E = []} c = absurd (convex-nonempty c refl)
+cut-corner nr P {E = e ∷ l} c = ⊎-elim (λ a. a) (λ a. inl (sym (ap (λ v. P +ᵖ v) (a ∙ c .closed) ∙ +ᵖ-zero P))) (cut-at P (e ∷ l) nr (c .nonzero) (c .ascends))
 
 -- d · q = q × rot d
-pub reach-corners : (d P : Pt) (E : List Pt) → Nz (rot d) → Convex E → reach d (cornersFrom P E) ≡ dot d (P +ᵖ cut (rot d) E)
-reach-corners d P E n c =
+pub reach-corners : (d P : Pt) {E : List Pt} → Nz (rot d) → Convex E → reach d (cornersFrom P E) ≡ dot d (P +ᵖ cut (rot d) E)
+reach-corners d P {E} n c =
     reach-is d (cornersFrom P E) (dot d (P +ᵖ cut (rot d) E))
     (all-map (cornersFrom P E) (λ q k. subst₂ _≤ℤ_ (cross-rot q d) (cross-rot (P +ᵖ cut (rot d) E) d) k) (corner-bound (rot d) n P E c))
-    (any-map (cornersFrom P E) (λ q k. ap (dot d) k) (cut-corner (rot d) n P E c))
+    (any-map (cornersFrom P E) (λ q k. ap (dot d) k) (cut-corner n P c))
 
 -- a quarter turn of d is 0, so d is
 rot-zero : (d : Pt) → rot d ≡ O → d ≡ O
@@ -209,8 +209,8 @@ rot-zero d e = pt-eq (ap (λ p. p .y) e) (negated (d .y) (ap (λ p. p .x) e))
     negated = arithℤ (int ∷ []) (λ k. :neg k := con (pos 0) ⇒ k := con (pos 0)) (omega arith)
 
 -- the reaches add
-pub reach-join : (d P Q : Pt) (E F : List Pt) → Convex E → Convex F → reach d (cornersFrom (P +ᵖ Q) (join E F)) ≡ reach d (cornersFrom P E) +ℤ reach d (cornersFrom Q F)
-reach-join d P Q E F e f = ⊎-elim none some (nz-cases (rot d))
+pub reach-join : (d P Q : Pt) {E F : List Pt} → Convex E → Convex F → reach d (cornersFrom (P +ᵖ Q) (join E F)) ≡ reach d (cornersFrom P E) +ℤ reach d (cornersFrom Q F)
+reach-join d P Q {E} {F} e f = ⊎-elim none some (nz-cases (rot d))
   where
     none : rot d ≡ O → reach d (cornersFrom (P +ᵖ Q) (join E F)) ≡ reach d (cornersFrom P E) +ℤ reach d (cornersFrom Q F)
     none z = subst (λ d. reach d (cornersFrom (P +ᵖ Q) (join E F)) ≡ reach d (cornersFrom P E) +ℤ reach d (cornersFrom Q F)) (sym (rot-zero d z))
@@ -221,5 +221,5 @@ reach-join d P Q E F e f = ⊎-elim none some (nz-cases (rot d))
 
     some : Nz (rot d) → reach d (cornersFrom (P +ᵖ Q) (join E F)) ≡ reach d (cornersFrom P E) +ℤ reach d (cornersFrom Q F)
     some n =
-        reach-corners d (P +ᵖ Q) (join E F) n (join-convex e f) ∙ ap (λ v. dot d ((P +ᵖ Q) +ᵖ v)) (cut-join e f (rot d) n)
-        ∙ spread d P Q (cut (rot d) E) (cut (rot d) F) ∙ sym (ap₂ _+ℤ_ (reach-corners d P E n e) (reach-corners d Q F n f))
+        reach-corners d (P +ᵖ Q) n (join-convex e f) ∙ ap (λ v. dot d ((P +ᵖ Q) +ᵖ v)) (cut-join e f n)
+        ∙ spread d P Q (cut (rot d) E) (cut (rot d) F) ∙ sym (ap₂ _+ℤ_ (reach-corners d P n e) (reach-corners d Q n f))

@@ -89,9 +89,9 @@ into-edges p l =
     ∙ ap (rotate (length (into p l))) (sym (ap (map (λ e. e .1 -ᵖ e .0)) (neighbours-cons p l ∙ links-last p l p) ∙ map-append (λ e. e .1 -ᵖ e .0) (links p l) ((lastOf p l, p) ∷ [])))
 
 -- where the last of l is q, the turns of what is kept are those of the nonzero edges into l
-fresh-turns : (q : Pt) (l : List Pt) → lastOf q l ≡ q → List·Permᴰ (turns (fresh q l)) (neighbours (live (into q l)))
+fresh-turns : {q : Pt} (l : List Pt) → lastOf q l ≡ q → List·Permᴰ (turns (fresh q l)) (neighbours (live (into q l)))
 unfolding lastOf edges links neighbours
-fresh-turns q l e = by (fresh q l) (last-fresh q l ∙ e) (fresh-into q l)
+fresh-turns {q} l e = by (fresh q l) (last-fresh q l ∙ e) (fresh-into q l)
   where
     by : (w : List Pt) → lastOf q w ≡ q → into q w ≡ live (into q l) → List·Permᴰ (turns w) (neighbours (live (into q l)))
     by [] f g = subst (λ E. List·Permᴰ (turns []) (neighbours E)) g (Permᴰ·refl [])
@@ -106,7 +106,7 @@ turns-without [] = unfold live edges neighbours in Permᴰ·refl []
 turns-without (p ∷ l) =
     let k : ℕ = length (into p l) in
     let r : live (into (lastOf p l) (p ∷ l)) ≡ rotate (length (live (take k (edges (p ∷ l))))) (live (edges (p ∷ l))) = ap live (into-edges p l) ∙ live-rotate k (edges (p ∷ l)) in
-    List·Permᴰ·trans (rw r at (fresh-turns (lastOf p l) (p ∷ l) refl)) (perm-neighbours-rotate (length (live (take k (edges (p ∷ l))))) (live (edges (p ∷ l))))
+    List·Permᴰ·trans (rw r at (fresh-turns (p ∷ l) refl)) (perm-neighbours-rotate (length (live (take k (edges (p ∷ l))))) (live (edges (p ∷ l))))
 
 -- ---- the other way round
 

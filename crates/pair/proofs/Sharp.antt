@@ -41,15 +41,15 @@ use Rattle.pair.proofs.Readings.{backwards-readings, outline-on, outlin
 -- ---- one strictly ascending list has given edges
 
 -- the first of each is one of the other, so neither is before the other
-sorted-unique : (a b : List Pt) → Sorted Lt a → Sorted Lt b → All (In b) a → All (In a) b → a ≡ b
-sorted-unique [] [] sa sb h k = refl
-sorted-unique [] (y ∷ b) sa sb h k = absurd (k .0)
-sorted-unique (x ∷ a) [] sa sb h k = absurd (h .0)
-sorted-unique (x ∷ a) (y ∷ b) sa sb h k = λ i. first i ∷ sorted-unique a b (sa .1) (sb .1) (past x y a b first (sa .0) (h .1)) (past y x b a (sym first) (sb .0) (k .1)) i
+sorted-unique : {a b : List Pt} → Sorted Lt a → Sorted Lt b → All (In b) a → All (In a) b → a ≡ b
+sorted-unique {a = []} {b = []} sa sb h k = refl
+sorted-unique {a = []} {b = y ∷ b} sa sb h k = absurd (k .0)
+sorted-unique {a = x ∷ a} {b = []} sa sb h k = absurd (h .0)
+sorted-unique {a = x ∷ a} {b = y ∷ b} sa sb h k = λ i. first i ∷ sorted-unique {a = a} {b = b} (sa .1) (sb .1) (past a b first (sa .0) (h .1)) (past b a (sym first) (sb .0) (k .1)) i
   where
     -- those after x are not y
-    past : (x y : Pt) (a b : List Pt) → x ≡ y → All (Lt x) a → All (In (y ∷ b)) a → All (In b) a
-    past x y a b e = all-map2 a (λ z m i. ⊎-elim (λ d. absurd (lt-irrefl (subst (Lt x) (sym (e ∙ d)) m))) (λ d. d) i)
+    past : {x y : Pt} (a b : List Pt) → x ≡ y → All (Lt x) a → All (In (y ∷ b)) a → All (In b) a
+    past {x} a b e = all-map2 a (λ z m i. ⊎-elim (λ d. absurd (lt-irrefl (subst (Lt x) (sym (e ∙ d)) m))) (λ d. d) i)
 
     first : x ≡ y
     first =
@@ -63,9 +63,9 @@ perm-in {a} {b} p = all-map a (λ c h. any-perm (λ q. q ≡ c) p h) (in-self a)
 -- ---- ascending, with every turn to the left: strictly ascending
 
 -- neighbours are before one another, and the order is transitive
-strict : (E : List Pt) → Convex E → All (λ c. pos 0 <ℤ cross (c .0) (c .1)) (neighbours E) → Sorted Lt E
-strict [] c h = tt
-strict (e ∷ l) c h = along e l (c .nonzero) (c .ascends) (all-perm (λ c. pos 0 <ℤ cross (c .0) (c .1)) (perm-last e l) h .1)
+strict : {E : List Pt} → Convex E → All (λ c. pos 0 <ℤ cross (c .0) (c .1)) (neighbours E) → Sorted Lt E
+strict {E = []} c h = tt
+strict {E = e ∷ l} c h = along e l (c .nonzero) (c .ascends) (all-perm (λ c. pos 0 <ℤ cross (c .0) (c .1)) (perm-last e l) h .1)
   where
     level-no : {k : ℤ} → pos 0 <ℤ k → k ≡ pos 0 → ⊥
     level-no h e = omega zarith
@@ -103,7 +103,7 @@ module _ (l : List Pt) (h : strictlyConvex l ≡ true) where
 
   -- so the nonzero edges are all
   pub sharp-live : live (edges l) ≡ edges l
-  sharp-live = live-all (edges l) sharp-nonzero
+  sharp-live = live-all sharp-nonzero
 
   -- and they go round
   pub sharp-round : RoundEdges (live (edges l))
@@ -116,10 +116,10 @@ module _ (l : List Pt) (h : strictlyConvex l ≡ true) where
   -- read as W, from another corner
   module _ (W : List Pt) (same : List·Permᴰ (edges W) (edges l)) (round : List·Permᴰ (neighbours (edges W)) (neighbours (edges l))) (c : Convex (live (edges W))) where
     live-reading : live (edges W) ≡ edges W
-    live-reading = live-all (edges W) (all-perm Nz (Permᴰ·symm same) sharp-nonzero)
+    live-reading = live-all (all-perm Nz (Permᴰ·symm same) sharp-nonzero)
 
     ascends-reading : Sorted Lt (edges W)
-    ascends-reading = strict (edges W) (subst Convex live-reading c) (all-perm (λ t. pos 0 <ℤ cross (t .0) (t .1)) (Permᴰ·symm round) sharp-turns)
+    ascends-reading = strict (subst Convex live-reading c) (all-perm (λ t. pos 0 <ℤ cross (t .0) (t .1)) (Permᴰ·symm round) sharp-turns)
 
 -- the edges of a rotation, and their neighbours, in another order
 perm-edges-rotate : (k : ℕ) (l : List Pt) → List·Permᴰ (edges (rotate k l)) (edges l)
@@ -172,7 +172,7 @@ module _ (l : List Pt) (h : strictlyConvex (reverse l) ≡ true) (s : ℕ) (k : 
     pub sharp-back : edges (backwards (rotate s l)) ≡ edges (rotate j (reverse l))
     sharp-back =
         let p : List·Permᴰ (edges (backwards (rotate s l))) (edges (rotate j (reverse l))) = List·Permᴰ·trans same-back (Permᴰ·symm (perm-edges-rotate j (reverse l))) in
-        sorted-unique (edges (backwards (rotate s l))) (edges (rotate j (reverse l))) sharp-ascends-back (sharp-ascends (reverse l) h j i first) (perm-in p) (perm-in (Permᴰ·symm p))
+        sorted-unique sharp-ascends-back (sharp-ascends (reverse l) h j i first) (perm-in p) (perm-in (Permᴰ·symm p))
 
     pub sharp-back-start : cornerAt l s ≡ cornerAt (reverse l) j
     sharp-back-start =

@@ -23,8 +23,8 @@ pub record Split (R : Pt → Pt → Type 0) (M A B : List Pt) : Type 0 where
   pub sorted : Sorted R B
 
 -- nothing before
-pub split-start : (R : Pt → Pt → Type 0) (M : List Pt) → Sorted R M → Split R M [] M
-split-start R M s = record { perm = Permᴰ·refl M; link = tt; sorted = s }
+pub split-start : {R : Pt → Pt → Type 0} {M : List Pt} → Sorted R M → Split R M [] M
+split-start {M} s = record { perm = Permᴰ·refl M; link = tt; sorted = s }
 
 module _ {R : Pt → Pt → Type 0} {M A B : List Pt} where
   -- one edge on
@@ -70,28 +70,28 @@ module _ {M : List Pt} where
       ∙ +ᵖ-zero (sumᵖ A)
 
   -- of the corners from q = P + ΣA on
-  corners-from : (P q : Pt) (A B : List Pt) → Split Lt M A B → q ≡ P +ᵖ sumᵖ A → cornersFrom q B ≡ map (λ b. P +ᵖ cut b M) B
+  corners-from : (P : Pt) {q : Pt} {A B : List Pt} → Split Lt M A B → q ≡ P +ᵖ sumᵖ A → cornersFrom q B ≡ map (λ b. P +ᵖ cut b M) B
   unfolding cornersFrom
-  corners-from P q A [] s e = refl
-  corners-from P q A (b ∷ B) s e =
+  corners-from P {B = []} s e = refl
+  corners-from P {A} {B = b ∷ B} s e =
       ap₂ _∷_ (e ∙ ap (λ v. P +ᵖ v) (sym (cut-split s)))
-      (corners-from P (q +ᵖ b) (b ∷ A) B (split-next s) (ap (λ v. v +ᵖ b) e ∙ +ᵖ-next P (sumᵖ A) b ∙ ap (λ v. P +ᵖ v) (sym (sum-cons b A))))
+      (corners-from P (split-next s) (ap (λ v. v +ᵖ b) e ∙ +ᵖ-next P (sumᵖ A) b ∙ ap (λ v. P +ᵖ v) (sym (sum-cons b A))))
 
   -- along the list from a, and to the first edge f at its end
-  cuts-from : (f : Pt) → cut f M ≡ O → sumᵖ M ≡ O → (A : List Pt) (a : Pt) (B : List Pt) → Split Lt M A (a ∷ B) → All (λ c. cut (c .1) M ≡ c .0 +ᵖ cut (c .0) M) (links a (B ++ (f ∷ [])))
+  cuts-from : (f : Pt) → cut f M ≡ O → sumᵖ M ≡ O → {A : List Pt} (a : Pt) (B : List Pt) → Split Lt M A (a ∷ B) → All (λ c. cut (c .1) M ≡ c .0 +ᵖ cut (c .0) M) (links a (B ++ (f ∷ [])))
   unfolding links
-  cuts-from f e z A a [] s =
+  cuts-from f e z {A} a [] s =
       (e ∙ sym z ∙ sym (split-sum s) ∙ +ᵖ-comm (sumᵖ A) (sumᵖ (a ∷ [])) ∙ ap₂ _+ᵖ_ (sum-one a) (sym (cut-split s)), tt)
-  cuts-from f e z A a (b ∷ B) s =
-      (cut-split (split-next s) ∙ sum-cons a A ∙ ap (λ v. a +ᵖ v) (sym (cut-split s)), cuts-from f e z (a ∷ A) b B (split-next s))
+  cuts-from f e z {A} a (b ∷ B) s =
+      (cut-split (split-next s) ∙ sum-cons a A ∙ ap (λ v. a +ᵖ v) (sym (cut-split s)), cuts-from f e z b B (split-next s))
 
 -- each corner is the first one plus the cut at the edge out of it
 pub corners-cuts : (P : Pt) (M : List Pt) → Sorted Lt M → cornersFrom P M ≡ map (λ b. P +ᵖ cut b M) M
 unfolding sumᵖ
-corners-cuts P M s = corners-from P P [] M (split-start Lt M s) (sym (+ᵖ-zero P))
+corners-cuts P M s = corners-from P (split-start s) (sym (+ᵖ-zero P))
 
 -- an edge goes from the cut at it to the cut at the next, round a closed list
 pub cut-next : (M : List Pt) → Sorted Lt M → sumᵖ M ≡ O → All (λ c. cut (c .1) M ≡ c .0 +ᵖ cut (c .0) M) (neighbours M)
 unfolding neighbours
 cut-next [] s z = tt
-cut-next (e ∷ l) s z = cuts-from e (cut-split (split-start Lt (e ∷ l) s) ∙ (unfold sumᵖ in refl)) z [] e l (split-start Lt (e ∷ l) s)
+cut-next (e ∷ l) s z = cuts-from e (cut-split (split-start s) ∙ (unfold sumᵖ in refl)) z e l (split-start s)

@@ -71,12 +71,12 @@ up-not-both p q (level e h) (above k) = omega (zarith, sub-parts (q .y) (p .y), 
 up-not-both p q (level e h) (level f k) = omega (zarith, sub-parts (q .x) (p .x), sub-parts (p .x) (q .x))
 
 -- the upper half has no zero
-up-not-same : (p q : Pt) → Up (q -ᵖ p) → p ≡ q → ⊥
-up-not-same p q (above h) e = omega (zarith, sub-parts (q .y) (p .y), ap (λ c. c .y) e)
-up-not-same p q (level d h) e = omega (zarith, sub-parts (q .x) (p .x), ap (λ c. c .x) e)
+up-not-same : {p q : Pt} → Up (q -ᵖ p) → p ≡ q → ⊥
+up-not-same {p} {q} (above h) e = omega (zarith, sub-parts (q .y) (p .y), ap (λ c. c .y) e)
+up-not-same {p} {q} (level d h) e = omega (zarith, sub-parts (q .x) (p .x), ap (λ c. c .x) e)
 
 pub up-below : (p q : Pt) → Up (q -ᵖ p) → below p q ≡ true
-up-below p q h = elim (keys p q) [ lower a b u ↦ a | equal a b e ↦ absurd (up-not-same p q h e) | upper a b u ↦ absurd (up-not-both p q h u) ]
+up-below p q h = elim (keys p q) [ lower a b u ↦ a | equal a b e ↦ absurd (up-not-same h e) | upper a b u ↦ absurd (up-not-both p q h u) ]
 
 pub below-irrefl : (p : Pt) → below p p ≡ false
 below-irrefl p = elim (keys p p) [ lower a b u ↦ b | equal a b e ↦ a | upper a b u ↦ a ]
@@ -135,29 +135,29 @@ pub record Greatest (l : List Pt) (n b : ℕ) : Type 0 where
 
 module _ (l : List Pt) where
   -- what holds of each place below n, and of n, holds of each below n + 1
-  up-to : (P : ℕ → Type 0) (n : ℕ) → ((i : ℕ) → i < n → P i) → P n → (i : ℕ) → i < suc n → P i
-  up-to P n f p i h = ⊎-elim (λ e. subst P (sym e) p) (λ k. f i k) (eq-or-lt-of-le (le-of-suc-le-suc h))
+  up-to : (P : ℕ → Type 0) {n : ℕ} → ((i : ℕ) → i < n → P i) → P n → (i : ℕ) → i < suc n → P i
+  up-to P f p i h = ⊎-elim (λ e. subst P (sym e) p) (λ k. f i k) (eq-or-lt-of-le (le-of-suc-le-suc h))
 
   -- of one corner
   least-one : Least l 1 0
   least-one = record {
     inside = omega arith;
-    lowest = up-to (λ i. below (cornerAt l i) (cornerAt l 0) ≡ false) 0 (λ i h. absurd (omega arith)) (below-irrefl (cornerAt l 0));
+    lowest = up-to (λ i. below (cornerAt l i) (cornerAt l 0) ≡ false) (λ i h. absurd (omega arith)) (below-irrefl (cornerAt l 0));
     first = λ i h. absurd (omega arith);
   }
 
   greatest-one : Greatest l 1 0
   greatest-one = record {
     inside = omega arith;
-    highest = up-to (λ i. below (cornerAt l 0) (cornerAt l i) ≡ false) 0 (λ i h. absurd (omega arith)) (below-irrefl (cornerAt l 0));
+    highest = up-to (λ i. below (cornerAt l 0) (cornerAt l i) ≡ false) (λ i h. absurd (omega arith)) (below-irrefl (cornerAt l 0));
     last = λ i h k. absurd (omega arith);
   }
 
   -- the next corner is lower: it is least, and those before it are above it
-  least-moved : (n b : ℕ) → Least l n b → below (cornerAt l n) (cornerAt l b) ≡ true → Least l (suc n) n
-  least-moved n b r h = record {
+  least-moved : {n b : ℕ} → Least l n b → below (cornerAt l n) (cornerAt l b) ≡ true → Least l (suc n) n
+  least-moved {n} {b} r h = record {
     inside = omega arith;
-    lowest = up-to (λ i. below (cornerAt l i) (cornerAt l n) ≡ false) n
+    lowest = up-to (λ i. below (cornerAt l i) (cornerAt l n) ≡ false)
         (λ i k. below-asym (cornerAt l n) (cornerAt l i) (over i k)) (below-irrefl (cornerAt l n));
     first = over;
   }
@@ -165,25 +165,25 @@ module _ (l : List Pt) where
       over : (i : ℕ) → i < n → below (cornerAt l n) (cornerAt l i) ≡ true
       over i k = below-not-trans (cornerAt l n) (cornerAt l b) (cornerAt l i) h (r .lowest i k)
 
-  least-kept : (n b : ℕ) → Least l n b → below (cornerAt l n) (cornerAt l b) ≡ false → Least l (suc n) b
-  least-kept n b r h = record {
+  least-kept : {n b : ℕ} → Least l n b → below (cornerAt l n) (cornerAt l b) ≡ false → Least l (suc n) b
+  least-kept {b} r h = record {
     inside = omega (arith, r .inside);
-    lowest = up-to (λ i. below (cornerAt l i) (cornerAt l b) ≡ false) n (r .lowest) h;
+    lowest = up-to (λ i. below (cornerAt l i) (cornerAt l b) ≡ false) (r .lowest) h;
     first = r .first;
   }
 
   -- the next corner is lower: the greatest stays, and it is above the next
-  greatest-kept : (n b : ℕ) → Greatest l n b → below (cornerAt l n) (cornerAt l b) ≡ true → Greatest l (suc n) b
-  greatest-kept n b r h = record {
+  greatest-kept : {n b : ℕ} → Greatest l n b → below (cornerAt l n) (cornerAt l b) ≡ true → Greatest l (suc n) b
+  greatest-kept {n} {b} r h = record {
     inside = omega (arith, r .inside);
-    highest = up-to (λ i. below (cornerAt l b) (cornerAt l i) ≡ false) n (r .highest) (below-asym (cornerAt l n) (cornerAt l b) h);
-    last = λ i k m. up-to (λ i. b < i → below (cornerAt l i) (cornerAt l b) ≡ true) n (λ i m k. r .last i k m) (λ k. h) i m k;
+    highest = up-to (λ i. below (cornerAt l b) (cornerAt l i) ≡ false) (r .highest) (below-asym (cornerAt l n) (cornerAt l b) h);
+    last = λ i k m. up-to (λ i. b < i → below (cornerAt l i) (cornerAt l b) ≡ true) (λ i m k. r .last i k m) (λ k. h) i m k;
   }
 
-  greatest-moved : (n b : ℕ) → Greatest l n b → below (cornerAt l n) (cornerAt l b) ≡ false → Greatest l (suc n) n
-  greatest-moved n b r h = record {
+  greatest-moved : {n b : ℕ} → Greatest l n b → below (cornerAt l n) (cornerAt l b) ≡ false → Greatest l (suc n) n
+  greatest-moved {n} {b} r h = record {
     inside = omega arith;
-    highest = up-to (λ i. below (cornerAt l n) (cornerAt l i) ≡ false) n over (below-irrefl (cornerAt l n));
+    highest = up-to (λ i. below (cornerAt l n) (cornerAt l i) ≡ false) over (below-irrefl (cornerAt l n));
     last = λ i k m. absurd (omega arith);
   }
     where
@@ -193,40 +193,40 @@ module _ (l : List Pt) where
           (λ t. differ (sym h ∙ below-not-trans (cornerAt l n) (cornerAt l i) (cornerAt l b) t (r .highest i k))) (λ t. t)
 
   -- m is what is left of l from place n on
-  least-from : (m : List Pt) (n b : ℕ) (p : Pt) → drop n l ≡ m → n + length m ≡ length l → cornerAt l b ≡ p → Least l n b → Least l (length l) (leastFrom b p n m)
+  least-from : {m : List Pt} {n b : ℕ} {p : Pt} → drop n l ≡ m → n + length m ≡ length l → cornerAt l b ≡ p → Least l n b → Least l (length l) (leastFrom b p n m)
   unfolding leastFrom
-  least-from [] n b p d e c r = subst (λ k. Least l k b) (omega arith) r
-  least-from (q ∷ m) n b p d e c r =
+  least-from {m = []} {b} d e c r = subst (λ k. Least l k b) (omega arith) r
+  least-from {m = q ∷ m} {n} {b} {p} d e c r =
       let at : getD l n O ∷ drop (suc n) l ≡ q ∷ m = sym (drop-cons l n O (omega arith)) ∙ d in
       let here : cornerAt l n ≡ q = cc in
       let rest : drop (suc n) l ≡ m = cc in
       let test : below (cornerAt l n) (cornerAt l b) ≡ below q p = cc in
       by-test (below q p)
-      (λ t. rw t (least-from m (suc n) n q rest (omega arith) here (least-moved n b r (test ∙ t))))
-      (λ t. rw t (least-from m (suc n) b p rest (omega arith) c (least-kept n b r (test ∙ t))))
+      (λ t. rw t (least-from rest (omega arith) here (least-moved r (test ∙ t))))
+      (λ t. rw t (least-from rest (omega arith) c (least-kept r (test ∙ t))))
 
-  greatest-from : (m : List Pt) (n b : ℕ) (p : Pt) → drop n l ≡ m → n + length m ≡ length l → cornerAt l b ≡ p → Greatest l n b → Greatest l (length l) (greatestFrom b p n m)
+  greatest-from : {m : List Pt} {n b : ℕ} {p : Pt} → drop n l ≡ m → n + length m ≡ length l → cornerAt l b ≡ p → Greatest l n b → Greatest l (length l) (greatestFrom b p n m)
   unfolding greatestFrom
-  greatest-from [] n b p d e c r = subst (λ k. Greatest l k b) (omega arith) r
-  greatest-from (q ∷ m) n b p d e c r =
+  greatest-from {m = []} {b} d e c r = subst (λ k. Greatest l k b) (omega arith) r
+  greatest-from {m = q ∷ m} {n} {b} {p} d e c r =
       let at : getD l n O ∷ drop (suc n) l ≡ q ∷ m = sym (drop-cons l n O (omega arith)) ∙ d in
       let here : cornerAt l n ≡ q = cc in
       let rest : drop (suc n) l ≡ m = cc in
       let test : below (cornerAt l n) (cornerAt l b) ≡ below q p = cc in
       by-test (below q p)
-      (λ t. rw t (greatest-from m (suc n) b p rest (omega arith) c (greatest-kept n b r (test ∙ t))))
-      (λ t. rw t (greatest-from m (suc n) n q rest (omega arith) here (greatest-moved n b r (test ∙ t))))
+      (λ t. rw t (greatest-from rest (omega arith) c (greatest-kept r (test ∙ t))))
+      (λ t. rw t (greatest-from rest (omega arith) here (greatest-moved r (test ∙ t))))
 
 -- the whole list gone through
 pub least-is : (l : List Pt) → 0 < length l → Least l (length l) (leastAt l)
 unfolding leastAt
 least-is [] h = absurd (omega arith)
-least-is (p ∷ l) h = least-from (p ∷ l) l 1 0 p refl (omega arith) refl (least-one (p ∷ l))
+least-is (p ∷ l) h = least-from (p ∷ l) refl (omega arith) refl (least-one (p ∷ l))
 
 pub greatest-is : (l : List Pt) → 0 < length l → Greatest l (length l) (greatestAt l)
 unfolding greatestAt
 greatest-is [] h = absurd (omega arith)
-greatest-is (p ∷ l) h = greatest-from (p ∷ l) l 1 0 p refl (omega arith) refl (greatest-one (p ∷ l))
+greatest-is (p ∷ l) h = greatest-from (p ∷ l) refl (omega arith) refl (greatest-one (p ∷ l))
 
 -- nothing is below the least, and nothing above the greatest
 pub least-all : (l : List Pt) → 0 < length l → All (λ c. below c (cornerAt l (leastAt l)) ≡ false) l

@@ -69,10 +69,10 @@ unfolding links cornersFrom
 corners-in p [] = unfold live in tt
 corners-in p (r ∷ m) =
     live-by (r -ᵖ p) (steps r m) (λ l. All (In (p ∷ r ∷ m)) (cornersFrom p l))
-    (λ h. on p (sub-zero h) (corners-in r m)) (λ h. (inl refl, on (p +ᵖ (r -ᵖ p)) (sym (+ᵖ--ᵖ p r)) (corners-in r m)))
+    (λ h. on (sub-zero h) (corners-in r m)) (λ h. (inl refl, on (sym (+ᵖ--ᵖ p r)) (corners-in r m)))
   where
-    on : (v : Pt) → r ≡ v → All (In (r ∷ m)) (cornersFrom r (live (steps r m))) → All (In (p ∷ r ∷ m)) (cornersFrom v (live (steps r m)))
-    on v e h = all-map (cornersFrom v (live (steps r m))) (λ c k. inr k) (subst (λ v. All (In (r ∷ m)) (cornersFrom v (live (steps r m)))) e h)
+    on : {v : Pt} → r ≡ v → All (In (r ∷ m)) (cornersFrom r (live (steps r m))) → All (In (p ∷ r ∷ m)) (cornersFrom v (live (steps r m)))
+    on {v} e h = all-map (cornersFrom v (live (steps r m))) (λ c k. inr k) (subst (λ v. All (In (r ∷ m)) (cornersFrom v (live (steps r m)))) e h)
 
 -- and its points are among those corners, or equal to the last
 points-in : (p : Pt) (m : List Pt) → All (λ c. In (cornersFrom p (live (steps p m))) c ⊎ (c ≡ lastOf p m)) (p ∷ m)
@@ -127,9 +127,9 @@ abbrev pub From : Pt → Pt → Type 0
 From s c = (c ≡ s) ⊎ Up (c -ᵖ s)
 
 -- the first edge leads up
-first-up : (s e f : Pt) (l : List Pt) → Nz e → All (From s) (cornersFrom s (e ∷ f ∷ l)) → Up e
+first-up : (s : Pt) {e : Pt} (f : Pt) (l : List Pt) → Nz e → All (From s) (cornersFrom s (e ∷ f ∷ l)) → Up e
 unfolding cornersFrom
-first-up s e f l n h = ⊎-elim (λ k. absurd (nz-not-zero n (+ᵖ-cancel s e O (k ∙ sym (+ᵖ-zero s))))) (λ k. subst Up (+ᵖ-sub s e) k) (h .1 .0)
+first-up s {e} f l n h = ⊎-elim (λ k. absurd (nz-not-zero n (+ᵖ-cancel s e O (k ∙ sym (+ᵖ-zero s))))) (λ k. subst Up (+ᵖ-sub s e) k) (h .1 .0)
 
 -- the last edge leads from some corner to the end
 last-corner : (q e : Pt) (l : List Pt) → Any (λ c. c +ᵖ lastOf e l ≡ q +ᵖ sumᵖ (e ∷ l)) (cornersFrom q (e ∷ l))
@@ -148,15 +148,15 @@ last-down s e l n z h =
     over = ringᵖ (pt ∷ pt ∷ pt ∷ []) (λ c s f. (c -E s) +E f :≡ᵖ (c +E f) -E s) tt
 
 -- upper before lower
-up-down : (u v : Pt) → Up u → Up (negᵖ v) → Lt u v
-up-down u v a b = record { lt = subst₂ (λ p q. LtAt p q (cross u v)) (sym (lower-up u a)) (sym (lower-down v b)) tt }
+up-down : {u : Pt} (v : Pt) → Up u → Up (negᵖ v) → Lt u v
+up-down {u} v a b = record { lt = subst₂ (λ p q. LtAt p q (cross u v)) (sym (lower-up a)) (sym (lower-down v b)) tt }
 
 -- no descent along the way: weakly ascending
-no-descent : (e : Pt) (l : List Pt) → Nz e → All Nz l → All (λ c. descent c ≡ false) (links e l) → Sorted Le (e ∷ l)
+no-descent : {e : Pt} (l : List Pt) → Nz e → All Nz l → All (λ c. descent c ≡ false) (links e l) → Sorted Le (e ∷ l)
 unfolding links descent
-no-descent e [] ne nl h = (tt, tt)
-no-descent e (f ∷ l) ne nl h =
-    let r = no-descent f l (nl .0) (nl .1) (h .1) in
+no-descent [] ne nl h = (tt, tt)
+no-descent {e} (f ∷ l) ne nl h =
+    let r = no-descent l (nl .0) (nl .1) (h .1) in
     let k : Le e f = elim (ahead-cases f e) [ ahead t m ↦ differ (sym (h .0) ∙ t) | behind t m ↦ m ] in
     ((k, all-map2 l (λ g n m. le-trans ne (nl .0) n k m) (nl .1) (r .0)), r)
 
@@ -177,9 +177,9 @@ convex-many : (s e f : Pt) (l : List Pt) → All Nz (e ∷ f ∷ l) → sumᵖ (
 unfolding descent
 convex-many s e f l n z from round = record {
   nonzero = n;
-  ascends = no-descent e (f ∷ l) (n .0) (n .1) (all-count descent (links e (f ∷ l)) none);
+  ascends = no-descent (f ∷ l) (n .0) (n .1) (all-count descent (links e (f ∷ l)) none);
   closed = z;
-  wide = λ v nv h. ⊎-elim (λ k. zero-pos k (line-trans e v g nv (line-swap e v (h .0)) (all-last (Line v) e (f ∷ l) h))) (λ k. clash falls (same-le k .0)) (forward-cases (g, e) onward);
+  wide = λ v nv h. ⊎-elim (λ k. zero-pos k (line-trans e g nv (line-swap e v (h .0)) (all-last (Line v) e (f ∷ l) h))) (λ k. clash falls (same-le k .0)) (forward-cases (g, e) onward);
 }
   where
     zero-pos : {k : ℤ} → pos 0 <ℤ k → k ≡ pos 0 → ⊥
@@ -189,7 +189,7 @@ convex-many s e f l n z from round = record {
     g = lastOf e (f ∷ l)
 
     falls : Lt e g
-    falls = up-down e g (first-up s e f l (n .0) from) (last-down s e (f ∷ l) (all-last Nz e (f ∷ l) n) z from)
+    falls = up-down g (first-up s f l (n .0) from) (last-down s e (f ∷ l) (all-last Nz e (f ∷ l) n) z from)
 
     none : howMany descent (links e (f ∷ l)) ≡ 0
     none =
@@ -203,11 +203,11 @@ convex-many s e f l n z from round = record {
     onward = all-perm (λ c. forward c ≡ true) (perm-last e (f ∷ l)) (all-pass forward (neighbours (e ∷ f ∷ l)) (round .calm)) .0
 
 -- one edge alone does not close, and none has no descent
-convex-from : (s : Pt) (E : List Pt) → All Nz E → sumᵖ E ≡ O → All (From s) (cornersFrom s E) → RoundEdges E → Convex E
+convex-from : (s : Pt) {E : List Pt} → All Nz E → sumᵖ E ≡ O → All (From s) (cornersFrom s E) → RoundEdges E → Convex E
 unfolding neighbours howMany sumᵖ
-convex-from s [] n z from round = absurd (omega (arith, round .once))
-convex-from s (e ∷ []) n z from round = absurd (nz-not-zero (n .0) (sym (+ᵖ-zero e) ∙ z))
-convex-from s (e ∷ f ∷ l) n z from round = convex-many s e f l n z from round
+convex-from s {E = []} n z from round = absurd (omega (arith, round .once))
+convex-from s {E = e ∷ []} n z from round = absurd (nz-not-zero (n .0) (sym (+ᵖ-zero e) ∙ z))
+convex-from s {E = e ∷ f ∷ l} n z from round = convex-many s e f l n z from round
 
 -- ---- the table read from its least corner
 
@@ -221,27 +221,27 @@ module _ (s : Pt) (t : List Pt) (least : All (From s) (s ∷ t)) (round : RoundE
   -- the nonzero edges are convex
   pub convex-read : Convex (live (edges (s ∷ t)))
   convex-read =
-      convex-from s (live (edges (s ∷ t))) (live-nz (edges (s ∷ t))) (sum-live (edges (s ∷ t)) ∙ sum-edges (s ∷ t))
+      convex-from s (live-nz (edges (s ∷ t))) (sum-live (edges (s ∷ t)) ∙ sum-edges (s ∷ t))
       (all-map (cornersFrom s (live (edges (s ∷ t)))) (λ c a. all-any (s ∷ t) least a (λ q b e. subst (From s) e b)) corners-on) round
 
   -- the winding is above 0
   pub winding-read : pos 0 <ℤ windingOf s (s ∷ t)
-  winding-read = subst (λ k. pos 0 <ℤ k) (sym (winding-crossings s t)) (winding-pos (live (edges (s ∷ t))) convex-read)
+  winding-read = subst (λ k. pos 0 <ℤ k) (sym (winding-crossings s t)) (winding-pos convex-read)
 
   -- the table's corners are the corners of the nonzero edges
   pub outline-read : Outline s (s ∷ t) (live (edges (s ∷ t)))
   outline-read = record {
     convex = convex-read;
-    reaches = λ d. reach-same d (cornersFrom s (live (edges (s ∷ t)))) (s ∷ t) (corners-nonempty s (live (edges (s ∷ t))) convex-read) corners-on points;
+    reaches = λ d. reach-same d (s ∷ t) (corners-nonempty s convex-read) corners-on points;
     corners = corners-on;
   }
     where
       head : In (cornersFrom s (live (edges (s ∷ t)))) s
-      head = begins (live (edges (s ∷ t))) convex-read
+      head = begins convex-read
         where
-          begins : (l : List Pt) → Convex l → In (cornersFrom s l) s
-          begins [] c = absurd (convex-nonempty [] c refl)
-          begins (e ∷ l) c = unfold cornersFrom in inl refl
+          begins : {l : List Pt} → Convex l → In (cornersFrom s l) s
+          begins {l = []} c = absurd (convex-nonempty c refl)
+          begins {l = e ∷ l} c = unfold cornersFrom in inl refl
 
       points : All (In (cornersFrom s (live (edges (s ∷ t))))) (s ∷ t)
       points = all-append (In (cornersFrom s (live (edges (s ∷ t))))) (s ∷ t) (s ∷ []) .0

@@ -185,13 +185,13 @@ read-back l h =
       strict = sharp-ascends (reverse l) h (leastAt (reverse l)) j (least-all (reverse l) g);
     })
 
-read : (l : List Pt) → EitherWay l → Read l (fromLowest (anticlockwise l))
-read l h = ⊎-elim (read-on l) (read-back l) h
+read : {l : List Pt} → EitherWay l → Read l (fromLowest (anticlockwise l))
+read {l} h = ⊎-elim (read-on l) (read-back l) h
 
 pub sum-is-de-berg : SumIsDeBerg
 unfolding deBerg
 sum-is-de-berg A B a b =
-    let p = read A a in
-    let q = read B b in
+    let p = read a in
+    let q = read b in
     pair-is false A B (p .size) (q .size) ∙ ap₂ cornersFrom (ap₂ _+ᵖ_ (p .from) (q .from)) (ap₂ join (p .along) (q .along))
     ∙ sym (berg-corners (fromLowest (anticlockwise A)) (fromLowest (anticlockwise B)) (p .nonzero) (q .nonzero) (p .strict) (q .strict))

@@ -41,18 +41,18 @@ use Rattle.pair.proofs.Readings.{outline-on, winding-on, outline-back, 
 -- ---- halves change
 
 -- - e is in the other half
-lower-neg : (e : Pt) → Nz e → lower (negᵖ e) ≡ not (lower e)
-lower-neg e n = at (lower e) (n .nz)
+lower-neg : {e : Pt} → Nz e → lower (negᵖ e) ≡ not (lower e)
+lower-neg {e} n = at (lower e) (n .nz)
   where
     at : (b : Bool) → Up (sgn b e) → lower (negᵖ e) ≡ not b
-    at true u = lower-up (negᵖ e) u
+    at true u = lower-up u
     at false u = lower-down (negᵖ e) (subst Up (sym (negᵖ-negᵖ e)) u)
 
 -- (- e) × (- f) = e × f, and both change the half
-forward-neg : (e f : Pt) → Nz e → Nz f → forward (negᵖ e, negᵖ f) ≡ forward (e, f)
+forward-neg : {e f : Pt} → Nz e → Nz f → forward (negᵖ e, negᵖ f) ≡ forward (e, f)
 unfolding forward angleCmp
-forward-neg e f ne nf =
-    (λ i. cond (ltZ (pos 0) (cross-neg-neg e f i)) true (isEqual (byHalves (lower-neg e ne i) (lower-neg f nf i) (cross-neg-neg e f i))))
+forward-neg {e} {f} ne nf =
+    (λ i. cond (ltZ (pos 0) (cross-neg-neg e f i)) true (isEqual (byHalves (lower-neg ne i) (lower-neg nf i) (cross-neg-neg e f i))))
     ∙ ap (cond (ltZ (pos 0) (cross e f)) true) (halves (lower e) (lower f) (cross e f))
   where
     halves : (p q : Bool) (k : ℤ) → isEqual (byHalves (not p) (not q) k) ≡ isEqual (byHalves p q k)
@@ -105,9 +105,9 @@ descent-rise e f h = elim (angle-cases f e) [
     same false = refl
 
 -- negated, a change to the lower half
-descent-fall : (e f : Pt) → Nz e → Nz f → forward (e, f) ≡ true → descent (negᵖ e, negᵖ f) ≡ fall (lower e) (lower f)
-descent-fall e f ne nf h =
-    descent-rise (negᵖ e) (negᵖ f) (forward-neg e f ne nf ∙ h) ∙ ap₂ rise (lower-neg e ne) (lower-neg f nf) ∙ rise-not (lower e) (lower f)
+descent-fall : {e f : Pt} → Nz e → Nz f → forward (e, f) ≡ true → descent (negᵖ e, negᵖ f) ≡ fall (lower e) (lower f)
+descent-fall {e} {f} ne nf h =
+    descent-rise (negᵖ e) (negᵖ f) (forward-neg ne nf ∙ h) ∙ ap₂ rise (lower-neg ne) (lower-neg nf) ∙ rise-not (lower e) (lower f)
   where
     rise-not : (p q : Bool) → rise (not p) (not q) ≡ fall p q
     rise-not true q = refl
@@ -140,11 +140,11 @@ balance (c ∷ l) =
 -- the firsts of all pairs are the seconds, in another order
 rises-falls : (l : List Pt) → howMany rises (neighbours l) ≡ howMany falls (neighbours l)
 rises-falls l =
-    cancel (howMany rises (neighbours l)) (howMany falls (neighbours l)) (howMany (λ c. lower (c .0)) (neighbours l)) (howMany (λ c. lower (c .1)) (neighbours l))
+    cancel (howMany rises (neighbours l)) (howMany falls (neighbours l))
     (firsts ∙ sym seconds) (balance (neighbours l))
   where
-    cancel : (r f a b : ℕ) → a ≡ b → r + b ≡ f + a → r ≡ f
-    cancel r f a b e h = omega arith
+    cancel : (r f : ℕ) {a b : ℕ} → a ≡ b → r + b ≡ f + a → r ≡ f
+    cancel r f e h = omega arith
 
     firsts : howMany (λ c. lower (c .0)) (neighbours l) ≡ sumℕ (map (λ e. bit (lower e)) l)
     firsts = count-sum (λ c. lower (c .0)) (neighbours l) ∙ ap sumℕ (sym (map-map (λ e. bit (lower e)) (λ c. c .0) (neighbours l)) ∙ ap (map (λ e. bit (lower e))) (firsts-neighbours l))
@@ -171,9 +171,9 @@ module _ (E : List Pt) (n : All Nz E) (h : RoundEdges E) where
   -- the turns stay, and the descents are the falls, as many as the rises
   pub round-neg : RoundEdges (map negᵖ E)
   round-neg = record {
-    calm = negated (λ c. not (forward c)) (λ c. not (forward c)) (all-map (neighbours E) (λ c k. ap not (forward-neg (c .0) (c .1) (k .0) (k .1))) nz) ∙ h .calm;
+    calm = negated (λ c. not (forward c)) (λ c. not (forward c)) (all-map (neighbours E) (λ c k. ap not (forward-neg (k .0) (k .1))) nz) ∙ h .calm;
     once =
-        negated descent falls (all-map2 (neighbours E) (λ c k m. descent-fall (c .0) (c .1) (k .0) (k .1) m) nz onward) ∙ sym (rises-falls E)
+        negated descent falls (all-map2 (neighbours E) (λ c k m. descent-fall (k .0) (k .1) m) nz onward) ∙ sym (rises-falls E)
         ∙ sym (count-same descent rises (neighbours E) (all-map (neighbours E) (λ c k. descent-rise (c .0) (c .1) k) onward)) ∙ h .once;
   }
 

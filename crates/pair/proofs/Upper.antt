@@ -30,31 +30,31 @@ use Rattle.pair.proofs.Join.{sorted-le}
 -- what comes before one of the upper half is in it, what comes after one of the lower half is in
 -- that
 half-before : {a b : Pt} → Le a b → lower b ≡ false → lower a ≡ false
-half-before {a} {b} h e = at (lower a) (lower b) (h .le) e
+half-before {a} {b} h e = at (h .le) e
   where
-    at : (p q : Bool) → LeAt p q (cross a b) → q ≡ false → p ≡ false
-    at false q h e = refl
-    at true false h e = absurd h
-    at true true h e = e
+    at : {p q : Bool} → LeAt p q (cross a b) → q ≡ false → p ≡ false
+    at {p = false} h e = refl
+    at {p = true} {q = false} h e = absurd h
+    at {p = true} {q = true} h e = e
 
 -- and conversely below
 half-after : {a b : Pt} → Le a b → lower a ≡ true → lower b ≡ true
-half-after {a} {b} h e = at (lower a) (lower b) (h .le) e
+half-after {a} {b} h e = at (h .le) e
   where
-    at : (p q : Bool) → LeAt p q (cross a b) → p ≡ true → q ≡ true
-    at p true h e = refl
-    at true false h e = absurd h
-    at false false h e = e
+    at : {p q : Bool} → LeAt p q (cross a b) → p ≡ true → q ≡ true
+    at {q = true} h e = refl
+    at {p = true} {q = false} h e = absurd h
+    at {p = false} {q = false} h e = e
 
 -- in one half, before or beside is a cross at least 0
 le-in-half : {a b : Pt} → Le a b → lower a ≡ lower b → pos 0 ≤ℤ cross a b
-le-in-half {a} {b} h e = at (lower a) (lower b) (h .le) e
+le-in-half {a} {b} h e = at (h .le) e
   where
-    at : (p q : Bool) → LeAt p q (cross a b) → p ≡ q → pos 0 ≤ℤ cross a b
-    at false false h e = h
-    at true true h e = h
-    at false true h e = differ e
-    at true false h e = absurd h
+    at : {p q : Bool} → LeAt p q (cross a b) → p ≡ q → pos 0 ≤ℤ cross a b
+    at {p = false} {q = false} h e = h
+    at {p = true} {q = true} h e = h
+    at {p = false} {q = true} h e = differ e
+    at {p = true} {q = false} h e = absurd h
 
 -- ---- the corner after the edges a ∷ A, before the edges b ∷ B
 
@@ -89,12 +89,12 @@ module _ {M : List Pt} (c : Convex M) where
       by-test (lower b)
       (λ e. subst (λ v. pos 0 <ℤ cross v b) (sym (before-after s))
       (subst (λ k. pos 0 <ℤ k) (sym (cross-neg-swap-l (sumᵖ (b ∷ d ∷ B)) b ∙ ap (cross b) (sum-cons b (d ∷ B)) ∙ cross-add-r b b (sumᵖ (d ∷ B))))
-      (past (cross b b) (cross b (sumᵖ (d ∷ B))) (cross-self b)
+      (past (cross b (sumᵖ (d ∷ B))) (cross-self b)
       (sum-some (λ g. pos 0 <ℤ cross b g) (λ x y. add-right b x y) d B (all-map (d ∷ B) (λ g k. lt-in-half (e ∙ sym (half-after (lt-le k) e)) .0 k) (s .sorted .0))))))
       (λ e. sum-some (λ g. pos 0 <ℤ cross g b) (λ x y. add-left b x y) a A (all-map (a ∷ A) (λ g k. lt-in-half (half-before (lt-le k) e ∙ sym e) .0 k) (split-before s)))
     where
-      past : (k m : ℤ) → k ≡ pos 0 → pos 0 <ℤ m → pos 0 <ℤ (k +ℤ m)
-      past k m e h = omega (zarith, add-parts k m)
+      past : {k : ℤ} (m : ℤ) → k ≡ pos 0 → pos 0 <ℤ m → pos 0 <ℤ (k +ℤ m)
+      past {k} m e h = omega (zarith, add-parts k m)
 
       add-right : (v x y : Pt) → pos 0 <ℤ cross v x → pos 0 <ℤ cross v y → pos 0 <ℤ cross v (x +ᵖ y)
       add-right = arithℤ (pt ∷ pt ∷ pt ∷ []) (λ v x y. con (pos 0) :< crossE v x ⇒ con (pos 0) :< crossE v y ⇒ con (pos 0) :< crossE v (x +E y)) (omega arith)
@@ -112,16 +112,16 @@ module _ {M : List Pt} (c : Convex M) where
       let u : Up (cut b M) = subst Up (sym (cut-split s)) (up-corner (split-le s)) in
       let on : cut d M ≡ b +ᵖ cut b M = cut-split (split-next s) ∙ sum-cons b (a ∷ A) ∙ ap (λ v. b +ᵖ v) (sym (cut-split s)) in
       let left : pos 0 <ℤ cross (cut b M) b = subst (λ v. pos 0 <ℤ cross v b) (sym (cut-split s)) (left-strictly s) in
-      let h : Lt (cut b M) (cut d M) = lt-in-half (lower-up (cut b M) u ∙ sym (lower-up (cut d M) (r .0 .0))) .1 (subst (λ v. pos 0 <ℤ cross (cut b M) v) (sym on) (grow (cut b M) b left)) in
+      let h : Lt (cut b M) (cut d M) = lt-in-half (lower-up u ∙ sym (lower-up (r .0 .0))) .1 (subst (λ v. pos 0 <ℤ cross (cut b M) v) (sym on) (grow (cut b M) b left)) in
       ((u, r .0), ((h, all-map2 (map (λ g. cut g M) B) (λ v n k. lt-trans (nz-of-up u) (nz-of-up (r .0 .0)) (nz-of-up n) h k) (r .0 .1) (r .1 .0)), r .1))
     where
       grow : (u b : Pt) → pos 0 <ℤ cross u b → pos 0 <ℤ cross u (b +ᵖ u)
       grow = arithℤ (pt ∷ pt ∷ []) (λ u b. con (pos 0) :< crossE u b ⇒ con (pos 0) :< crossE u (b +E u)) (omega arith)
 
 -- the upper half is without 0
-up-not-zero : (v : Pt) → Up v → O ≡ v → ⊥
-up-not-zero v (above h) e = omega (zarith, ap (λ p. p .y) e)
-up-not-zero v (level d h) e = omega (zarith, ap (λ p. p .x) e)
+up-not-zero : {v : Pt} → Up v → O ≡ v → ⊥
+up-not-zero (above h) e = omega (zarith, ap (λ p. p .y) e)
+up-not-zero (level d h) e = omega (zarith, ap (λ p. p .x) e)
 
 -- no direction is before itself
 distinct-sorted : (l : List Pt) → Sorted Lt l → Distinct l
@@ -134,16 +134,16 @@ distinct-image f i [] d = tt
 distinct-image f i (a ∷ l) d = (all-image (λ y. ¬ (f a ≡ y)) f l .1 (all-map l (λ b n e. n (i a b e)) (d .0)), distinct-image f i l (d .1))
 
 -- the first cut is 0, the others rise
-distinct-cuts : (M : List Pt) → Convex M → Sorted Lt M → Distinct (map (λ g. cut g M) M)
-distinct-cuts [] c s = tt
-distinct-cuts (e ∷ []) c s = (tt, tt)
-distinct-cuts (e ∷ f ∷ l) c s =
-    let r = rising c e [] f l (split-next (split-start Lt (e ∷ f ∷ l) s)) in
-    let z : O ≡ cut e (e ∷ f ∷ l) = sym (cut-split (split-start Lt (e ∷ f ∷ l) s) ∙ (unfold sumᵖ in refl)) in
+distinct-cuts : {M : List Pt} → Convex M → Sorted Lt M → Distinct (map (λ g. cut g M) M)
+distinct-cuts {M = []} c s = tt
+distinct-cuts {M = e ∷ []} c s = (tt, tt)
+distinct-cuts {M = e ∷ f ∷ l} c s =
+    let r = rising c e [] f l (split-next (split-start s)) in
+    let z : O ≡ cut e (e ∷ f ∷ l) = sym (cut-split (split-start s) ∙ (unfold sumᵖ in refl)) in
     let cuts : List Pt = map (λ g. cut g (e ∷ f ∷ l)) (f ∷ l) in
-    (subst (λ o. All (λ v. ¬ (o ≡ v)) cuts) z (all-map cuts (λ v u. up-not-zero v u) (r .0)), distinct-sorted cuts (r .1))
+    (subst (λ o. All (λ v. ¬ (o ≡ v)) cuts) z (all-map cuts (λ v u. up-not-zero u) (r .0)), distinct-sorted cuts (r .1))
 
 -- no two corners are equal
-pub distinct-corners : (P : Pt) (M : List Pt) → Convex M → Sorted Lt M → Distinct (cornersFrom P M)
-distinct-corners P M c s =
-    subst Distinct (map-map (λ v. P +ᵖ v) (λ g. cut g M) M ∙ sym (corners-cuts P M s)) (distinct-image (λ v. P +ᵖ v) (+ᵖ-cancel P) (map (λ g. cut g M) M) (distinct-cuts M c s))
+pub distinct-corners : (P : Pt) {M : List Pt} → Convex M → Sorted Lt M → Distinct (cornersFrom P M)
+distinct-corners P {M} c s =
+    subst Distinct (map-map (λ v. P +ᵖ v) (λ g. cut g M) M ∙ sym (corners-cuts P M s)) (distinct-image (λ v. P +ᵖ v) (+ᵖ-cancel P) (map (λ g. cut g M) M) (distinct-cuts c s))

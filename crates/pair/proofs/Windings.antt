@@ -27,33 +27,33 @@ crossings u (e ∷ l) = cross u e ∷ crossings (u +ᵖ e) l
 
 module _ {E : List Pt} (c : Convex E) where
   -- one edge on
-  next-sum : (u b : Pt) (A : List Pt) → u ≡ sumᵖ A → u +ᵖ b ≡ sumᵖ (b ∷ A)
-  next-sum u b A e = ap (λ v. v +ᵖ b) e ∙ +ᵖ-comm (sumᵖ A) b ∙ sym (sum-cons b A)
+  next-sum : {u : Pt} (b : Pt) (A : List Pt) → u ≡ sumᵖ A → u +ᵖ b ≡ sumᵖ (b ∷ A)
+  next-sum b A e = ap (λ v. v +ᵖ b) e ∙ +ᵖ-comm (sumᵖ A) b ∙ sym (sum-cons b A)
 
   -- no term is below 0
-  none-below : (A B : List Pt) (u : Pt) → Split Le E A B → u ≡ sumᵖ A → All (λ k. pos 0 ≤ℤ k) (crossings u B)
+  none-below : {A B : List Pt} {u : Pt} → Split Le E A B → u ≡ sumᵖ A → All (λ k. pos 0 ≤ℤ k) (crossings u B)
   unfolding crossings
-  none-below A [] u s e = tt
-  none-below A (b ∷ B) u s e = (subst (λ v. pos 0 ≤ℤ cross v b) (sym e) (left-weakly c s), none-below (b ∷ A) B (u +ᵖ b) (split-next s) (next-sum u b A e))
+  none-below {B = []} s e = tt
+  none-below {A} {B = b ∷ B} s e = (subst (λ v. pos 0 ≤ℤ cross v b) (sym e) (left-weakly c s), none-below (split-next s) (next-sum b A e))
 
   -- u, the sum of the edges before, lies along v and b along u, so b lies along v
-  all-along : (v a : Pt) (A B : List Pt) (u : Pt) → Split Le E (a ∷ A) B → u ≡ sumᵖ (a ∷ A) → Line v u → All (λ k. k ≡ pos 0) (crossings u B) → All (Line v) B
+  all-along : (v a : Pt) (A : List Pt) {B : List Pt} {u : Pt} → Split Le E (a ∷ A) B → u ≡ sumᵖ (a ∷ A) → Line v u → All (λ k. k ≡ pos 0) (crossings u B) → All (Line v) B
   unfolding crossings
-  all-along v a A [] u s e h z = tt
-  all-along v a A (b ∷ B) u s e h z =
-      let k : Line v b = line-trans v u b (subst Nz (sym e) (nz-of-up (up-corner c s))) h (line-swap u b (z .0)) in
-      (k, all-along v b (a ∷ A) B (u +ᵖ b) (split-next s) (next-sum u b (a ∷ A) e) (line-add v u b h k) (z .1))
+  all-along v a A {B = []} s e h z = tt
+  all-along v a A {B = b ∷ B} {u} s e h z =
+      let k : Line v b = line-trans v b (subst Nz (sym e) (nz-of-up (up-corner c s))) h (line-swap u b (z .0)) in
+      (k, all-along v b (a ∷ A) (split-next s) (next-sum b (a ∷ A) e) (line-add v u b h k) (z .1))
 
 -- so the winding is above 0
-pub winding-pos : (E : List Pt) → Convex E → pos 0 <ℤ sumℤ (crossings O E)
+pub winding-pos : {E : List Pt} → Convex E → pos 0 <ℤ sumℤ (crossings O E)
 unfolding crossings
-winding-pos [] c = absurd (convex-nonempty [] c refl)
-winding-pos (e ∷ l) c = ⊎-elim (λ h. absurd (flat (zero-sum (crossings O (e ∷ l)) (none-below c [] (e ∷ l) O start (unfold sumᵖ in refl)) h))) (λ h. h) (≤-or-> (sumℤ (crossings O (e ∷ l))) (pos 0))
+winding-pos {E = []} c = absurd (convex-nonempty c refl)
+winding-pos {E = e ∷ l} c = ⊎-elim (λ h. absurd (flat (zero-sum (crossings O (e ∷ l)) (none-below c {A = []} {B = e ∷ l} {u = O} start (unfold sumᵖ in refl)) h))) (λ h. h) (≤-or-> (sumℤ (crossings O (e ∷ l))) (pos 0))
   where
     start : Split Le (e ∷ l) [] (e ∷ l)
-    start = split-start Le (e ∷ l) (c .ascends)
+    start = split-start (c .ascends)
 
     flat : All (λ k. k ≡ pos 0) (crossings O (e ∷ l)) → ⊥
     flat z =
         c .wide e (c .nonzero .0)
-        (cross-self e, all-along c e e [] l (O +ᵖ e) (split-next start) (next-sum c O e [] (unfold sumᵖ in refl)) (subst (Line e) (sym (zero-+ᵖ e)) (cross-self e)) (z .1))
+        (cross-self e, all-along c e e [] (split-next start) (next-sum c {u = O} e [] (unfold sumᵖ in refl)) (subst (Line e) (sym (zero-+ᵖ e)) (cross-self e)) (z .1))

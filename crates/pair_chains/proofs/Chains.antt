@@ -79,8 +79,8 @@ module _ (numbers : List ℕ) (end : ℕ) where
     pub right : j < n
     pub rest : Runs n numbers end (leftAfter numbers i j) (rightAfter numbers i j)
 
-  pub runs-next : (n i j : ℕ) → Runs n numbers end i j → i + j < end → Turned n i j
-  runs-next n i j r h =
+  pub runs-next : {n i j : ℕ} → Runs n numbers end i j → i + j < end → Turned n i j
+  runs-next {n} {i} {j} r h =
       let s = subst (All (λ p. (p .0 < n) × (p .1 < n))) (chain-next i j h) (r .inside) in
       record {
         left = s .0 .0;
@@ -116,13 +116,13 @@ module _ (points : List (List ℤ)) (numbers : List ℕ) (end : ℕ) where
 
     -- there is room for the corner
     pub stands-room : s .i + s .j < end → RoomAfter whole out₀ k₀ → RoomAfter (cornerOf s ∷ []) out (s .k)
-    stands-room h f = omega (arith, reached-room (contourFrom points numbers end (s .i) (s .j)) (a .put) f, ap length (comes h))
+    stands-room h f = omega (arith, reached-room (a .put) f, ap length (comes h))
 
     -- it is put, and the lane goes on
     pub stands-next : {out′ : List ℤ} {r : Lane} → s .i + s .j < end → r ≡ after s → CornersPut (cornerOf s ∷ []) out (s .k) out′ (s .k + 1) → Stands points numbers end whole out₀ k₀ r out′
     stands-next {out′} h e p = subst (λ r. Stands points numbers end whole out₀ k₀ r out′) (sym e) (record {
-      runs = runs-next numbers end (length points) (s .i) (s .j) (a .runs) h .rest;
-      put = reached-more (cornerOf s ∷ []) (contourFrom points numbers end (leftAfter numbers (s .i) (s .j)) (rightAfter numbers (s .i) (s .j))) (subst (λ l. Reached whole l out₀ k₀ out (s .k)) (comes h) (a .put)) p;
+      runs = runs-next numbers end (a .runs) h .rest;
+      put = reached-more (contourFrom points numbers end (leftAfter numbers (s .i) (s .j)) (rightAfter numbers (s .i) (s .j))) (subst (λ l. Reached whole l out₀ k₀ out (s .k)) (comes h) (a .put)) p;
     })
 
     pub stands-end : end ≤ s .i + s .j → CornersPut whole out₀ k₀ out (s .k)
@@ -130,10 +130,10 @@ module _ (points : List (List ℤ)) (numbers : List ℕ) (end : ℕ) where
 
     -- what is still to come has room
     pub stands-left : RoomAfter whole out₀ k₀ → RoomAfter (contourFrom points numbers end (s .i) (s .j)) out (s .k)
-    stands-left f = reached-room (contourFrom points numbers end (s .i) (s .j)) (a .put) f
+    stands-left f = reached-room (a .put) f
 
     -- and once it is put, all is
     pub stands-rest : {out′ : List ℤ} {k : ℕ} → CornersPut (contourFrom points numbers end (s .i) (s .j)) out (s .k) out′ k → CornersPut whole out₀ k₀ out′ k
     stands-rest p =
         let left = contourFrom points numbers end (s .i) (s .j) in
-        reached-end (reached-more left [] (subst (λ l. Reached whole l out₀ k₀ out (s .k)) (sym (append-nil left)) (a .put)) p)
+        reached-end (reached-more [] (subst (λ l. Reached whole l out₀ k₀ out (s .k)) (sym (append-nil left)) (a .put)) p)

@@ -35,8 +35,8 @@ four-going a x b y c z d w e t =
     let r = both-true (isGoing c z) (isGoing d w) (p .1) in
     (q .0, q .1, r .0, r .1)
 
-low : (numbers : List ℕ) (n end : ℕ) (s : Lane) → n < 2 ^ 32 → Runs n numbers end (s .i) (s .j) → Low s
-low numbers n end s h r = record { left = omega (arith, h, r .left); right = omega (arith, h, r .right) }
+low : {numbers : List ℕ} {n end : ℕ} (s : Lane) → n < 2 ^ 32 → Runs n numbers end (s .i) (s .j) → Low s
+low s h r = record { left = omega (arith, h, r .left); right = omega (arith, h, r .right) }
 
 -- ---- corners put
 
@@ -47,17 +47,17 @@ module _ (points : List (List ℤ)) (numbers : List ℕ) (x : Pair) where
   abbrev cornerOf : Lane → List Pt
   cornerOf s = (cornerIn points (s .i) +ᵖ cornerIn points (s .j)) ∷ []
 
-  pub of-start : {s : Lane} (out : List ℤ) (k : ℕ) → Fits points numbers x out k → s ≡ laneOf x k → Of out k s out
-  of-start out k f e = subst (λ s. Of out k s out) (sym e) (stands-start points numbers (x .end) (laneOf x k) out (f .runs))
+  pub of-start : {s : Lane} {out : List ℤ} {k : ℕ} → Fits points numbers x out k → s ≡ laneOf x k → Of out k s out
+  of-start {out} {k} f e = subst (λ s. Of out k s out) (sym e) (stands-start points numbers (x .end) (laneOf x k) out (f .runs))
 
   module _ {out₀ out : List ℤ} {k₀ : ℕ} (s : Lane) (a : Of out₀ k₀ s out) where
     pub of-low : Buffers points numbers → Low s
-    of-low b = low numbers (length points) (x .end) s (b .few) (a .runs)
+    of-low b = low s (b .few) (a .runs)
 
     pub of-turn : Buffers points numbers → Fits points numbers x out₀ k₀ → isGoing s x ≡ true → Buffers points numbers × (s .i < length points) × (s .j < length points) × RoomAfter (cornerOf s) out (s .k)
     of-turn b f t =
         let h = ltb-true (s .i + s .j) (x .end) t in
-        let n = runs-next numbers (x .end) (length points) (s .i) (s .j) (a .runs) h in
+        let n = runs-next numbers (x .end) (a .runs) h in
         (b, n .left, n .right, stands-room points numbers (x .end) s a h (f .room))
 
     pub of-next : {out′ : List ℤ} {r : Lane} → isGoing s x ≡ true → r ≡ after numbers s → CornersPut (cornerOf s) out (s .k) out′ (s .k + 1) → Of out₀ k₀ r out′
@@ -82,18 +82,18 @@ pub record Counting (numbers : List ℕ) (end total : ℕ) (s : Lane) : Type 0 w
 
 module _ (numbers : List ℕ) (end total : ℕ) (few : length numbers < 2 ^ 32) (small : total < 2 ^ 63) (s : Lane) (a : Counting numbers end total s) where
   pub counting-low : Low s
-  counting-low = low numbers (length numbers) end s few (a .runs)
+  counting-low = low s few (a .runs)
 
   pub counting-turn : ltb (s .i + s .j) end ≡ true → (s .i < length numbers) × (s .j < length numbers) × (s .k + 1 < 2 ^ 64)
   counting-turn t =
-      let n = runs-next numbers end (length numbers) (s .i) (s .j) (a .runs) (ltb-true (s .i + s .j) end t) in
+      let n = runs-next numbers end (a .runs) (ltb-true (s .i + s .j) end t) in
       (n .left, n .right, omega (arith, a .count, small))
 
   pub counting-next : {r : Lane} → ltb (s .i + s .j) end ≡ true → r ≡ after numbers s → Counting numbers end total r
   counting-next t e =
       let h = ltb-true (s .i + s .j) end t in
       subst (Counting numbers end total) (sym e) (record {
-        runs = runs-next numbers end (length numbers) (s .i) (s .j) (a .runs) h .rest;
+        runs = runs-next numbers end (a .runs) h .rest;
         count = omega (arith, a .count, ap length (chain-next numbers end (s .i) (s .j) h));
       })
 

@@ -23,10 +23,10 @@ head-size n k b e f g h =
       bounds-length b,
       decimal-size n,
       decimal-size k,
-      signed-size (b .«min_x») e,
-      signed-size (b .«max_x») f,
-      signed-size (b .«min_y») g,
-      signed-size (b .«max_y») h,
+      signed-size e,
+      signed-size f,
+      signed-size g,
+      signed-size h,
     )
 
 -- 20 + 1 + 20 + 1 + 4 + 26 · 2,052 + 1

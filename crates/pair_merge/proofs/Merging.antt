@@ -74,12 +74,12 @@ module _ (a b : List (List ℤ)) (ma : Mergeable a) (mb : Mergeable b) (i j : �
 
   -- so there is room for it
   pub turn-room : {whole : List Pt} {out out′ : List ℤ} {n k : ℕ} → Reached whole (toCome i j) out n out′ k → RoomAfter whole out n → RoomAfter (corner ∷ []) out′ k
-  turn-room r h = omega (arith, reached-room (toCome i j) r h, come-some)
+  turn-room r h = omega (arith, reached-room r h, come-some)
 
   -- it is put, and the merge goes on
   module _ {whole : List Pt} {out out′ out″ : List ℤ} {n k : ℕ} (r : Reached whole (toCome i j) out n out′ k) (p : CornersPut (corner ∷ []) out′ k out″ (k + 1)) where
     turned : (left : List Pt) → toCome i j ≡ corner ∷ left → Reached whole left out n out″ (k + 1)
-    turned left e = reached-more (corner ∷ []) left (subst (λ l. Reached whole l out n out′ k) e r) p
+    turned left e = reached-more left (subst (λ l. Reached whole l out n out′ k) e r) p
 
     pub turn-less : angleCmp (edgeAt (pointsIn a) i) (edgeAt (pointsIn b) j) ≡ Less → Reached whole (toCome (i + 1) j) out n out″ (k + 1)
     turn-less e = turned (toCome (i + 1) j) (come-less e)
@@ -108,10 +108,10 @@ module _ (a b : List (List ℤ)) (p j : ℕ) where
   rest-next h = rest-more (cornerIn b j) (pointsIn a) p (omega (arith, length-map a cornerOf)) ∙ (λ k. (point-in a p k +ᵖ cornerIn b j) ∷ restFrom (p + 1))
 
   pub rest-room : {whole : List Pt} {out out′ : List ℤ} {n k : ℕ} → p + 1 < length a → Reached whole (restFrom p) out n out′ k → RoomAfter whole out n → RoomAfter ((cornerIn a p +ᵖ cornerIn b j) ∷ []) out′ k
-  rest-room h r f = omega (arith, reached-room (restFrom p) r f, ap length (rest-next h))
+  rest-room h r f = omega (arith, reached-room r f, ap length (rest-next h))
 
   pub rest-turn : {whole : List Pt} {out out′ out″ : List ℤ} {n k : ℕ} → p + 1 < length a → Reached whole (restFrom p) out n out′ k → CornersPut ((cornerIn a p +ᵖ cornerIn b j) ∷ []) out′ k out″ (k + 1) → Reached whole (restFrom (p + 1)) out n out″ (k + 1)
-  rest-turn {whole} {out} {out′} {n = n} {k = k} h r q = reached-more ((cornerIn a p +ᵖ cornerIn b j) ∷ []) (restFrom (p + 1)) (subst (λ l. Reached whole l out n out′ k) (rest-next h) r) q
+  rest-turn {whole} {out} {out′} {n = n} {k = k} h r q = reached-more (restFrom (p + 1)) (subst (λ l. Reached whole l out n out′ k) (rest-next h) r) q
 
   pub rest-end : {whole : List Pt} {out out′ : List ℤ} {n k : ℕ} → p + 1 ≡ length a → Reached whole (restFrom p) out n out′ k → CornersPut whole out n out′ k
   rest-end {whole} {out} {out′} {n} {k} e r = reached-end (subst (λ l. Reached whole l out n out′ k) (rest-last (cornerIn b j) (pointsIn a) p (omega (arith, length-map a cornerOf))) r)
@@ -128,7 +128,7 @@ module _ (a b : List (List ℤ)) (ma : Mergeable a) (mb : Mergeable b) (i j : �
   halted : Reached whole (ofFirst ++ ofSecond) out n out′ k
   halted =
       subst (λ l. Reached whole l out n out′ k)
-      (at-rest (pointsIn a) (pointsIn b) i j (ma .turning) (mb .turning) (omega (arith, hi, length-map a cornerOf)) (omega (arith, hj, length-map b cornerOf))
+      (at-rest i j (ma .turning) (mb .turning) (omega (arith, hi, length-map a cornerOf)) (omega (arith, hj, length-map b cornerOf))
       (⊎-elim (λ e. inl (e ∙ sym (length-map a cornerOf))) (λ e. inr (e ∙ sym (length-map b cornerOf))) h)
       ∙ (λ t. restOf (point-in b j t) (drop i (pointsIn a)) ++ restOf (last t) (drop j (pointsIn b)))) r
     where
@@ -136,14 +136,14 @@ module _ (a b : List (List ℤ)) (ma : Mergeable a) (mb : Mergeable b) (i j : �
       last = ap (λ m. nthPoint (pointsIn a) (m - 1)) (length-map a cornerOf) ∙ point-in a (length a - 1)
 
   pub first-room : RoomAfter whole out n → RoomAfter ofFirst out′ k
-  first-room f = omega (arith, reached-room (ofFirst ++ ofSecond) halted f, length-append ofFirst ofSecond)
+  first-room f = omega (arith, reached-room halted f, length-append ofFirst ofSecond)
 
   module _ {out″ : List ℤ} {m : ℕ} (p : CornersPut ofFirst out′ k out″ m) where
     pub second-room : RoomAfter whole out n → RoomAfter ofSecond out″ m
-    second-room f = reached-room ofSecond (reached-more ofFirst ofSecond halted p) f
+    second-room f = reached-room (reached-more ofSecond halted p) f
 
     pub both-put : {out‴ : List ℤ} {q : ℕ} → CornersPut ofSecond out″ m out‴ q → CornersPut whole out n out‴ q
-    both-put g = reached-end (reached-more ofSecond [] (subst (λ l. Reached whole l out n out″ m) (sym (append-nil ofSecond)) (reached-more ofFirst ofSecond halted p)) g)
+    both-put g = reached-end (reached-more [] (subst (λ l. Reached whole l out n out″ m) (sym (append-nil ofSecond)) (reached-more ofSecond halted p)) g)
 
 -- no point, no corner
 pub none-first : (a b : List (List ℤ)) (out : List ℤ) (n : ℕ) → length a ≡ 0 → CornersPut (mergedOf (pointsIn a) (pointsIn b)) out n out n

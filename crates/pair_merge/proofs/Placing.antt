@@ -14,9 +14,9 @@ use Rattle.corners.proofs.Corners.{length-numbers, numbers-append}
 use Rattle.pair_merge.specs.Putting.{RoomAfter, CornersPut, Reached}
 
 -- two numbers stored are a corner put
-pub put-one : (p : Pt) (out : List ℤ) (k : ℕ) {out′ : List ℤ} → RoomAfter (p ∷ []) out k → out′ ≡ set (set out (2 * k) (p .x)) (2 * k + 1) (p .y) → CornersPut (p ∷ []) out k out′ (k + 1)
+pub put-one : (p : Pt) {out : List ℤ} {k : ℕ} {out′ : List ℤ} → RoomAfter (p ∷ []) out k → out′ ≡ set (set out (2 * k) (p .x)) (2 * k + 1) (p .y) → CornersPut (p ∷ []) out k out′ (k + 1)
 unfolding numbersOf
-put-one p out k {out′} h e = record {
+put-one p {out} {k} {out′} h e = record {
   size = ap length e ∙ length-set (set out (2 * k) (p .x)) (2 * k + 1) (p .y) ∙ length-set out (2 * k) (p .x);
   count = refl;
   written = written;
@@ -27,7 +27,7 @@ put-one p out k {out′} h e = record {
         let n = numbersOf done in
         let size : length n ≡ 2 * k = omega (arith, length-numbers done) in
         let room : 2 * k + 1 < length old = omega (arith, ap length (o ∙ overlay-eq n old), length-append n (drop (length n) old), length-drop (length n) old) in
-        e ∙ overlay-two n old (2 * k) (p .x) (p .y) o size room ∙ ap (λ l. overlay l old) (sym (numbers-append done (p ∷ [])))
+        e ∙ overlay-two n old (p .x) (p .y) o size room ∙ ap (λ l. overlay l old) (sym (numbers-append done (p ∷ [])))
 
 -- nothing put yet
 pub reached-start : (whole : List Pt) (out : List ℤ) (n : ℕ) → Reached whole whole out n out n
@@ -38,8 +38,8 @@ reached-start whole out n = record {
 }
 
 -- the next ones put
-pub reached-more : {whole : List Pt} (x left : List Pt) {out out′ out″ : List ℤ} {n k m : ℕ} → Reached whole (x ++ left) out n out′ k → CornersPut x out′ k out″ m → Reached whole left out n out″ m
-reached-more x left {n = n} {k = k} r p = record {
+pub reached-more : {whole : List Pt} {x : List Pt} (left : List Pt) {out out′ out″ : List ℤ} {n k m : ℕ} → Reached whole (x ++ left) out n out′ k → CornersPut x out′ k out″ m → Reached whole left out n out″ m
+reached-more {x} left {n = n} {k = k} r p = record {
   done = r .done ++ x;
   split = r .split ∙ sym (append-assoc (r .done) x left);
   put = record {
@@ -62,5 +62,5 @@ reached-end {whole} r =
     }
 
 -- what is left has room
-pub reached-room : {whole : List Pt} (left : List Pt) {out out′ : List ℤ} {n k : ℕ} → Reached whole left out n out′ k → RoomAfter whole out n → RoomAfter left out′ k
-reached-room left r h = omega (arith, r .put .size, r .put .count, ap length (r .split), length-append (r .done) left)
+pub reached-room : {whole : List Pt} {left : List Pt} {out out′ : List ℤ} {n k : ℕ} → Reached whole left out n out′ k → RoomAfter whole out n → RoomAfter left out′ k
+reached-room {left} r h = omega (arith, r .put .size, r .put .count, ap length (r .split), length-append (r .done) left)

@@ -125,7 +125,7 @@ walk-within : (reflected : Bool) (b : IntRect) (a : List Pt) → All (InBounds b
 walk-within reflected b a h = unrolled-points (InBounds (walkBounds reflected b)) reflected a (all-map a (as-seen reflected) h)
   where
     as-seen : (reflected : Bool) (p : Pt) → InBounds b p → InBounds (walkBounds reflected b) (turned reflected p)
-    as-seen true p i = inside-neg b p i
+    as-seen true p i = inside-neg i
     as-seen false p i = i
 
 walks-within : (reflected : Bool) (o : Operand) → tableBroken (o .starts) (o .corners) ≡ false → boundsBroken (o .bounds) (pointsOf (o .corners)) ≡ false → All (All (InBounds (walkBounds reflected (o .bounds)))) (map (unrolled reflected) (operandParts o))

@@ -34,8 +34,8 @@ test-same {u} {v} h = elim (angle-cases u v) [
 ]
 
 -- d and g of one direction are beside the same edges
-equal-same : (d g f : Pt) → Nz d → Nz g → Nz f → Same d g → isEqual (angleCmp d f) ≡ isEqual (angleCmp g f)
-equal-same d g f nd ng nf s =
+equal-same : {d g f : Pt} → Nz d → Nz g → Nz f → Same d g → isEqual (angleCmp d f) ≡ isEqual (angleCmp g f)
+equal-same {d} {g} {f} nd ng nf s =
     by-test (isEqual (angleCmp d f)) (λ t. t ∙ sym (same-test (same-trans ng nd nf (same-sym s) (test-same t))))
     (λ t. by-test (isEqual (angleCmp g f)) (λ u. same-test (same-trans nd ng nf s (test-same u)) ∙ sym u) (λ u. t ∙ sym u))
 
@@ -51,11 +51,11 @@ unfolding runs
 runs-turn d s f l h = rw h
 
 -- of a run's first edge only the direction matters
-pub runs-same : (d g s : Pt) (l : List Pt) → Nz d → Nz g → All Nz l → Same d g → runs d s l ≡ runs g s l
+pub runs-same : {d g : Pt} (s : Pt) (l : List Pt) → Nz d → Nz g → All Nz l → Same d g → runs d s l ≡ runs g s l
 unfolding runs
-runs-same d g s [] nd ng nl e = refl
-runs-same d g s (f ∷ l) nd ng nl e =
-    λ i. cond (equal-same d g f nd ng (nl .0) e i) (runs-same d g (s +ᵖ f) l nd ng (nl .1) e i) (s ∷ runs f f l)
+runs-same s [] nd ng nl e = refl
+runs-same s (f ∷ l) nd ng nl e =
+    λ i. cond (equal-same nd ng (nl .0) e i) (runs-same (s +ᵖ f) l nd ng (nl .1) e i) (s ∷ runs f f l)
 
 -- ---- two lists that every run goes on through alike
 
@@ -78,17 +78,17 @@ alike-trans : {l m k : List Pt} → Alike l m → Alike m k → Alike l k
 alike-trans a b = record { same = λ h. a .same h ∙ b .same h }
 
 -- with an edge in front
-alike-cons : {l m : List Pt} (e : Pt) → Nz e → Alike l m → Alike (e ∷ l) (e ∷ m)
+alike-cons : {l m : List Pt} {e : Pt} → Nz e → Alike l m → Alike (e ∷ l) (e ∷ m)
 unfolding runs grouped
-alike-cons {l} {m} e ne a = record { same = go }
+alike-cons {l} {m} {e} ne a = record { same = go }
   where
     go : (h : Begun) → onward h (e ∷ l) ≡ onward h (e ∷ m)
     go unset = a .same (along e e ne)
     go (along d s nd) = λ i. cond (isEqual (angleCmp d e)) (a .same (along d (s +ᵖ e) nd) i) (s ∷ a .same (along e e ne) i)
 
 -- two edges of one direction, and their sum
-alike-two : (e f : Pt) (l : List Pt) → Nz e → Nz f → Same e f → All Nz l → Alike (e ∷ f ∷ l) ((e +ᵖ f) ∷ l)
-alike-two e f l ne nf s nl = record { same = go }
+alike-two : {e f : Pt} (l : List Pt) → Nz e → Nz f → Same e f → All Nz l → Alike (e ∷ f ∷ l) ((e +ᵖ f) ∷ l)
+alike-two {e} {f} l ne nf s nl = record { same = go }
   where
     a : AddSame e f
     a = add-same ne nf s
@@ -97,7 +97,7 @@ alike-two e f l ne nf s nl = record { same = go }
     both = same-trans (a .nonzero) nf ne (a .same) (same-sym s)
 
     begun : runs e e (f ∷ l) ≡ runs (e +ᵖ f) (e +ᵖ f) l
-    begun = runs-on e e f l (same-test s) ∙ sym (runs-same (e +ᵖ f) e (e +ᵖ f) l (a .nonzero) ne nl both)
+    begun = runs-on e e f l (same-test s) ∙ sym (runs-same (e +ᵖ f) l (a .nonzero) ne nl both)
 
     go : (h : Begun) → onward h (e ∷ f ∷ l) ≡ onward h ((e +ᵖ f) ∷ l)
     go unset = unfold grouped in begun
@@ -119,20 +119,20 @@ module _
     (rel-trans : (l m k : List Pt) → R l m → R m k → R l k)
     (rel-cons : (e : Pt) (l m : List Pt) → Nz e → R l m → R (e ∷ l) (e ∷ m))
     (rel-two : (e f : Pt) (l : List Pt) → Nz e → Nz f → Same e f → All Nz l → R (e ∷ f ∷ l) ((e +ᵖ f) ∷ l)) where
-  runs-by : (d s : Pt) (l : List Pt) → Nz d → Nz s → Same s d → All Nz l → R (s ∷ l) (runs d s l)
-  runs-by d s [] nd ns e nl = unfold runs in rel-refl (s ∷ [])
-  runs-by d s (f ∷ l) nd ns e nl = by-test (isEqual (angleCmp d f))
+  runs-by : {d s : Pt} (l : List Pt) → Nz d → Nz s → Same s d → All Nz l → R (s ∷ l) (runs d s l)
+  runs-by {s} [] nd ns e nl = unfold runs in rel-refl (s ∷ [])
+  runs-by {d} {s} (f ∷ l) nd ns e nl = by-test (isEqual (angleCmp d f))
       (λ h. let t : Same s f = same-trans ns nd (nl .0) e (test-same h) in
       let a : AddSame s f = add-same ns (nl .0) t in
       rw (runs-on d s f l h)
       (rel-trans (s ∷ f ∷ l) ((s +ᵖ f) ∷ l) (runs d (s +ᵖ f) l) (rel-two s f l ns (nl .0) t (nl .1))
-      (runs-by d (s +ᵖ f) l nd (a .nonzero) (same-trans (a .nonzero) (nl .0) nd (a .same) (same-sym (test-same h))) (nl .1))))
-      (λ h. rw (runs-turn d s f l h) (rel-cons s (f ∷ l) (runs f f l) ns (runs-by f f l (nl .0) (nl .0) (same-refl f) (nl .1))))
+      (runs-by l nd (a .nonzero) (same-trans (a .nonzero) (nl .0) nd (a .same) (same-sym (test-same h))) (nl .1))))
+      (λ h. rw (runs-turn d s f l h) (rel-cons s (f ∷ l) (runs f f l) ns (runs-by l (nl .0) (nl .0) (same-refl f) (nl .1))))
 
   pub grouped-by : (l : List Pt) → All Nz l → R l (grouped l)
   unfolding grouped
   grouped-by [] n = rel-refl []
-  grouped-by (e ∷ l) n = runs-by e e l (n .0) (n .0) (same-refl e) (n .1)
+  grouped-by (e ∷ l) n = runs-by l (n .0) (n .0) (same-refl e) (n .1)
 
 -- its edges are nonzero
 pub grouped-nz : (l : List Pt) → All Nz l → All Nz (grouped l)
@@ -144,10 +144,10 @@ grouped-nz l n =
 
 module _ (a : Pt) (k : List Pt → List Pt) (b : Pt) (l : List Pt) (na : Nz a) (nb : Nz b) where
   pub steps-first : Le a b → stepOne a k (b ∷ l) ≡ a ∷ k (b ∷ l)
-  steps-first h = step-by a k b l (λ r. r ≡ a ∷ k (b ∷ l)) na nb (λ x. absurd (clash x h)) (λ x. refl)
+  steps-first h = step-by a k l (λ r. r ≡ a ∷ k (b ∷ l)) na nb (λ x. absurd (clash x h)) (λ x. refl)
 
   pub steps-second : Lt b a → stepOne a k (b ∷ l) ≡ b ∷ stepOne a k l
-  steps-second h = step-by a k b l (λ r. r ≡ b ∷ stepOne a k l) na nb (λ x. refl) (λ x. absurd (clash h x))
+  steps-second h = step-by a k l (λ r. r ≡ b ∷ stepOne a k l) na nb (λ x. refl) (λ x. absurd (clash h x))
 
 -- ---- lists that are alike as the first of the merge
 
@@ -159,10 +159,10 @@ unfolding stepped
 first-cons a m n na r = record { at = go }
   where
     go : (l : List Pt) → All Nz l → Alike (stepOne a (stepped m) l) (stepOne a (stepped n) l)
-    go [] nl = unfold stepOne in alike-cons a na (r .at [] tt)
+    go [] nl = unfold stepOne in alike-cons na (r .at [] tt)
     go (b ∷ l) nl = ⊎-elim
-        (λ h. alike-by (steps-first a (stepped m) b l na (nl .0) h) (steps-first a (stepped n) b l na (nl .0) h) (alike-cons a na (r .at (b ∷ l) nl)))
-        (λ h. alike-by (steps-second a (stepped m) b l na (nl .0) h) (steps-second a (stepped n) b l na (nl .0) h) (alike-cons b (nl .0) (go l (nl .1))))
+        (λ h. alike-by (steps-first a (stepped m) b l na (nl .0) h) (steps-first a (stepped n) b l na (nl .0) h) (alike-cons na (r .at (b ∷ l) nl)))
+        (λ h. alike-by (steps-second a (stepped m) b l na (nl .0) h) (steps-second a (stepped n) b l na (nl .0) h) (alike-cons (nl .0) (go l (nl .1))))
         (le-or-lt a b)
 
 first-two : (e f : Pt) (m : List Pt) → Nz e → Nz f → Same e f → All Nz m → FirstAlike (e ∷ f ∷ m) ((e +ᵖ f) ∷ m)
@@ -173,16 +173,16 @@ first-two e f m ne nf s nm = record { at = go }
     a = add-same ne nf s
 
     go : (l : List Pt) → All Nz l → Alike (stepOne e (stepped (f ∷ m)) l) (stepOne (e +ᵖ f) (stepped m) l)
-    go [] nl = unfold stepOne in alike-two e f (stepped m []) ne nf s (all-stepped Nz m [] nm tt)
+    go [] nl = unfold stepOne in alike-two (stepped m []) ne nf s (all-stepped Nz m [] nm tt)
     go (b ∷ l) nl = ⊎-elim
         (λ h. let k : Le f b = le-trans nf ne (nl .0) (same-le s .1) h in
         alike-by (steps-first e (stepped (f ∷ m)) b l ne (nl .0) h ∙ ap (λ r. e ∷ r) (steps-first f (stepped m) b l nf (nl .0) k))
         (steps-first (e +ᵖ f) (stepped m) b l (a .nonzero) (nl .0) (le-trans (a .nonzero) nf (nl .0) (same-le (a .same) .0) k))
-        (alike-two e f (stepped m (b ∷ l)) ne nf s (all-stepped Nz m (b ∷ l) nm nl)))
+        (alike-two (stepped m (b ∷ l)) ne nf s (all-stepped Nz m (b ∷ l) nm nl)))
         (λ h. let k : Lt b f = lt-same (nl .0) ne nf h s in
         alike-by (steps-second e (stepped (f ∷ m)) b l ne (nl .0) h)
         (steps-second (e +ᵖ f) (stepped m) b l (a .nonzero) (nl .0) (lt-same (nl .0) nf (a .nonzero) k (same-sym (a .same))))
-        (alike-cons b (nl .0) (go l (nl .1))))
+        (alike-cons (nl .0) (go l (nl .1))))
         (le-or-lt e b)
 
 first-grouped : (m : List Pt) → All Nz m → FirstAlike m (grouped m)
@@ -200,10 +200,10 @@ unfolding stepped
 second-cons b l k nb r = record { at = go }
   where
     go : (m : List Pt) → All Nz m → Alike (stepped m (b ∷ l)) (stepped m (b ∷ k))
-    go [] nm = alike-cons b nb (r .at [] tt)
+    go [] nm = alike-cons nb (r .at [] tt)
     go (a ∷ m) nm = ⊎-elim
-        (λ h. alike-by (steps-first a (stepped m) b l (nm .0) nb h) (steps-first a (stepped m) b k (nm .0) nb h) (alike-cons a (nm .0) (go m (nm .1))))
-        (λ h. alike-by (steps-second a (stepped m) b l (nm .0) nb h) (steps-second a (stepped m) b k (nm .0) nb h) (alike-cons b nb (r .at (a ∷ m) nm)))
+        (λ h. alike-by (steps-first a (stepped m) b l (nm .0) nb h) (steps-first a (stepped m) b k (nm .0) nb h) (alike-cons (nm .0) (go m (nm .1))))
+        (λ h. alike-by (steps-second a (stepped m) b l (nm .0) nb h) (steps-second a (stepped m) b k (nm .0) nb h) (alike-cons nb (r .at (a ∷ m) nm)))
         (le-or-lt a b)
 
 second-two : (e f : Pt) (l : List Pt) → Nz e → Nz f → Same e f → All Nz l → SecondAlike (e ∷ f ∷ l) ((e +ᵖ f) ∷ l)
@@ -214,16 +214,16 @@ second-two e f l ne nf s nl = record { at = go }
     t = add-same ne nf s
 
     go : (m : List Pt) → All Nz m → Alike (stepped m (e ∷ f ∷ l)) (stepped m ((e +ᵖ f) ∷ l))
-    go [] nm = alike-two e f l ne nf s nl
+    go [] nm = alike-two l ne nf s nl
     go (a ∷ m) nm = ⊎-elim
         (λ h. let k : Le a f = le-trans (nm .0) ne nf h (same-le s .0) in
         alike-by (steps-first a (stepped m) e (f ∷ l) (nm .0) ne h)
         (steps-first a (stepped m) (e +ᵖ f) l (nm .0) (t .nonzero) (le-trans (nm .0) nf (t .nonzero) k (same-le (t .same) .1)))
-        (alike-cons a (nm .0) (go m (nm .1))))
+        (alike-cons (nm .0) (go m (nm .1))))
         (λ h. let k : Lt f a = same-lt nf ne (nm .0) (same-sym s) h in
         alike-by (steps-second a (stepped m) e (f ∷ l) (nm .0) ne h ∙ ap (λ r. e ∷ r) (steps-second a (stepped m) f l (nm .0) nf k))
         (steps-second a (stepped m) (e +ᵖ f) l (nm .0) (t .nonzero) (same-lt (t .nonzero) nf (nm .0) (t .same) k))
-        (alike-two e f (stepped (a ∷ m) l) ne nf s (all-stepped Nz (a ∷ m) l nm nl)))
+        (alike-two (stepped (a ∷ m) l) ne nf s (all-stepped Nz (a ∷ m) l nm nl)))
         (le-or-lt a e)
 
 second-grouped : (l : List Pt) → All Nz l → SecondAlike l (grouped l)

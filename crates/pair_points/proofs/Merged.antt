@@ -60,27 +60,27 @@ record Run (d : Pt) (r : List Pt) : Type 0 where
   apart : Apart r
 
 -- what is off a direction is off each edge of it
-pub off-as : (x d s : Pt) → Nz x → Nz d → Nz s → Same s d → isEqual (angleCmp x d) ≡ false → isEqual (angleCmp x s) ≡ false
-off-as x d s nx nd ns e h = by-test (isEqual (angleCmp x s)) (λ t. differ (sym h ∙ same-test (same-trans nx ns nd (test-same t) e))) (λ t. t)
+pub off-as : {x d s : Pt} → Nz x → Nz d → Nz s → Same s d → isEqual (angleCmp x d) ≡ false → isEqual (angleCmp x s) ≡ false
+off-as {x} {s} nx nd ns e h = by-test (isEqual (angleCmp x s)) (λ t. differ (sym h ∙ same-test (same-trans nx ns nd (test-same t) e))) (λ t. t)
 
 -- and an edge of a direction is off what the direction is
-pub as-off : (d s f : Pt) → Nz d → Nz s → Nz f → Same s d → isEqual (angleCmp d f) ≡ false → isEqual (angleCmp s f) ≡ false
-as-off d s f nd ns nf e h = by-test (isEqual (angleCmp s f)) (λ t. differ (sym h ∙ same-test (same-trans nd ns nf (same-sym e) (test-same t)))) (λ t. t)
+pub as-off : {d s f : Pt} → Nz d → Nz s → Nz f → Same s d → isEqual (angleCmp d f) ≡ false → isEqual (angleCmp s f) ≡ false
+as-off {s} {f} nd ns nf e h = by-test (isEqual (angleCmp s f)) (λ t. differ (sym h ∙ same-test (same-trans nd ns nf (same-sym e) (test-same t)))) (λ t. t)
 
-runs-apart : (d s : Pt) (l : List Pt) → Nz d → Nz s → Same s d → All Nz l → Run d (runs d s l)
-runs-apart d s [] nd ns e nl = unfold runs in record { off = λ x nx. off-as x d s nx nd ns e; apart = (tt, tt) }
-runs-apart d s (f ∷ l) nd ns e nl = by-test (isEqual (angleCmp d f))
+runs-apart : {d s : Pt} (l : List Pt) → Nz d → Nz s → Same s d → All Nz l → Run d (runs d s l)
+runs-apart [] nd ns e nl = unfold runs in record { off = λ x nx. off-as nx nd ns e; apart = (tt, tt) }
+runs-apart {d} {s} (f ∷ l) nd ns e nl = by-test (isEqual (angleCmp d f))
     (λ h. let a : AddSame s f = add-same ns (nl .0) (same-trans ns nd (nl .0) e (test-same h)) in
     subst (Run d) (sym (runs-on d s f l h))
-    (runs-apart d (s +ᵖ f) l nd (a .nonzero) (same-trans (a .nonzero) (nl .0) nd (a .same) (same-sym (test-same h))) (nl .1)))
-    (λ h. let r : Run f (runs f f l) = runs-apart f f l (nl .0) (nl .0) (same-refl f) (nl .1) in
+    (runs-apart l nd (a .nonzero) (same-trans (a .nonzero) (nl .0) nd (a .same) (same-sym (test-same h))) (nl .1)))
+    (λ h. let r : Run f (runs f f l) = runs-apart l (nl .0) (nl .0) (same-refl f) (nl .1) in
     subst (Run d) (sym (runs-turn d s f l h))
-    (record { off = λ x nx. off-as x d s nx nd ns e; apart = (r .off s ns (as-off d s f nd ns (nl .0) e h), r .apart) }))
+    (record { off = λ x nx. off-as nx nd ns e; apart = (r .off s ns (as-off nd ns (nl .0) e h), r .apart) }))
 
 pub grouped-apart : (l : List Pt) → All Nz l → Apart (grouped l)
 unfolding grouped
 grouped-apart [] n = tt
-grouped-apart (e ∷ l) n = runs-apart e e l (n .0) (n .0) (same-refl e) (n .1) .apart
+grouped-apart (e ∷ l) n = runs-apart l (n .0) (n .0) (same-refl e) (n .1) .apart
 
 -- so an unrolled walk turns at each point
 pub turning-unrolled : (reflected : Bool) (l : List Pt) → Turning (unrolled reflected l)

@@ -35,24 +35,24 @@ module _ (Q : Pt → Type 0) where
       (λ z. rw z (h .0, along-live (p +ᵖ e) E (h .1)))
 
   -- runs made one
-  along-runs : (p d s : Pt) (l : List Pt) → Q p → All Q (pointsAlong (p +ᵖ s) l) → All Q (pointsAlong p (runs d s l))
+  along-runs : {p : Pt} (d s : Pt) (l : List Pt) → Q p → All Q (pointsAlong (p +ᵖ s) l) → All Q (pointsAlong p (runs d s l))
   unfolding pointsAlong
-  along-runs p d s [] q h = unfold runs in (q, h)
-  along-runs p d s (f ∷ l) q h = by-test (isEqual (angleCmp d f))
-      (λ t. rw (runs-on d s f l t) (along-runs p d (s +ᵖ f) l q (subst (λ v. All Q (pointsAlong v l)) (+ᵖ-assoc p s f) (h .1))))
-      (λ t. rw (runs-turn d s f l t) (q, along-runs (p +ᵖ s) f f l (h .0) (h .1)))
+  along-runs d s [] q h = unfold runs in (q, h)
+  along-runs {p} d s (f ∷ l) q h = by-test (isEqual (angleCmp d f))
+      (λ t. rw (runs-on d s f l t) (along-runs d (s +ᵖ f) l q (subst (λ v. All Q (pointsAlong v l)) (+ᵖ-assoc p s f) (h .1))))
+      (λ t. rw (runs-turn d s f l t) (q, along-runs f f l (h .0) (h .1)))
 
   pub along-grouped : (p : Pt) (E : List Pt) → All Q (pointsAlong p E) → All Q (pointsAlong p (grouped E))
   unfolding pointsAlong grouped
   along-grouped p [] h = h
-  along-grouped p (e ∷ E) h = along-runs p e e E (h .0) (h .1)
+  along-grouped p (e ∷ E) h = along-runs e e E (h .0) (h .1)
 
   -- the points that a walk passes
-  along-walk : (n : ℕ) (l : List Pt) (w : Place) → ((v : Place) → Valid (length l) v → v .reflected ≡ w .reflected → Q (pointOf l v)) → Valid (length l) w → All Q (pointsAlong (pointOf l w) (handed n l w))
+  along-walk : (n : ℕ) (l : List Pt) {w : Place} → ((v : Place) → Valid (length l) v → v .reflected ≡ w .reflected → Q (pointOf l v)) → Valid (length l) w → All Q (pointsAlong (pointOf l w) (handed n l w))
   unfolding pointsAlong handed
-  along-walk zero l w q v = (q w v refl, tt)
-  along-walk (suc n) l w q v =
-      (q w v refl, subst (λ p. All Q (pointsAlong p (handed n l (advance (length l) w)))) (point-advance l w) (along-walk n l (advance (length l) w) (λ u k e. q u k (e ∙ same l w)) (valid-advance (length l) w v)))
+  along-walk zero l {w} q v = (q w v refl, tt)
+  along-walk (suc n) l {w} q v =
+      (q w v refl, subst (λ p. All Q (pointsAlong p (handed n l (advance (length l) w)))) (point-advance l w) (along-walk n l (λ u k e. q u k (e ∙ same l w)) (valid-advance v)))
     where
       same : (l : List Pt) (w : Place) → advance (length l) w .reflected ≡ w .reflected
       same l w = unfold advance in refl
@@ -64,7 +64,7 @@ module _ (Q : Pt → Type 0) where
   unrolled-points reflected (c ∷ l) h =
       along-grouped (pointOf (c ∷ l) (begin reflected (c ∷ l))) (live (walkEdges reflected (c ∷ l)))
       (along-live (pointOf (c ∷ l) (begin reflected (c ∷ l))) (walkEdges reflected (c ∷ l))
-      (along-walk (begin reflected (c ∷ l) .remaining) (c ∷ l) (begin reflected (c ∷ l)) corner (valid-begin reflected (c ∷ l) (omega arith))))
+      (along-walk (begin reflected (c ∷ l) .remaining) (c ∷ l) corner (valid-begin reflected (c ∷ l) (omega arith))))
     where
       begins : begin reflected (c ∷ l) .reflected ≡ reflected
       begins = begin-by reflected (c ∷ l) (λ w. w .reflected ≡ reflected) (λ e. refl) (λ e. refl) (λ e. refl)

@@ -35,10 +35,10 @@ unfolding edgesAlong
 turning-tail p [] t = record { nonzero = tt; apart = tt }
 turning-tail p (q ∷ a) t = record { nonzero = t .nonzero .1; apart = t .apart .1 }
 
-pub turning-drop : (n : ℕ) (a : List Pt) → Turning a → Turning (drop n a)
-turning-drop zero a t = t
-turning-drop (suc n) [] t = t
-turning-drop (suc n) (p ∷ a) t = turning-drop n a (turning-tail p a t)
+pub turning-drop : (n : ℕ) {a : List Pt} → Turning a → Turning (drop n a)
+turning-drop zero t = t
+turning-drop (suc n) {a = []} t = t
+turning-drop (suc n) {a = p ∷ a} t = turning-drop n (turning-tail p a t)
 
 -- ---- the join of two lists of edges, by their first ones
 
@@ -60,12 +60,12 @@ off-stepped : (e : Pt) (m l : List Pt) → All Nz m → All Nz l → Off e m →
 unfolding stepped
 off-stepped e [] l nm nl h k = k
 off-stepped e (a ∷ m) [] nm nl h k = unfold stepOne in h
-off-stepped e (a ∷ m) (b ∷ l) nm nl h k = step-by a (stepped m) b l (Off e) (nm .0) (nl .0) (λ x. k) (λ x. h)
+off-stepped e (a ∷ m) (b ∷ l) nm nl h k = step-by a (stepped m) l (Off e) (nm .0) (nl .0) (λ x. k) (λ x. h)
 
 -- an edge of the same direction is off the same list
-off-same : (e f : Pt) (l : List Pt) → Nz e → Nz f → All Nz l → Same e f → Off f l → Off e l
-off-same e f [] ne nf nl s h = tt
-off-same e f (g ∷ l) ne nf nl s h = as-off f e g nf ne (nl .0) s h
+off-same : {e f : Pt} (l : List Pt) → Nz e → Nz f → All Nz l → Same e f → Off f l → Off e l
+off-same [] ne nf nl s h = tt
+off-same (g ∷ l) ne nf nl s h = as-off nf ne (nl .0) s h
 
 module _ (e f : Pt) (m l : List Pt) (nm : All Nz (e ∷ m)) (nl : All Nz (f ∷ l)) (om : Off e m) (ol : Off f l) where
   -- the first list's edge is the lesser
@@ -88,7 +88,7 @@ module _ (e f : Pt) (m l : List Pt) (nm : All Nz (e ∷ m)) (nl : All Nz (f ∷ 
   join-both s h =
       ap grouped (steps-first e (stepped m) f l (nm .0) (nl .0) (same-le s .0) ∙ ap (λ r. e ∷ r) (next m (nm .1) h)) ∙ grouped-cons _ _
       ∙ runs-on e e f (stepped m l) (same-test s)
-      ∙ runs-off e (e +ᵖ f) (stepped m l) (off-stepped e m l (nm .1) (nl .1) om (off-same e f l (nm .0) (nl .0) (nl .1) s ol))
+      ∙ runs-off e (e +ᵖ f) (stepped m l) (off-stepped e m l (nm .1) (nl .1) om (off-same l (nm .0) (nl .0) (nl .1) s ol))
     where
       next : (m : List Pt) → All Nz m → secondNext m f ≡ true → stepped m (f ∷ l) ≡ f ∷ stepped m l
       next [] n h = refl
@@ -107,7 +107,7 @@ module _ (e f : Pt) (m l : List Pt) (nm : All Nz (e ∷ m)) (nl : All Nz (f ∷ 
     where
       next : (m : List Pt) → All Nz m → Off e m → secondNext m f ≡ false → Off e (stepped m (f ∷ l))
       next [] n o h = differ (sym h)
-      next (g ∷ m) n o h = step-by g (stepped m) f l (Off e) (n .0) (nl .0) (λ x. differ (sym h ∙ greater x)) (λ x. o)
+      next (g ∷ m) n o h = step-by g (stepped m) l (Off e) (n .0) (nl .0) (λ x. differ (sym h ∙ greater x)) (λ x. o)
         where
           greater : Lt f g → isGreater (angleCmp g f) ≡ true
           greater x = elim (angle-cases g f) [
@@ -117,13 +117,13 @@ module _ (e f : Pt) (m l : List Pt) (nm : All Nz (e ∷ m)) (nl : All Nz (f ∷ 
           ]
 
 -- the first list's edges alone, and the second's
-join-nil : (e : Pt) (m : List Pt) → All Nz m → Off e m → join (e ∷ m) [] ≡ e ∷ join m []
+join-nil : {e : Pt} (m : List Pt) → All Nz m → Off e m → join (e ∷ m) [] ≡ e ∷ join m []
 unfolding join stepped stepOne
-join-nil e m n o = grouped-cons e (stepped m []) ∙ runs-off e e (stepped m []) (off-stepped e m [] n tt o tt)
+join-nil {e} m n o = grouped-cons e (stepped m []) ∙ runs-off e e (stepped m []) (off-stepped e m [] n tt o tt)
 
-nil-join : (f : Pt) (l : List Pt) → Off f l → join [] (f ∷ l) ≡ f ∷ join [] l
+nil-join : {f : Pt} (l : List Pt) → Off f l → join [] (f ∷ l) ≡ f ∷ join [] l
 unfolding join stepped
-nil-join f l o = grouped-cons f l ∙ runs-off f f l o
+nil-join {f} l o = grouped-cons f l ∙ runs-off f f l o
 
 -- ---- the same of points
 
@@ -179,7 +179,7 @@ unfolding edgesAlong restOf
 rest-first q [] t = unfold mergedOf in refl
 rest-first q (p ∷ []) t = unfold mergedOf join stepped grouped cornersFrom in refl
 rest-first q (p ∷ r ∷ a) t =
-    merged-turn p q r q (r -ᵖ p) (r ∷ a) [] a [] (join-nil (r -ᵖ p) (edgesAlong (r ∷ a)) (t .nonzero .1) (t .apart .0)) (first-leads p q r)
+    merged-turn p q r q (r -ᵖ p) (r ∷ a) [] a [] (join-nil (edgesAlong (r ∷ a)) (t .nonzero .1) (t .apart .0)) (first-leads p q r)
     ∙ ap (λ l. (p +ᵖ q) ∷ l) (rest-first q (r ∷ a) (turning-tail p (r ∷ a) t))
 
 rest-second : (p : Pt) (b : List Pt) → Turning b → mergedOf (p ∷ []) b ≡ restOf p b
@@ -187,7 +187,7 @@ unfolding edgesAlong restOf
 rest-second p [] t = unfold mergedOf in refl
 rest-second p (q ∷ []) t = unfold mergedOf join stepped grouped cornersFrom in refl
 rest-second p (q ∷ s ∷ b) t =
-    merged-turn p q p s (s -ᵖ q) [] (s ∷ b) [] b (nil-join (s -ᵖ q) (edgesAlong (s ∷ b)) (t .apart .0)) (second-leads p q s)
+    merged-turn p q p s (s -ᵖ q) [] (s ∷ b) [] b (nil-join (edgesAlong (s ∷ b)) (t .apart .0)) (second-leads p q s)
     ∙ ap₂ _∷_ (+ᵖ-comm p q) (rest-second p (s ∷ b) (turning-tail q (s ∷ b) t))
 
 -- ---- by index
@@ -216,7 +216,7 @@ module _ (a b : List Pt) (i j : ℕ) (t : Turning a) (u : Turning b) (hi : i + 1
   by-two Q f =
       two-ind a i (λ x y. Turning x → Q x y (drop j b) (drop (j + 1) b)) hi
       (λ v. two-ind b j (λ x y. Turning x → Q (nthPoint a i ∷ nthPoint a (i + 1) ∷ drop (i + 1 + 1) a) (nthPoint a (i + 1) ∷ drop (i + 1 + 1) a) x y) hj
-      (λ w. f (drop (i + 1 + 1) a) (drop (j + 1 + 1) b) v w) (turning-drop j b u)) (turning-drop i a t)
+      (λ w. f (drop (i + 1 + 1) a) (drop (j + 1 + 1) b) v w) (turning-drop j u)) (turning-drop i t)
 
   -- the lesser edge steps
   pub at-less : angleCmp (edgeAt a i) (edgeAt b j) ≡ Less → mergedOf (drop i a) (drop j b) ≡ here (drop (i + 1) a) (drop j b)
@@ -270,11 +270,11 @@ rest-last q a i e = ap (restOf q) (drop-last a i e)
 
 -- where one list has one point left, the other's points, moved by it
 pub at-rest :
-    (a b : List Pt) (i j : ℕ) → Turning a → Turning b → i < length a → j < length b → (i + 1 ≡ length a) ⊎ (j + 1 ≡ length b) →
+    {a b : List Pt} (i j : ℕ) → Turning a → Turning b → i < length a → j < length b → (i + 1 ≡ length a) ⊎ (j + 1 ≡ length b) →
     mergedOf (drop i a) (drop j b) ≡ restOf (nthPoint b j) (drop i a) ++ restOf (nthPoint a (length a - 1)) (drop j b)
-at-rest a b i j t u hi hj = ⊎-elim
+at-rest {a} {b} i j t u hi hj = ⊎-elim
     (λ e. let k : length a - 1 ≡ i = omega arith in
-    ap (λ l. mergedOf l (drop j b)) (drop-last a i e) ∙ rest-second (nthPoint a i) (drop j b) (turning-drop j b u) ∙ ap (λ n. restOf (nthPoint a n) (drop j b)) (sym k)
+    ap (λ l. mergedOf l (drop j b)) (drop-last a i e) ∙ rest-second (nthPoint a i) (drop j b) (turning-drop j u) ∙ ap (λ n. restOf (nthPoint a n) (drop j b)) (sym k)
     ∙ ap (λ l. l ++ restOf (nthPoint a (length a - 1)) (drop j b)) (sym (rest-last (nthPoint b j) a i e)))
-    (λ e. ap (mergedOf (drop i a)) (drop-last b j e) ∙ rest-first (nthPoint b j) (drop i a) (turning-drop i a t) ∙ sym (append-nil (restOf (nthPoint b j) (drop i a)))
+    (λ e. ap (mergedOf (drop i a)) (drop-last b j e) ∙ rest-first (nthPoint b j) (drop i a) (turning-drop i t) ∙ sym (append-nil (restOf (nthPoint b j) (drop i a)))
     ∙ ap (λ l. restOf (nthPoint b j) (drop i a) ++ l) (sym (rest-last (nthPoint a (length a - 1)) b j e)))

@@ -169,10 +169,10 @@ straight-next p s e = ap₂ (λ u v. isEqual (angleCmp u v)) (+ᵖ-sub p s) (+�
 
 -- the last run is longer by e, or e begins one
 run-more :
-    (p d s e : Pt) → Nz d → Nz s → Same d s → isZero e ≡ false →
+    (p : Pt) {d s : Pt} (e : Pt) → Nz d → Nz s → Same d s → isZero e ≡ false →
     withPoint (pointsAlong p (runs d s [])) (lastAlong (p +ᵖ s) [] +ᵖ e) ≡ pointsAlong p (runs d s (e ∷ []))
 unfolding withPoint pointsAlong lastAlong runs
-run-more p d s e nd ns h z = by-test (isEqual (angleCmp d e))
+run-more p {d} {s} e nd ns h z = by-test (isEqual (angleCmp d e))
     (λ t. rw (eq-next (p +ᵖ s) e ∙ z, straight-next p s e ∙ beside-same nd ns (nz-of-test e z) h ∙ t, t) (ap (λ q. p ∷ q ∷ []) (+ᵖ-assoc p s e)))
     (λ t. rw (eq-next (p +ᵖ s) e ∙ z, straight-next p s e ∙ beside-same nd ns (nz-of-test e z) h ∙ t, t))
 
@@ -190,21 +190,21 @@ unfolding lastAlong
 last-cons p e l = refl
 
 runs-more :
-    (p d s e : Pt) (l : List Pt) → Nz d → Nz s → Same d s → isZero e ≡ false → All Nz l →
+    (p : Pt) {d s : Pt} (e : Pt) (l : List Pt) → Nz d → Nz s → Same d s → isZero e ≡ false → All Nz l →
     withPoint (pointsAlong p (runs d s l)) (lastAlong (p +ᵖ s) l +ᵖ e) ≡ pointsAlong p (runs d s (l ++ (e ∷ [])))
-runs-more p d s e [] nd ns h z a = run-more p d s e nd ns h z
-runs-more p d s e (f ∷ l) nd ns h z a =
+runs-more p e [] nd ns h z a = run-more p e nd ns h z
+runs-more p {d} {s} e (f ∷ l) nd ns h z a =
     let r = lastAlong ((p +ᵖ s) +ᵖ f) l +ᵖ e in
     ap (λ q. withPoint (pointsAlong p (runs d s (f ∷ l))) (q +ᵖ e)) (last-cons (p +ᵖ s) f l)
     ∙ by-test (isEqual (angleCmp d f))
     (λ t. let df : Same d f = equal-same t in
     let k = add-same ns (a .0) (same-trans ns nd (a .0) (same-sym h) df) in
     ap₂ (λ g q. withPoint (pointsAlong p g) (lastAlong q l +ᵖ e)) (runs-on d s f l t) (+ᵖ-assoc p s f)
-    ∙ runs-more p d (s +ᵖ f) e l nd (k .nonzero) (same-trans nd (a .0) (k .nonzero) df (same-sym (k .same))) z (a .1)
+    ∙ runs-more p e l nd (k .nonzero) (same-trans nd (a .0) (k .nonzero) df (same-sym (k .same))) z (a .1)
     ∙ ap (pointsAlong p) (sym (runs-on d s f (l ++ (e ∷ [])) t)))
     (λ t. ap (λ g. withPoint (pointsAlong p g) r) (runs-new d s f l t)
     ∙ first-stays p s (runs f f l) r (some-run f f l)
-    ∙ ap (λ g. p ∷ g) (runs-more (p +ᵖ s) f f e l (a .0) (a .0) (same-refl f) z (a .1))
+    ∙ ap (λ g. p ∷ g) (runs-more (p +ᵖ s) e l (a .0) (a .0) (same-refl f) z (a .1))
     ∙ sym (ap (pointsAlong p) (runs-new d s f (l ++ (e ∷ [])) t) ∙ along-cons p s (runs f f (l ++ (e ∷ [])))))
 
 grouped-more :
@@ -212,7 +212,7 @@ grouped-more :
     withPoint (pointsAlong p (grouped l)) (lastAlong p l +ᵖ e) ≡ pointsAlong p (grouped (l ++ (e ∷ [])))
 unfolding grouped lastAlong
 grouped-more p e [] z a = unfold withPoint pointsAlong runs in rw (eq-next p e ∙ z)
-grouped-more p e (d ∷ l) z a = runs-more p d d e l (a .0) (a .0) (same-refl d) z (a .1)
+grouped-more p e (d ∷ l) z a = runs-more p e l (a .0) (a .0) (same-refl d) z (a .1)
 
 -- the last point again
 with-last : (p : Pt) (l : List Pt) → withPoint (pointsAlong p l) (lastAlong p l) ≡ pointsAlong p l
@@ -246,17 +246,17 @@ along-more p e l = by-test (isZero e) zero-edge other
 -- ---- what holds of every point along the edges holds of every point that stays
 
 module _ (Q : Pt → Type 0) where
-  every-runs : (p d s : Pt) (l : List Pt) → Q p → All Q (pointsAlong (p +ᵖ s) l) → All Q (pointsAlong p (runs d s l))
+  every-runs : {p : Pt} (d s : Pt) (l : List Pt) → Q p → All Q (pointsAlong (p +ᵖ s) l) → All Q (pointsAlong p (runs d s l))
   unfolding pointsAlong
-  every-runs p d s [] q a = unfold runs in (q, a)
-  every-runs p d s (f ∷ l) q a = by-test (isEqual (angleCmp d f))
-      (λ t. subst (λ g. All Q (pointsAlong p g)) (sym (runs-on d s f l t)) (every-runs p d (s +ᵖ f) l q (subst (λ r. All Q (pointsAlong r l)) (+ᵖ-assoc p s f) (a .1))))
-      (λ t. subst (λ g. All Q (pointsAlong p g)) (sym (runs-new d s f l t)) (q, every-runs (p +ᵖ s) f f l (a .0) (a .1)))
+  every-runs d s [] q a = unfold runs in (q, a)
+  every-runs {p} d s (f ∷ l) q a = by-test (isEqual (angleCmp d f))
+      (λ t. subst (λ g. All Q (pointsAlong p g)) (sym (runs-on d s f l t)) (every-runs d (s +ᵖ f) l q (subst (λ r. All Q (pointsAlong r l)) (+ᵖ-assoc p s f) (a .1))))
+      (λ t. subst (λ g. All Q (pointsAlong p g)) (sym (runs-new d s f l t)) (q, every-runs f f l (a .0) (a .1)))
 
   every-grouped : (p : Pt) (l : List Pt) → All Q (pointsAlong p l) → All Q (pointsAlong p (grouped l))
   unfolding pointsAlong grouped
   every-grouped p [] a = a
-  every-grouped p (e ∷ l) a = every-runs p e e l (a .0) (a .1)
+  every-grouped p (e ∷ l) a = every-runs e e l (a .0) (a .1)
 
   every-live : (p : Pt) (l : List Pt) → All Q (pointsAlong p l) → All Q (pointsAlong p (live l))
   unfolding pointsAlong

@@ -114,17 +114,17 @@ module _ (r : Pt) (from : ℕ) (points : List (List ℤ)) (count : ℕ) (w : Add
     goes-not n h = goes-some r from points count (omega arith) ∙ sym f ∙ n
 
     pub added-straight : {points′ : List (List ℤ)} → s ≡ true → points′ ≡ set points (count - 1) (pairOf r) → PointAdded r from points count points′ count
-    added-straight {points′} y g = record { added = λ points₀ new a. straight points₀ new a (goes-two y) }
+    added-straight {points′} y g = record { added = λ points₀ new a. straight a (goes-two y) }
       where
         straight :
-            (points₀ : List (List ℤ)) (new : List Pt) → Appended new points₀ from points count →
+            {points₀ : List (List ℤ)} {new : List Pt} → Appended new points₀ from points count →
             (from + 2 ≤ count) × (straightOn (cornerIn points (count - 2)) (cornerIn points (count - 1)) r ≡ true) → Appended (withPoint new r) points₀ from points′ count
-        straight points₀ new a q =
+        straight {points₀} {new} a q =
             let n = second a (q .0) in
             let before : from + suc n ≡ count - 1 = omega (arith, q .0) in
             let after : count - 1 + 1 ≡ count = omega (arith, w .some) in
             subst (λ l. Appended l points₀ from points′ count) (sym (with-straight r new n (size a (q .0)) (other-two a (q .0)) (straight-two a (q .0) ∙ q .1)))
-            (appended-more (take (suc n) new) (r ∷ [])
+            (appended-more
             (subst (Appended (take (suc n) new) points₀ from points) before (appended-fewer a (omega (arith, w .room)) (suc n) (omega (arith, size a (q .0)))))
             (subst (λ b. Appended (r ∷ []) points (count - 1) b count) (sym g)
             (subst (Appended (r ∷ []) points (count - 1) (set points (count - 1) (pairOf r))) after (appended-one points (count - 1) r (omega (arith, w .room))))))
@@ -132,8 +132,8 @@ module _ (r : Pt) (from : ℕ) (points : List (List ℤ)) (count : ℕ) (w : Add
     pub added-turning : {points′ : List (List ℤ)} → s ≡ false → points′ ≡ set points count (pairOf r) → PointAdded r from points count points′ (count + 1)
     added-turning {points′} n g = record { added = turning }
       where
-        kept : (new : List Pt) (points₀ : List (List ℤ)) → Appended new points₀ from points count → withPoint new r ≡ new ++ (r ∷ [])
-        kept new points₀ a = by-test (ltb (count - from) 2)
+        kept : {new : List Pt} {points₀ : List (List ℤ)} → Appended new points₀ from points count → withPoint new r ≡ new ++ (r ∷ [])
+        kept {new} a = by-test (ltb (count - from) 2)
             (λ b. let l : count - from < 2 = ltb-true (count - from) 2 b in
             let z : last ≡ 0 = omega arith in
             with-second r new (omega (arith, a .count, w .some)) (ap (λ k. eqPt (getD new k O) r) (sym z) ∙ other a))
@@ -143,5 +143,5 @@ module _ (r : Pt) (from : ℕ) (points : List (List ℤ)) (count : ℕ) (w : Add
 
         turning : (points₀ : List (List ℤ)) (new : List Pt) → Appended new points₀ from points count → Appended (withPoint new r) points₀ from points′ (count + 1)
         turning points₀ new a =
-            subst (λ l. Appended l points₀ from points′ (count + 1)) (sym (kept new points₀ a))
-            (appended-more new (r ∷ []) a (subst (λ b. Appended (r ∷ []) points count b (count + 1)) (sym g) (appended-one points count r (w .room))))
+            subst (λ l. Appended l points₀ from points′ (count + 1)) (sym (kept a))
+            (appended-more a (subst (λ b. Appended (r ∷ []) points count b (count + 1)) (sym g) (appended-one points count r (w .room))))

@@ -65,8 +65,8 @@ none-unrolled reflected (x ∷ l) points from h = absurd (omega arith)
 -- ---- where the walk begins
 
 module _ (reflected : Bool) (l : List ℤ) (short : lengthBroken l ≡ false) (ranged : offRange l ≡ false) (some : length l ≡ 0 → ⊥) where
-  pub begun-at : (w : Place) → begunOf l reflected ≡ At w → (windingLeaves reflected (pointsOf l) ≡ false) × (w ≡ begin reflected (pointsOf l))
-  begun-at w e = by-test (windingLeaves reflected (pointsOf l))
+  pub begun-at : {w : Place} → begunOf l reflected ≡ At w → (windingLeaves reflected (pointsOf l) ≡ false) × (w ≡ begin reflected (pointsOf l))
+  begun-at {w} e = by-test (windingLeaves reflected (pointsOf l))
       (λ t. absurd (clash (begin-8 l reflected short ranged t ∙ e)))
       (λ t. (t, same (begin-at l reflected short ranged t some ∙ e)))
     where
@@ -93,8 +93,8 @@ pub walk-unrolled : (reflected : Bool) (l : List Pt) {w : Place} {points points�
 walk-unrolled reflected l {points = points} {points′ = points′} {from = from} {n = n} h e a = subst (λ m. Appended m points from points′ n) (ap (pointsFrom l) e ∙ unrolled-walk reflected l h) a
 
 -- the walk from its start has what it asks
-pub walkable : (reflected : Bool) (l : List ℤ) {w : Place} {points : List (List ℤ)} {from : ℕ} → (length l ≡ 0 → ⊥) → w ≡ begin reflected (pointsOf l) → Unrollable l points from → Walkable l w points from
-walkable reflected l {w} {points} {from} some e u =
+pub walkable : (reflected : Bool) {l : List ℤ} {w : Place} {points : List (List ℤ)} {from : ℕ} → (length l ≡ 0 → ⊥) → w ≡ begin reflected (pointsOf l) → Unrollable l points from → Walkable l w points from
+walkable reflected {l} {w} {points} {from} some e u =
     subst (λ v. Walkable l v points from) (sym e)
     (record { short = u .short; ranged = u .ranged; placed = begin-placed reflected (pointsOf l) (some-corner l (u .short) some); room = omega (arith, u .room, begin-remaining reflected (pointsOf l)) })
 
@@ -108,15 +108,15 @@ every-handed Q l f (suc k) w m =
     let v = advance (length l) w in
     (f w m, subst (λ p. All Q (pointsAlong p (handed k l v))) (point-advance l w) (every-handed Q l f k v (advance-placed (length l) w m)))
 
-turned-ranged : (reflected : Bool) (p : Pt) → Ranged p → Ranged (turned reflected p)
-turned-ranged true p h = (record { abs = omega (arith, h .0 .abs, abs-neg (p .x)) }, record { abs = omega (arith, h .1 .abs, abs-neg (p .y)) })
-turned-ranged false p h = h
+turned-ranged : (reflected : Bool) {p : Pt} → Ranged p → Ranged (turned reflected p)
+turned-ranged true {p} h = (record { abs = omega (arith, h .0 .abs, abs-neg (p .x)) }, record { abs = omega (arith, h .1 .abs, abs-neg (p .y)) })
+turned-ranged false h = h
 
 ranged-at : (l : List ℤ) → offRange l ≡ false → (w : Place) → misplaced (length (pointsOf l)) w ≡ false → Ranged (pointOf (pointsOf l) w)
 unfolding pointOf
 ranged-at l h w m =
     let i = w .index in
-    turned-ranged (w .reflected) (cornerAt (pointsOf l) i) (on-grid-both (cornerAt (pointsOf l) i) (not-false _ (off-nowhere l i h (index-inside (length (pointsOf l)) w m))))
+    turned-ranged (w .reflected) (on-grid-both (cornerAt (pointsOf l) i) (not-false _ (off-nowhere l i h (index-inside (length (pointsOf l)) w m))))
 
 pub unrolled-ranged : (reflected : Bool) (l : List ℤ) → offRange l ≡ false → All Ranged (unrolled reflected (pointsOf l))
 unrolled-ranged reflected l h = at (pointsOf l) (ranged-at l h)

@@ -98,10 +98,10 @@ stored points n x e = (ap length e ∙ length-set points n x, ap (firstPoints n)
 module _ (l : List Pt) (v : Place) (from : ℕ) where
   -- the first point
   pub walking-start :
-      (p : IntPoint) (points₀ : List (List ℤ)) {points₁ : List (List ℤ)} → misplaced (length l) v ≡ false → (point p ≡ pointOf l v) × OnGrid p → from < length points₀ →
+      {p : IntPoint} (points₀ : List (List ℤ)) {points₁ : List (List ℤ)} → misplaced (length l) v ≡ false → (point p ≡ pointOf l v) × OnGrid p → from < length points₀ →
       points₁ ≡ set points₀ from (pairOf (point p)) → Walking l v v points₁ from points₁ (from + 1)
   unfolding pointsAlong grouped live taken-start
-  walking-start p points₀ {points₁} m q h e =
+  walking-start {p} points₀ {points₁} m q h e =
       let s = stored points₀ from (pairOf (point p)) e in
       record {
         taken = taken-start l v m;
@@ -112,15 +112,15 @@ module _ (l : List Pt) (v : Place) (from : ℕ) where
 
   module _ {w : Place} {points₀ points : List (List ℤ)} {count : ℕ} (k : Walking l v w points₀ from points count) where
     -- the next place is one of the contour
-    pub walking-placed : {w′ : Place} (n : ℕ) → n ≡ length l → w′ ≡ advance n w → misplaced (length l) w′ ≡ false
-    walking-placed n e f = ap (misplaced (length l)) (f ∙ ap (λ n. advance n w) e) ∙ advance-placed (length l) w (k .taken .placed)
+    pub walking-placed : {w′ : Place} {n : ℕ} → n ≡ length l → w′ ≡ advance n w → misplaced (length l) w′ ≡ false
+    walking-placed {n} e f = ap (misplaced (length l)) (f ∙ ap (λ n. advance n w) e) ∙ advance-placed (length l) w (k .taken .placed)
 
     -- one step more, to the point p
     pub walking-step :
-        {w′ : Place} (p : IntPoint) {points′ : List (List ℤ)} {count′ : ℕ} → 0 < w .remaining → w′ ≡ advance (length l) w → (point p ≡ pointOf l w′) × OnGrid p →
+        {w′ : Place} {p : IntPoint} {points′ : List (List ℤ)} {count′ : ℕ} → 0 < w .remaining → w′ ≡ advance (length l) w → (point p ≡ pointOf l w′) × OnGrid p →
         PointAdded (point p) from points count points′ count′ → Walking l v w′ points₀ from points′ count′
     unfolding taken-step
-    walking-step {w′} p {points′} {count′} h e q a =
+    walking-step {w′} {p} {points′} {count′} h e q a =
         let s = so-far l v (k .taken) in
         subst (λ u. Walking l v u points₀ from points′ count′) (sym e) (record {
           taken = taken-step l v (k .taken) h;

@@ -114,8 +114,8 @@ module _ (reflected : Bool) (ps : List (List Pt)) (done : ℕ) where
             appended =
                 subst (λ m. PartsAppended (unrolledParts reflected (take (p + 1) ps)) firsts₀ points₀ (tallyAt firsts₀ done) firsts′ points′ (record { parts = m; corners = n })) (sym z)
                 (subst (λ qs. PartsAppended qs firsts₀ points₀ (tallyAt firsts₀ done) firsts′ points′ (record { parts = done + p + 1; corners = n })) (sym more)
-                (then-appended (unrolledParts reflected (take p ps)) (unrolled reflected (getD ps p []) ∷ []) (k .appended)
-                (part-appended (unrolled reflected (getD ps p [])) firsts points (record { parts = done + p; corners = count }) (omega (arith, room)) (a .appended) (e ∙ ap (λ m. set firsts m n) z))));
+                (then-appended (k .appended)
+                (part-appended firsts (record { parts = done + p; corners = count }) (omega (arith, room)) (a .appended) (e ∙ ap (λ m. set firsts m n) z))));
           }
         where
           more : unrolledParts reflected (take (p + 1) ps) ≡ unrolledParts reflected (take p ps) ++ (unrolled reflected (getD ps p []) ∷ [])

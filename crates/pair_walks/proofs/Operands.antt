@@ -18,8 +18,8 @@ use Rattle.pair_points.specs.Points.{mergedOf}
 use Rattle.pair_walks.specs.Walks.{walksIn, Walks, leftsIn, rightsIn, mergedRow, mergedAll, contoursIn, walkIn}
 
 -- one more first than walks
-pub walks-enough : (firsts : List ℕ) (points : List (List ℤ)) (n : ℕ) → Walks firsts points n → n < length firsts
-walks-enough firsts points n w = enough-starts firsts points (record { parts = n; corners = getD firsts n 0 }) (walksIn firsts points n) (w .gathered)
+pub walks-enough : {firsts : List ℕ} {points : List (List ℤ)} {n : ℕ} → Walks firsts points n → n < length firsts
+walks-enough {firsts} {points} {n} w = enough-starts firsts points (record { parts = n; corners = getD firsts n 0 }) (walksIn firsts points n) (w .gathered)
 
 -- ---- each operand's
 
@@ -54,8 +54,8 @@ length-all [] rs = omega arith
 length-all (a ∷ ls) rs =
     omega (arith, length-append (map (mergedOf a) rs) (mergedAll ls rs), length-map rs (mergedOf a), length-all ls rs, suc-mul (length ls) (length rs))
 
-pub contours-count : (firsts : List ℕ) (points : List (List ℤ)) (left right : ℕ) → Walks firsts points (left + right) → length (contoursIn firsts points left right) ≡ left * right
-contours-count firsts points left right w =
+pub contours-count : {firsts : List ℕ} {points : List (List ℤ)} (left right : ℕ) → Walks firsts points (left + right) → length (contoursIn firsts points left right) ≡ left * right
+contours-count {firsts} {points} left right w =
     length-all (leftsIn firsts points left right) (rightsIn firsts points left right) ∙ ap₂ _*_ (lefts-count firsts points left right w) (rights-count firsts points left right w)
 
 -- ---- rows and all pairs in pieces

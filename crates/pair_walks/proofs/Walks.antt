@@ -32,8 +32,8 @@ use Rattle.pair_walks.specs.Walks.{walksIn, Walks, mergedRow, mergedAll}
 -- ---- walks in buffers
 
 -- those gathered are those read
-pub walks-in : (firsts : List ℕ) (points : List (List ℤ)) (ps : List (List Pt)) → Gathered firsts points (record { parts = length ps; corners = length (flatten ps) }) ps → getD firsts (length ps) 0 ≡ length (flatten ps) → walksIn firsts points (length ps) ≡ ps
-walks-in firsts points ps g e = ap₂ partsOf (g .begins) (ap (λ n. firstPoints n points) e ∙ g .gathered) ∙ parts-starts ps
+pub walks-in : {firsts : List ℕ} {points : List (List ℤ)} {ps : List (List Pt)} → Gathered firsts points (record { parts = length ps; corners = length (flatten ps) }) ps → getD firsts (length ps) 0 ≡ length (flatten ps) → walksIn firsts points (length ps) ≡ ps
+walks-in {points} {ps} g e = ap₂ partsOf (g .begins) (ap (λ n. firstPoints n points) e ∙ g .gathered) ∙ parts-starts ps
 
 module _ (firsts : List ℕ) (points : List (List ℤ)) (n q : ℕ) (w : Walks firsts points n) (h : q < n) where
   abbrev ws : List (List Pt)
@@ -53,10 +53,10 @@ module _ (firsts : List ℕ) (points : List (List ℤ)) (n q : ℕ) (w : Walks f
 
   -- its points can be merged
   pub walk-ready : Mergeable (take (getD firsts (q + 1) 0 - getD firsts q 0) (drop (getD firsts q 0) points))
-  walk-ready = ready _ (walk-placed .corners) (all-getD (All (λ p. onGrid p ≡ true)) ws [] (w .grid) q walk-inside) (all-getD Turning ws [] (w .turning) q walk-inside)
+  walk-ready = ready (walk-placed .corners) (all-getD (All (λ p. onGrid p ≡ true)) ws [] (w .grid) q walk-inside) (all-getD Turning ws [] (w .turning) q walk-inside)
     where
-      ready : (l : List (List ℤ)) {p : List Pt} → map cornerOf l ≡ p → All (λ c. onGrid c ≡ true) p → Turning p → Mergeable l
-      ready l e g t = record { grid = record { at = λ i. subst (λ c. onGrid c ≡ true) (point-in l i) (on (map cornerOf l) i (subst (All (λ c. onGrid c ≡ true)) (sym e) g)) }; turning = subst Turning (sym e) t }
+      ready : {l : List (List ℤ)} {p : List Pt} → map cornerOf l ≡ p → All (λ c. onGrid c ≡ true) p → Turning p → Mergeable l
+      ready {l} e g t = record { grid = record { at = λ i. subst (λ c. onGrid c ≡ true) (point-in l i) (on (map cornerOf l) i (subst (All (λ c. onGrid c ≡ true)) (sym e) g)) }; turning = subst Turning (sym e) t }
         where
           on : (l : List Pt) (i : ℕ) → All (λ c. onGrid c ≡ true) l → onGrid (getD l i O) ≡ true
           on [] i g = unfold onGrid inRange in refl
@@ -70,26 +70,26 @@ module _ (firsts : List ℕ) (points : List (List ℤ)) (n q : ℕ) (w : Walks f
       omega (arith, walk-placed .rises, walk-placed .within, ap length (walk-placed .corners), length-map l cornerOf, length-take (getD firsts (q + 1) 0 - getD firsts q 0) (drop (getD firsts q 0) points), length-drop (getD firsts q 0) points)
 
 -- walks begin one after another
-pub firsts-rise : (firsts : List ℕ) (points : List (List ℤ)) (n : ℕ) → Walks firsts points n → (p d : ℕ) → p + d ≤ n → getD firsts p 0 ≤ getD firsts (p + d) 0
-firsts-rise firsts points n w p zero h = omega (arith, ap (λ k. getD firsts k 0) (end p))
+pub firsts-rise : {firsts : List ℕ} {points : List (List ℤ)} {n : ℕ} → Walks firsts points n → (p d : ℕ) → p + d ≤ n → getD firsts p 0 ≤ getD firsts (p + d) 0
+firsts-rise {firsts} w p zero h = omega (arith, ap (λ k. getD firsts k 0) (end p))
   where
     end : (p : ℕ) → p + 0 ≡ p
     end p = omega arith
-firsts-rise firsts points n w p (suc d) h =
-    omega (arith, firsts-rise firsts points n w p d (omega arith), walk-placed firsts points n (p + d) w (omega arith) .rises, ap (λ k. getD firsts k 0) (along d))
+firsts-rise {firsts} {points} {n} w p (suc d) h =
+    omega (arith, firsts-rise w p d (omega arith), walk-placed firsts points n (p + d) w (omega arith) .rises, ap (λ k. getD firsts k 0) (along d))
   where
     along : (d : ℕ) → p + suc d ≡ p + d + 1
     along d = omega arith
 
 -- a number of that size is in range
-coordinate-in-range : (z : ℤ) → Coordinate z → inRange z ≡ true
+coordinate-in-range : {z : ℤ} → Coordinate z → inRange z ≡ true
 unfolding inRange
-coordinate-in-range z h =
+coordinate-in-range {z} h =
     rw (<-leZ {x = z} {y = negsuc 1073741823} (omega (zarith, abs-parts z, h .abs)), <-ltZ {x = z} {y = pos 1073741824} (omega (zarith, abs-parts z, h .abs)))
 
 coordinates-grid : (p : Pt) → Coordinate (p .x) × Coordinate (p .y) → onGrid p ≡ true
 unfolding onGrid
-coordinates-grid p h = rw (coordinate-in-range (p .x) (h .0), coordinate-in-range (p .y) (h .1))
+coordinates-grid p h = rw (coordinate-in-range (h .0), coordinate-in-range (h .1))
 
 -- lists gathered that turn at each point, of coordinates in range
 module _ (firsts : List ℕ) (points : List (List ℤ)) (ps : List (List Pt)) (g : Gathered firsts points (record { parts = length ps; corners = length (flatten ps) }) ps) where
@@ -97,7 +97,7 @@ module _ (firsts : List ℕ) (points : List (List ℤ)) (ps : List (List Pt)) (g
   last-place = start-at firsts points (record { parts = length ps; corners = length (flatten ps) }) ps g (length ps) (omega arith) ∙ ap (λ l. length (flatten l)) (take-all (length ps) ps (omega arith))
 
   pub gathered-walks-in : walksIn firsts points (length ps) ≡ ps
-  gathered-walks-in = walks-in firsts points ps g last-place
+  gathered-walks-in = walks-in g last-place
 
   pub gathered-walks : All (All (λ p. Coordinate (p .x) × Coordinate (p .y))) ps → All Turning ps → All (λ w. length w ≤ (maxContour + 1)) ps → Walks firsts points (length ps)
   gathered-walks h t k =

@@ -53,8 +53,8 @@ module _ (bytes : List ℕ) (h : longestJob < length bytes) where
       (λ b. by-test (jobLengthBroken bytes)
       (λ l. job-length bytes a b l ∙ sym (ap byOperation b))
       (λ l. to-operands bytes a b l
-      ∙ by-test (tableBroken (leftOf bytes .starts) (leftOf bytes .corners)) (λ e. first-this 7 _ _ e)
-      (λ e. first-next 7 _ _ e ∙ by-test (tableBroken (rightOf bytes .starts) (rightOf bytes .corners)) (λ f. first-this 7 _ _ f) (λ f. absurd (some-broken l e f)))
+      ∙ by-test (tableBroken (leftOf bytes .starts) (leftOf bytes .corners)) (λ e. first-this 7 _ e)
+      (λ e. first-next 7 _ e ∙ by-test (tableBroken (rightOf bytes .starts) (rightOf bytes .corners)) (λ f. first-this 7 _ f) (λ f. absurd (some-broken l e f)))
       ∙ sym (ap byOperation b)))
 
 long-text : (bytes : List ℕ) → longestJob < length bytes → pairsText bytes ≡ refusal (byOperation (ltb 1 (operation bytes)))

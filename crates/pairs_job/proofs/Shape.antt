@@ -24,36 +24,36 @@ module _ (bytes : List ℕ) where
 
   pub too-short : length bytes < 4 → 13 ≡ shapeFault bytes
   unfolding shapeFault
-  too-short h = sym (first-this 13 (ltb (length bytes) 4) _ (lt-ltb _ 4 h))
+  too-short h = sym (first-this 13 _ (lt-ltb _ 4 h))
 
   module _ (h : 4 ≤ length bytes) where
     pub other-operation : {w : ℕ} → w ≡ operation bytes → 1 < w → 13 ≡ shapeFault bytes
     unfolding shapeFault
     other-operation e k =
-        sym (first-next 13 (ltb (length bytes) 4) _ (le-ltb _ 4 h) ∙ first-this 13 (ltb 1 (operation bytes)) _ (lt-ltb 1 (operation bytes) (omega (arith, e, k))))
+        sym (first-next 13 _ (le-ltb _ 4 h) ∙ first-this 13 _ (lt-ltb 1 (operation bytes) (omega (arith, e, k))))
 
     module _ {w : ℕ} (e : w ≡ operation bytes) (k : w ≤ 1) where
       past-operation : shapeFault bytes ≡ firstFault ((7, jobLengthBroken bytes) ∷ (7, countsBroken bytes 5) ∷ (7, countsBroken bytes (rightPlace bytes)) ∷ [])
       unfolding shapeFault
       past-operation =
-          first-next 13 (ltb (length bytes) 4) _ (le-ltb _ 4 h) ∙ first-next 13 (ltb 1 (operation bytes)) _ (le-ltb 1 (operation bytes) (omega (arith, e, k)))
+          first-next 13 _ (le-ltb _ 4 h) ∙ first-next 13 _ (le-ltb 1 (operation bytes) (omega (arith, e, k)))
 
       pub other-length : jobLengthBroken bytes ≡ true → 7 ≡ shapeFault bytes
-      other-length t = sym (past-operation ∙ first-this 7 _ _ t)
+      other-length t = sym (past-operation ∙ first-this 7 _ t)
 
       module _ (l : jobLengthBroken bytes ≡ false) where
         pub left-counts : countsBroken bytes 5 ≡ true → 7 ≡ shapeFault bytes
-        left-counts t = sym (past-operation ∙ first-next 7 _ _ l ∙ first-this 7 _ _ t)
+        left-counts t = sym (past-operation ∙ first-next 7 _ l ∙ first-this 7 _ t)
 
         module _ (a : countsBroken bytes 5 ≡ false) {r : ℕ} (p : r ≡ rightPlace bytes) where
           past-left : shapeFault bytes ≡ firstFault ((7, countsBroken bytes (rightPlace bytes)) ∷ [])
-          past-left = past-operation ∙ first-next 7 _ _ l ∙ first-next 7 _ _ a
+          past-left = past-operation ∙ first-next 7 _ l ∙ first-next 7 _ a
 
           pub right-counts : countsBroken bytes r ≡ true → 7 ≡ shapeFault bytes
-          right-counts t = sym (past-left ∙ first-this 7 _ _ (sym (ap (countsBroken bytes) p) ∙ t))
+          right-counts t = sym (past-left ∙ first-this 7 _ (sym (ap (countsBroken bytes) p) ∙ t))
 
           pub well-shaped : countsBroken bytes r ≡ false → 0 ≡ shapeFault bytes
-          well-shaped t = sym (past-left ∙ first-next 7 _ _ (sym (ap (countsBroken bytes) p) ∙ t) ∙ first-empty)
+          well-shaped t = sym (past-left ∙ first-next 7 _ (sym (ap (countsBroken bytes) p) ∙ t) ∙ first-empty)
 
   -- ---- a job of the right length
 
@@ -102,29 +102,29 @@ module _ (bytes : List ℕ) where
 
   pub job-operation : ltb (length bytes) 4 ≡ false → ltb 1 (operation bytes) ≡ true → jobFault bytes ≡ 13
   unfolding jobFault
-  job-operation a b = first-next 13 (ltb (length bytes) 4) _ a ∙ first-this 13 _ _ b
+  job-operation a b = first-next 13 _ a ∙ first-this 13 _ b
 
   pub job-length : ltb (length bytes) 4 ≡ false → ltb 1 (operation bytes) ≡ false → jobLengthBroken bytes ≡ true → jobFault bytes ≡ 7
   unfolding jobFault
-  job-length a b l = first-next 13 (ltb (length bytes) 4) _ a ∙ first-next 13 (ltb 1 (operation bytes)) _ b ∙ first-this 7 _ _ l
+  job-length a b l = first-next 13 _ a ∙ first-next 13 _ b ∙ first-this 7 _ l
 
   -- a count past its limit breaks its table's rules, which 7 is told of before anything else of the
   -- operands
   module _ (a : ltb (length bytes) 4 ≡ false) (b : ltb 1 (operation bytes) ≡ false) (l : jobLengthBroken bytes ≡ false) where
     pub to-operands : jobFault bytes ≡ firstFault (pairKinds (reflectedOf bytes) (leftOf bytes) (rightOf bytes))
     unfolding jobFault
-    to-operands = first-next 13 (ltb (length bytes) 4) _ a ∙ first-next 13 (ltb 1 (operation bytes)) _ b ∙ first-next 7 (jobLengthBroken bytes) _ l
+    to-operands = first-next 13 _ a ∙ first-next 13 _ b ∙ first-next 7 _ l
 
     left-told : countsBroken bytes 5 ≡ true → jobFault bytes ≡ 7
     unfolding leftOf
-    left-told t = to-operands ∙ first-this 7 _ _ (counts-rules bytes 5 (left-inside l) t)
+    left-told t = to-operands ∙ first-this 7 _ (counts-rules bytes 5 (left-inside l) t)
 
     right-told : countsBroken bytes (rightPlace bytes) ≡ true → jobFault bytes ≡ 7
     unfolding rightOf
     right-told t =
         to-operands
-        ∙ by-test (tableBroken (leftOf bytes .starts) (leftOf bytes .corners)) (λ f. first-this 7 _ _ f)
-        (λ f. first-next 7 _ _ f ∙ first-this 7 _ _ (counts-rules bytes (rightPlace bytes) (right-inside l) t))
+        ∙ by-test (tableBroken (leftOf bytes .starts) (leftOf bytes .corners)) (λ f. first-this 7 _ f)
+        (λ f. first-next 7 _ f ∙ first-this 7 _ (counts-rules bytes (rightPlace bytes) (right-inside l) t))
 
   pub shape-passed : shapeFault bytes ≡ 0 → jobFault bytes ≡ firstFault (pairKinds (reflectedOf bytes) (leftOf bytes) (rightOf bytes))
   shape-passed e = let s = shaped e in to-operands (le-ltb _ 4 (s .long)) (le-ltb 1 _ (s .known)) (s .right-length)
@@ -133,14 +133,14 @@ module _ (bytes : List ℕ) where
   unfolding shapeFault jobFault
   shape-told d =
       by-test (ltb (length bytes) 4)
-      (λ a. first-this 13 _ _ a ∙ sym (first-this 13 _ _ a))
+      (λ a. first-this 13 _ a ∙ sym (first-this 13 _ a))
       (λ a. by-test (ltb 1 (operation bytes))
-      (λ b. job-operation a b ∙ sym (first-next 13 (ltb (length bytes) 4) _ a ∙ first-this 13 _ _ b))
-      (λ b. let shape = first-next 13 (ltb (length bytes) 4) _ a ∙ first-next 13 (ltb 1 (operation bytes)) _ b in
+      (λ b. job-operation a b ∙ sym (first-next 13 _ a ∙ first-this 13 _ b))
+      (λ b. let shape = first-next 13 _ a ∙ first-next 13 _ b in
       by-test (jobLengthBroken bytes)
-      (λ l. job-length a b l ∙ sym (shape ∙ first-this 7 _ _ l))
+      (λ l. job-length a b l ∙ sym (shape ∙ first-this 7 _ l))
       (λ l. by-test (countsBroken bytes 5)
-      (λ x. left-told a b l x ∙ sym (shape ∙ first-next 7 _ _ l ∙ first-this 7 _ _ x))
+      (λ x. left-told a b l x ∙ sym (shape ∙ first-next 7 _ l ∙ first-this 7 _ x))
       (λ x. by-test (countsBroken bytes (rightPlace bytes))
-      (λ y. right-told a b l y ∙ sym (shape ∙ first-next 7 _ _ l ∙ first-next 7 _ _ x ∙ first-this 7 _ _ y))
-      (λ y. absurd (d (shape ∙ first-next 7 _ _ l ∙ first-next 7 _ _ x ∙ first-next 7 _ _ y ∙ first-empty)))))))
+      (λ y. right-told a b l y ∙ sym (shape ∙ first-next 7 _ l ∙ first-next 7 _ x ∙ first-this 7 _ y))
+      (λ y. absurd (d (shape ∙ first-next 7 _ l ∙ first-next 7 _ x ∙ first-next 7 _ y ∙ first-empty)))))))

@@ -35,8 +35,8 @@ use Rattle.pairs_place.specs.Place.{Gridded, Walkable, placedBy}
 -- with as much room as they ask nothing but the operands is judged
 room-none : (ps : List (List Pt)) → firstFault (roomKinds ps (length (startsOf ps)) (2 * length (flatten ps))) ≡ 0
 room-none ps =
-    first-next 22 (ltb (length (startsOf ps)) (length (startsOf ps))) _ (le-ltb (length (startsOf ps)) (length (startsOf ps)) (omega arith))
-    ∙ first-next 21 (ltb (2 * length (flatten ps) / 2) (length (flatten ps))) _ (le-ltb (2 * length (flatten ps) / 2) (length (flatten ps)) (omega arith)) ∙ first-empty
+    first-next 22 _ (le-ltb (length (startsOf ps)) (length (startsOf ps)) (omega arith))
+    ∙ first-next 21 _ (le-ltb (2 * length (flatten ps) / 2) (length (flatten ps)) (omega arith)) ∙ first-empty
 
 module _ (x : Call) (e : callFault x ≡ 0) where
   abbrev ps : List (List Pt)

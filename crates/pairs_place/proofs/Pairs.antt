@@ -34,7 +34,7 @@ some-factor m (suc n) h = omega arith
 
 module _ (firsts : List ℕ) (points : List (List ℤ)) (numbers : List ℕ) (left right : ℕ) (w : Walkable firsts points numbers left right) where
   pub pairs-count : length (contoursIn firsts points left right) ≡ left * right
-  pairs-count = contours-count firsts points left right (w .keyed .walks)
+  pairs-count = contours-count left right (w .keyed .walks)
 
   module _ (k : ℕ) (h : k < left * right) where
     pub some-right : 0 < right

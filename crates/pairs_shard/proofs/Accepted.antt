@@ -121,8 +121,8 @@ bounds-fewer b p q f e =
     let v = either-false (ltZ (b .«max_y») (b .«min_y»)) _ (u .1) in
     rw (u .0, v .0) (f (v .1))
 
-pub fewer-kinds : (t : Bool) (l m r : Operand) → Fewer l m → firstFault (pairKinds t l r) ≡ 0 → firstFault (pairKinds t m r) ≡ 0
-fewer-kinds t l m r w h =
+pub fewer-kinds : (t : Bool) {l m : Operand} (r : Operand) → Fewer l m → firstFault (pairKinds t l r) ≡ 0 → firstFault (pairKinds t m r) ≡ 0
+fewer-kinds t {l} {m} r w h =
     let h1 = first-none 7 _ _ (omega arith) h in
     let h2 = first-none 7 _ _ (omega arith) (h1 .1) in
     let h3 = first-none 2 _ _ (omega arith) (h2 .1) in
@@ -135,13 +135,13 @@ fewer-kinds t l m r w h =
     let h10 = first-none 20 _ _ (omega arith) (h9 .1) in
     let h11 = first-none 20 _ _ (omega arith) (h10 .1) in
     let o = off-parts (l .corners) (boundsList (l .bounds)) (h3 .0) in
-    first-next 7 (tableBroken (m .starts) (m .corners)) _ (w .table) ∙ first-next 7 _ _ (h2 .0)
-    ∙ first-next 2 (operandOff m) _ (off-append-in (m .corners) (boundsList (m .bounds)) (w .range (o .0)) ∙ ap (λ b. offRange (boundsList b)) (w .bounds) ∙ o .1) ∙ first-next 2 _ _ (h4 .0)
-    ∙ first-next 9 (boundsBroken (m .bounds) (pointsOf (m .corners))) _
+    first-next 7 _ (w .table) ∙ first-next 7 _ (h2 .0)
+    ∙ first-next 2 _ (off-append-in (m .corners) (boundsList (m .bounds)) (w .range (o .0)) ∙ ap (λ b. offRange (boundsList b)) (w .bounds) ∙ o .1) ∙ first-next 2 _ (h4 .0)
+    ∙ first-next 9 _
     (ap (λ b. boundsBroken b (pointsOf (m .corners))) (w .bounds) ∙ bounds-fewer (l .bounds) (pointsOf (l .corners)) (pointsOf (m .corners)) (w .inside (l .bounds)) (h5 .0))
-    ∙ first-next 9 _ _ (h6 .0) ∙ first-next 8 (someWindingLeaves false (operandParts m)) _ (w .windings (h7 .0)) ∙ first-next 8 _ _ (h8 .0)
-    ∙ first-next 10 (offRange (boundsList (resultBounds t (m .bounds) (r .bounds)))) _ (ap (λ b. offRange (boundsList (resultBounds t b (r .bounds)))) (w .bounds) ∙ h9 .0)
-    ∙ first-next 20 (eqb (partCount (m .starts)) 0) _ (ne-eqb (partCount (m .starts)) 0 (w .some)) ∙ first-next 20 _ _ (h11 .0) ∙ first-empty
+    ∙ first-next 9 _ (h6 .0) ∙ first-next 8 _ (w .windings (h7 .0)) ∙ first-next 8 _ (h8 .0)
+    ∙ first-next 10 _ (ap (λ b. offRange (boundsList (resultBounds t b (r .bounds)))) (w .bounds) ∙ h9 .0)
+    ∙ first-next 20 _ (ne-eqb (partCount (m .starts)) 0 (w .some)) ∙ first-next 20 _ (h11 .0) ∙ first-empty
 
 -- ---- the shard
 
@@ -209,7 +209,7 @@ module _ (f e : ℕ) (bytes : List ℕ) (c : Cuts f e bytes) where
   sized-cut h =
       let k = known f e bytes c in
       let n : length S ≡ 4 * (rightPlace S + tableWords S (rightPlace S)) =
-      omega (arith, length-cut f e bytes k, sized bytes h, place bytes, place S, parts-word f e bytes c, corners-word f e bytes c, right-same .0, right-same .1) in
+      omega (arith, length-cut k, sized bytes h, place bytes, place S, parts-word f e bytes c, corners-word f e bytes c, right-same .0, right-same .1) in
       rw (eq-eqb _ _ n)
 
   pub accepted-cut-at : jobFault bytes ≡ 0 → shapeFault bytes ≡ 0 → f < e → jobFault S ≡ 0
@@ -219,9 +219,9 @@ module _ (f e : ℕ) (bytes : List ℕ) (c : Cuts f e bytes) where
       let o = shape-passed bytes z in
       let t = ap (λ w. eqb w 1) (head-word f e bytes c 0 (omega arith)) in
       let first = first-none 7 (tableBroken (leftOf bytes .starts) (leftOf bytes .corners)) _ (omega arith) (sym o ∙ j) in
-      to-operands S (le-ltb (length S) 4 (omega (arith, length-cut f e bytes k))) (ap (ltb 1) (head-word f e bytes c 0 (omega arith)) ∙ le-ltb 1 (operation bytes) (s .known)) (sized-cut (s .right-length))
+      to-operands S (le-ltb (length S) 4 (omega (arith, length-cut k))) (ap (ltb 1) (head-word f e bytes c 0 (omega arith)) ∙ le-ltb 1 (operation bytes) (s .known)) (sized-cut (s .right-length))
       ∙ (λ i. firstFault (pairKinds (t i) (leftOf S) (right-read f e bytes c i)))
-      ∙ fewer-kinds (reflectedOf bytes) (leftOf bytes) (leftOf S) (rightOf bytes) (fewer (left-as bytes (first .0)) h) (sym o ∙ j)
+      ∙ fewer-kinds (reflectedOf bytes) (rightOf bytes) (fewer (left-as bytes (first .0)) h) (sym o ∙ j)
 
 -- ---- the shard of the numbers that are asked for
 

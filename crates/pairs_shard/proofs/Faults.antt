@@ -51,13 +51,13 @@ module _ (bytes : List ℕ) where
       by-test (eqb (shapeFault bytes) 0)
       (λ t. let z = eqb-zero (shapeFault bytes) t in
       by-test (leftBroken bytes) (λ l. absurd (seven (sym e ∙ sym (rules-refused z l)))) (λ l. record { shape = z; rules = l }))
-      (λ t. let d = ne-zero (shapeFault bytes) t in absurd (d (shape-refused refl d ∙ e)))
+      (λ t. let d = ne-zero t in absurd (d (shape-refused refl d ∙ e)))
     where
       eqb-zero : (n : ℕ) → eqb n 0 ≡ true → n ≡ 0
       eqb-zero n t = eqb-true n 0 t
 
-      ne-zero : (n : ℕ) → eqb n 0 ≡ false → n ≡ 0 → ⊥
-      ne-zero n t z = differ (sym t ∙ eq-eqb n 0 z)
+      ne-zero : {n : ℕ} → eqb n 0 ≡ false → n ≡ 0 → ⊥
+      ne-zero {n} t z = differ (sym t ∙ eq-eqb n 0 z)
 
       seven : _≡_ {A = ℕ} 0 7 → ⊥
       seven z = omega (arith, z)

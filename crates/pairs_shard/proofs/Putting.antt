@@ -40,10 +40,10 @@ words-put k ws old h p =
     }
 
 -- the head, two counts, the starts, one after another
-pub counts-put : {head : List ℕ} {r : ℕ} (s : List ℕ) (o : List ℕ) {p q a b : ℕ} {s′ o₁ o₂ o₃ o₄ : List ℕ} → length head ≡ 20 → 28 + 4 * length s ≤ length o → PutText head 0 o o₁ r
+pub counts-put : {head : List ℕ} {r : ℕ} {s : List ℕ} {o : List ℕ} {p q a b : ℕ} {s′ o₁ o₂ o₃ o₄ : List ℕ} → length head ≡ 20 → 28 + 4 * length s ≤ length o → PutText head 0 o o₁ r
     → p ≡ a → q ≡ b → s′ ≡ s → o₂ ≡ putWords 5 (p ∷ []) o₁ → o₃ ≡ putWords 6 (q ∷ []) o₂ → o₄ ≡ putWords 7 s′ o₃
     → {n : ℕ} → n ≡ 28 + 4 * length s → PutText (head ++ wordBytes (a ∷ b ∷ s)) 0 o o₄ n
-counts-put {head} {r} s o {p} {q} {a} {b} {s′} {o₁} {o₂} {o₃} {o₄} l room t e f g h₂ h₃ h₄ {n} z =
+counts-put {head} {r} {s} {o} {p} {q} {a} {b} {s′} {o₁} {o₂} {o₃} {o₄} l room t e f g h₂ h₃ h₄ {n} z =
     let len : length o₁ ≡ length o = put-length t (omega arith) in
     let t₃ = h₃ ∙ ap (putWords 6 (q ∷ [])) h₂ ∙ put-put 5 (p ∷ []) o₁ (omega arith) (q ∷ []) in
     let t₄ : o₄ ≡ putWords 5 (a ∷ b ∷ s) o₁ = h₄ ∙ ap (λ v. putWords 7 v o₃) g ∙ ap (putWords 7 s) t₃ ∙ put-put 5 (p ∷ q ∷ []) o₁ (omega arith) s ∙ (λ i. putWords 5 (e i ∷ f i ∷ s) o₁) in
@@ -77,8 +77,8 @@ rest-taken a l = take-all (length l - a) (drop a l) (omega (arith, length-drop a
 
 -- ---- the whole
 
-pub length-counts : (f e : ℕ) (bytes : List ℕ) → Known f e bytes → length (take 20 bytes ++ wordBytes (shardCounts f e bytes)) ≡ 32 + 4 * (e - f)
-length-counts f e bytes k =
+pub length-counts : {f e : ℕ} {bytes : List ℕ} → Known f e bytes → length (take 20 bytes ++ wordBytes (shardCounts f e bytes)) ≡ 32 + 4 * (e - f)
+length-counts {f} {e} {bytes} k =
     omega (
       arith,
       length-append (take 20 bytes) (wordBytes (shardCounts f e bytes)),
@@ -87,10 +87,10 @@ length-counts f e bytes k =
       length-less (startAt bytes f) (7 + f) (e - f + 1) bytes (omega (arith, k .inside, k .past, k .order)),
     )
 
-pub length-cut : (f e : ℕ) (bytes : List ℕ) → Known f e bytes
+pub length-cut : {f e : ℕ} {bytes : List ℕ} → Known f e bytes
     → length (shardBytes f e bytes) ≡ 32 + 4 * (e - f) + (8 * (startAt bytes e - startAt bytes f) + (length bytes - 4 * (5 + tableWords bytes 5)))
 unfolding shardBytes
-length-cut f e bytes k =
+length-cut {f} {e} {bytes} k =
     let p = take 20 bytes ++ wordBytes (shardCounts f e bytes) in
     let q = slice (4 * cornerPlace bytes f) (4 * cornerPlace bytes e) bytes in
     let r = drop (4 * (5 + tableWords bytes 5)) bytes in
@@ -98,7 +98,7 @@ length-cut f e bytes k =
       arith,
       length-append p (q ++ r),
       length-append q r,
-      length-counts f e bytes k,
+      length-counts k,
       length-slice (4 * cornerPlace bytes f) (4 * cornerPlace bytes e) bytes (omega arith),
       length-drop (4 * (5 + tableWords bytes 5)) bytes,
     )
@@ -108,7 +108,7 @@ pub shard-fits : (i j : ℕ) (bytes : List ℕ) → shardFault bytes ≡ 0 → l
 unfolding shardOf
 shard-fits i j bytes z =
     let k = known (firstPart i j bytes) (pastPart j bytes) bytes (asked i j bytes z) in
-    omega (arith, length-cut (firstPart i j bytes) (pastPart j bytes) bytes k)
+    omega (arith, length-cut k)
 
 shard-as : (i j : ℕ) (bytes : List ℕ) {f e : ℕ} → f ≡ firstPart i j bytes → e ≡ pastPart j bytes → shardBytes f e bytes ≡ shardOf i j bytes
 unfolding shardOf

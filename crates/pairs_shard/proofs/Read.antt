@@ -160,7 +160,7 @@ shard-operands i j bytes z =
     let u = asked i j bytes z in
     record {
       operation = ap (λ w. eqb w 1) (head-word f e bytes u 0 (omega arith));
-      parts = parts-read f e bytes u ∙ clamped i j (wordAt bytes 5) (tableParts (startsAt bytes 5) (cornersAt bytes 5)) (left-count bytes z);
+      parts = parts-read f e bytes u ∙ clamped i j (tableParts (startsAt bytes 5) (cornersAt bytes 5)) (left-count bytes z);
       bounds = bounds-read f e bytes u;
       right = right-read f e bytes u;
     }

@@ -90,19 +90,19 @@ module _ (bytes : List ℕ) where
   abbrev R : List ℕ
   R = drop b W
 
-  at : (n i : ℕ) → n ≡ b + i → wordAt bytes n ≡ getD R i 0
-  at n i e = ap (wordAt bytes) e ∙ sym (getD-drop b W i 0)
+  at : {n : ℕ} (i : ℕ) → n ≡ b + i → wordAt bytes n ≡ getD R i 0
+  at i e = ap (wordAt bytes) e ∙ sym (getD-drop b W i 0)
 
   from : (n i : ℕ) → n ≡ b + i → drop n W ≡ drop i R
   from n i e = ap (λ m. drop m W) e ∙ sym (drop-drop i b W)
 
   pub right-parts : wordAt bytes (rightPlace bytes) ≡ getD R 4 0
   unfolding rightPlace
-  right-parts = at (rightPlace bytes) 4 refl
+  right-parts = at 4 refl
 
   pub right-corners : wordAt bytes (rightPlace bytes + 1) ≡ getD R 5 0
   unfolding rightPlace
-  right-corners = at (rightPlace bytes + 1) 5 (omega arith)
+  right-corners = at 5 (omega arith)
 
   right-starts-from : startsAt bytes (rightPlace bytes) ≡ take (getD R 4 0 + 1) (drop 6 R)
   unfolding rightPlace
@@ -121,10 +121,10 @@ module _ (bytes : List ℕ) where
     starts = right-starts-from i;
     corners = right-corners-from i;
     bounds = record {
-      «min_x» = signed (at b 0 (omega arith) i);
-      «max_x» = signed (at (b + 1) 1 refl i);
-      «min_y» = signed (at (b + 2) 2 refl i);
-      «max_y» = signed (at (b + 3) 3 refl i);
+      «min_x» = signed (at {n = b} 0 (omega arith) i);
+      «max_x» = signed (at 1 refl i);
+      «min_y» = signed (at 2 refl i);
+      «max_y» = signed (at 3 refl i);
     };
   }
 
@@ -171,4 +171,4 @@ module _ (f e : ℕ) (bytes : List ℕ) (c : Cuts f e bytes) where
       let w₃ = words-drop (cornerPlace bytes f) (take (4 * cornerPlace bytes e) bytes) ∙ ap (drop (cornerPlace bytes f)) (words-take (cornerPlace bytes e) bytes) in
       words-append (p ++ q) (r ++ drop (4 * (5 + tableWords bytes 5)) bytes) (omega (arith, length-append p q))
       ∙ (λ i. words-append p q (omega arith) i ++ words-append r (drop (4 * (5 + tableWords bytes 5)) bytes) (omega arith) i)
-      ∙ (λ i. (words-take 5 bytes i ++ words-wordBytes (shardCounts f e bytes) counts-small i) ++ (w₃ i ++ words-drop (5 + tableWords bytes 5) bytes i))
+      ∙ (λ i. (words-take 5 bytes i ++ words-wordBytes {ws = shardCounts f e bytes} counts-small i) ++ (w₃ i ++ words-drop (5 + tableWords bytes 5) bytes i))

@@ -105,15 +105,15 @@ pub record Lies (a b : ℕ) (corners : List ℤ) : Type 0 where
   pub rises : a ≤ b
   pub within : 2 * b ≤ length corners
 
-pub lies : (starts : List ℕ) (corners : List ℤ) (k : ℕ) → Placeable starts corners → k < partCount starts → Lies (getD starts k 0) (getD starts (k + 1) 0) corners
-lies s c k p h =
+pub lies : {starts : List ℕ} {corners : List ℤ} {k : ℕ} → Placeable starts corners → k < partCount starts → Lies (getD starts k 0) (getD starts (k + 1) 0) corners
+lies {starts = s} {corners = c} {k} p h =
     let t = result-ascends s c (p .whole) in
     rw add-one (record { rises = t .rises k (omega arith); within = omega (arith, t .bounded (suc k) (omega arith)) })
 
 -- how many there are
-pub count-contours : (starts : List ℕ) (corners : List ℤ) → Placeable starts corners → (length (tableParts starts corners) ≡ partCount starts) × (0 < length starts)
+pub count-contours : {starts : List ℕ} {corners : List ℤ} → Placeable starts corners → (length (tableParts starts corners) ≡ partCount starts) × (0 < length starts)
 unfolding tableParts
-count-contours s c p = of s (result-ascends s c (p .whole) .some)
+count-contours {starts = s} {corners = c} p = of s (result-ascends s c (p .whole) .some)
   where
     of : (s : List ℕ) → 0 < length s → (length (partsOf s (pointsOf c)) ≡ partCount s) × (0 < length s)
     of [] h = absurd (omega (arith, h))
@@ -134,5 +134,5 @@ unfolding placedOf
 told-at s c z e h = rw (← e, eq-eqb _ 0 h)
 
 -- the corners from start k to the next are contour k
-pub contour-at : (starts : List ℕ) (corners : List ℤ) (k : ℕ) → k < partCount starts → pointsOf (cornersBetween (getD starts k 0) (getD starts (k + 1) 0) corners) ≡ getD (tableParts starts corners) k []
-contour-at s c k h = ap pointsOf (numbers-between s c k) ∙ part-is s c k h
+pub contour-at : (starts : List ℕ) (corners : List ℤ) {k : ℕ} → k < partCount starts → pointsOf (cornersBetween (getD starts k 0) (getD starts (k + 1) 0) corners) ≡ getD (tableParts starts corners) k []
+contour-at s c {k} h = ap pointsOf (numbers-between s c k) ∙ part-is s c k h

@@ -26,20 +26,20 @@ on-place z c h = let b = both-true (inRange (z .x)) _ h in rw (b .0, b .1)
 module _ (s : List ℕ) (c : List ℤ) (z : Pt) where
   pub told-7 : resultBroken s c ≡ true → faultRules ≡ placeFault s c z
   unfolding placeFault
-  told-7 e = sym (first-this faultRules _ _ e)
+  told-7 e = sym (first-this faultRules _ e)
 
   module _ (e : resultBroken s c ≡ false) where
     pub told-2-place : onGrid z ≡ false → faultRange ≡ placeFault s c z
     unfolding placeFault
-    told-2-place h = sym (first-next faultRules _ _ e ∙ first-this faultRange _ [] (off-place z c h))
+    told-2-place h = sym (first-next faultRules _ e ∙ first-this faultRange [] (off-place z c h))
 
     pub told-2 : onGrid z ≡ true → offRange c ≡ true → faultRange ≡ placeFault s c z
     unfolding placeFault
-    told-2 h k = sym (first-next faultRules _ _ e ∙ first-this faultRange _ [] (on-place z c h ∙ k))
+    told-2 h k = sym (first-next faultRules _ e ∙ first-this faultRange [] (on-place z c h ∙ k))
 
     pub told-none : onGrid z ≡ true → offRange c ≡ false → 0 ≡ placeFault s c z
     unfolding placeFault
-    told-none h k = sym (first-next faultRules _ _ e ∙ first-next faultRange _ [] (on-place z c h ∙ k) ∙ first-empty)
+    told-none h k = sym (first-next faultRules _ e ∙ first-next faultRange [] (on-place z c h ∙ k) ∙ first-empty)
 
   -- what no fault tells
   pub accepted : placeFault s c z ≡ 0 → Placeable s c × (onGrid z ≡ true)

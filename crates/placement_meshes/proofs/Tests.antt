@@ -55,7 +55,7 @@ left-or-none z (e ∷ m) =
     (λ t. by-test (eqPt (e .0) (e .1)) (λ s. rw (t, s) (λ h. (inl (eqPt-true (e .0) (e .1) s), left-or-none z m .0 h), λ h. left-or-none z m .1 (h .1)))
     (λ s. rw (t, s) (
       λ h. differ h,
-      λ h. absurd (⊎-elim (eqPt-false (e .0) (e .1) s) (λ k. not-above (pos-is (sym (side-one (e .0) (e .1) z)) k) (ltZ-≤ (pos 0) a t)) (h .0)),
+      λ h. absurd (⊎-elim (eqPt-false s) (λ k. not-above (pos-is (sym (side-one (e .0) (e .1) z)) k) (ltZ-≤ (pos 0) a t)) (h .0)),
     )))
 
 -- ---- a place inside is among the corners
@@ -77,7 +77,7 @@ module _ (t : Pt → Bool) (d : Pt) (z : Pt) (f : (c : Pt) → t c ≡ false →
   some-passes : (l : List Pt) → Hull l (pos 1) z → some t l ≡ true
   some-passes l h =
       by-test (some t l) (λ p. p)
-      (λ p. absurd (below-zero (hull-form l d (negℤ (cross d z +ℤ pos 1)) (all-map l (λ c k. above-by-1 (cross d z) (cross d c) k) (none-passes t (cross d) z f l p)) h) (subst (λ x. x <ℤ pos 0) (sym (less-by-1 (cross d z))) (omega zarith))))
+      (λ p. absurd (below-zero (hull-form d (negℤ (cross d z +ℤ pos 1)) (all-map l (λ c k. above-by-1 (cross d z) (cross d c) k) (none-passes t (cross d) z f l p)) h) (subst (λ x. x <ℤ pos 0) (sym (less-by-1 (cross d z))) (omega zarith))))
 
 -- the four directions
 abbrev dir : ℤ → ℤ → Pt
@@ -125,7 +125,7 @@ module _ (l : List Pt) (r : Turning l) (z : Pt) where
   unfolding insideAt
   inside-is = (
     λ h. on-or-left z (neighbours l) .0 (both-true _ _ h .0),
-    λ h. rw (on-or-left z (neighbours l) .1 h) (among-hull z l (inside-hull l r (pos 1) z (omega zarith) h)),
+    λ h. rw (on-or-left z (neighbours l) .1 h) (among-hull z l (inside-hull r (omega zarith) h)),
   )
 
   -- where z is left of no edge, those that it is left of if they have a length have none, and no

@@ -103,20 +103,20 @@ data AnglesAt (p q : Bool) (k j : ℤ) : Type 0 where
   greater : byHalves p q k ≡ Greater → LtAt q p j → AnglesAt p q k j
 
 -- within a half, by the sign of the cross
-angles-half : (p : Bool) (k j : ℤ) → (k <ℤ pos 0 → pos 0 <ℤ j) → Sign k → AnglesAt p p k j
+angles-half : (p : Bool) {k : ℤ} (j : ℤ) → (k <ℤ pos 0 → pos 0 <ℤ j) → Sign k → AnglesAt p p k j
 unfolding byCross
-angles-half false k j s (positive h) = less (rw (<-ltZ h)) h
-angles-half false k j s (null e) = equal (ap byCross e) refl e
-angles-half false k j s (negative h) = greater (rw (≤-ltZ {x = pos 0} {y = k} (<-≤ h), <-ltZ h)) (s h)
-angles-half true k j s (positive h) = less (rw (<-ltZ h)) h
-angles-half true k j s (null e) = equal (ap byCross e) refl e
-angles-half true k j s (negative h) = greater (rw (≤-ltZ {x = pos 0} {y = k} (<-≤ h), <-ltZ h)) (s h)
+angles-half false j s (positive h) = less (rw (<-ltZ h)) h
+angles-half false j s (null e) = equal (ap byCross e) refl e
+angles-half false {k} j s (negative h) = greater (rw (≤-ltZ {x = pos 0} {y = k} (<-≤ h), <-ltZ h)) (s h)
+angles-half true j s (positive h) = less (rw (<-ltZ h)) h
+angles-half true j s (null e) = equal (ap byCross e) refl e
+angles-half true {k} j s (negative h) = greater (rw (≤-ltZ {x = pos 0} {y = k} (<-≤ h), <-ltZ h)) (s h)
 
 angles-at : (p q : Bool) (u v : Pt) → AnglesAt p q (cross u v) (cross v u)
-angles-at false false u v = angles-half false (cross u v) (cross v u) (swap< u v) (sign (cross u v))
+angles-at false false u v = angles-half false (cross v u) (swap< u v) (sign (cross u v))
 angles-at false true u v = less refl tt
 angles-at true false u v = greater refl tt
-angles-at true true u v = angles-half true (cross u v) (cross v u) (swap< u v) (sign (cross u v))
+angles-at true true u v = angles-half true (cross v u) (swap< u v) (sign (cross u v))
 
 pub angle-cases : (u v : Pt) → Angles u v
 unfolding angleCmp
@@ -173,14 +173,14 @@ clash {a} {b} h k = clash-at (lower a) (lower b) a b (h .lt) (k .le)
 level-cross : (a b : Pt) → cross a b ≡ pos 0 → (pos 0 ≤ℤ cross a b) × (pos 0 ≤ℤ cross b a)
 level-cross = arithℤ (pt ∷ pt ∷ []) (λ a b. crossE a b := con (pos 0) ⇒ con (pos 0) :≤ crossE a b :∧ con (pos 0) :≤ crossE b a) (omega arith)
 
-same-at : (p q : Bool) (a b : Pt) → p ≡ q → cross a b ≡ pos 0 → LeAt p q (cross a b) × LeAt q p (cross b a)
-same-at false false a b s e = level-cross a b e
-same-at false true a b s e = differ s
-same-at true false a b s e = differ (sym s)
-same-at true true a b s e = level-cross a b e
+same-at : {p q : Bool} (a b : Pt) → p ≡ q → cross a b ≡ pos 0 → LeAt p q (cross a b) × LeAt q p (cross b a)
+same-at {p = false} {q = false} a b s e = level-cross a b e
+same-at {p = false} {q = true} a b s e = differ s
+same-at {p = true} {q = false} a b s e = differ (sym s)
+same-at {p = true} {q = true} a b s e = level-cross a b e
 
 pub same-le : {a b : Pt} → Same a b → Le a b × Le b a
-same-le {a} {b} s = let h = same-at (lower a) (lower b) a b (s .half) (s .flat) in (record { le = h .0 }, record { le = h .1 })
+same-le {a} {b} s = let h = same-at a b (s .half) (s .flat) in (record { le = h .0 }, record { le = h .1 })
 
 pub same-refl : (a : Pt) → Same a a
 same-refl a = record { half = refl; flat = cross-self a }
@@ -232,21 +232,21 @@ same-trans na nb nc s t = le-antisym (le-trans na nb nc (same-le s .0) (same-le 
 
 -- ---- within a half
 
-half-at : (p q : Bool) (k : ℤ) → p ≡ q → LtAt p q k ↔ (pos 0 <ℤ k)
-half-at false false k s = (λ h. h, λ h. h)
-half-at false true k s = differ s
-half-at true false k s = differ (sym s)
-half-at true true k s = (λ h. h, λ h. h)
+half-at : {p q : Bool} (k : ℤ) → p ≡ q → LtAt p q k ↔ (pos 0 <ℤ k)
+half-at {p = false} {q = false} k s = (λ h. h, λ h. h)
+half-at {p = false} {q = true} k s = differ s
+half-at {p = true} {q = false} k s = differ (sym s)
+half-at {p = true} {q = true} k s = (λ h. h, λ h. h)
 
 pub lt-in-half : {a b : Pt} → lower a ≡ lower b → Lt a b ↔ (pos 0 <ℤ cross a b)
-lt-in-half {a} {b} s = let f = half-at (lower a) (lower b) (cross a b) s in (λ h. f .0 (h .lt), λ h. record { lt = f .1 h })
+lt-in-half {a} {b} s = let f = half-at (cross a b) s in (λ h. f .0 (h .lt), λ h. record { lt = f .1 h })
 
 -- ---- the half and its nonzero vectors
 
-pub lower-up : (v : Pt) → Up v → lower v ≡ false
+pub lower-up : {v : Pt} → Up v → lower v ≡ false
 unfolding lower
-lower-up v (above h) = rw (≤-ltZ {x = v .y} {y = pos 0} (<-≤ h), <-ltZ h)
-lower-up v (level e h) = rw (≤-ltZ {x = v .y} {y = pos 0} (omega zarith), ≤-ltZ {x = pos 0} {y = v .y} (omega zarith), ≤-ltZ {x = v .x} {y = pos 0} (<-≤ h))
+lower-up {v} (above h) = rw (≤-ltZ {x = v .y} {y = pos 0} (<-≤ h), <-ltZ h)
+lower-up {v} (level e h) = rw (≤-ltZ {x = v .y} {y = pos 0} (omega zarith), ≤-ltZ {x = pos 0} {y = v .y} (omega zarith), ≤-ltZ {x = v .x} {y = pos 0} (<-≤ h))
 
 pub lower-down : (v : Pt) → Up (negᵖ v) → lower v ≡ true
 unfolding lower
@@ -255,7 +255,7 @@ lower-down v (level e h) =
     rw (≤-ltZ {x = v .y} {y = pos 0} (omega (zarith, neg-parts (v .y))), ≤-ltZ {x = pos 0} {y = v .y} (omega (zarith, neg-parts (v .y))), <-ltZ {x = v .x} {y = pos 0} (omega (zarith, neg-parts (v .x))))
 
 pub nz-of-up : {v : Pt} → Up v → Nz v
-nz-of-up {v} h = record { nz = subst (λ s. Up (sgn s v)) (sym (lower-up v h)) h }
+nz-of-up {v} h = record { nz = subst (λ s. Up (sgn s v)) (sym (lower-up h)) h }
 
 pub nz-of-down : {v : Pt} → Up (negᵖ v) → Nz v
 nz-of-down {v} h = record { nz = subst (λ s. Up (sgn s v)) (sym (lower-down v h)) h }
@@ -275,7 +275,7 @@ nz-cases v =
     ]
 
 pub nz-of-test : (v : Pt) → isZero v ≡ false → Nz v
-nz-of-test v h = ⊎-elim (λ e. absurd (isZero-false v h e)) (λ n. n) (nz-cases v)
+nz-of-test v h = ⊎-elim (λ e. absurd (isZero-false h e)) (λ n. n) (nz-cases v)
 
 -- a nonzero vector is not zero
 up-not-zero : {v : Pt} → Up v → v ≡ O → ⊥

@@ -98,8 +98,8 @@ eqPt-true a b h = by-test (eqZ (a .x) (b .x))
 pub eqPt-refl : (a : Pt) → eqPt a a ≡ true
 eqPt-refl a = rw (eqZ-refl (a .x), eqZ-refl (a .y))
 
-pub eqPt-false : (a b : Pt) → eqPt a b ≡ false → a ≡ b → ⊥
-eqPt-false a b h e = differ (sym h ∙ ap (eqPt a) (sym e) ∙ eqPt-refl a)
+pub eqPt-false : {a b : Pt} → eqPt a b ≡ false → a ≡ b → ⊥
+eqPt-false {a} h e = differ (sym h ∙ ap (eqPt a) (sym e) ∙ eqPt-refl a)
 
 pub ≢-eqPt : {a b : Pt} → (a ≡ b → ⊥) → eqPt a b ≡ false
 ≢-eqPt {a} {b} h = by-test (eqPt a b) (λ t. absurd (h (eqPt-true a b t))) (λ t. t)
@@ -112,7 +112,7 @@ isZero-O = refl
 pub isZero-sub : (p q : Pt) → isZero (q -ᵖ p) ≡ eqPt p q
 isZero-sub p q = by-test (eqPt p q)
     (λ t. ap (λ c. isZero (q -ᵖ c)) (eqPt-true p q t) ∙ ap isZero (sub-self q) ∙ isZero-O ∙ sym t)
-    (λ t. by-test (isZero (q -ᵖ p)) (λ z. absurd (eqPt-false p q t (sub-zero p q (isZero-true (q -ᵖ p) z)))) (λ z. z ∙ sym t))
+    (λ t. by-test (isZero (q -ᵖ p)) (λ z. absurd (eqPt-false t (sub-zero p q (isZero-true (q -ᵖ p) z)))) (λ z. z ∙ sym t))
   where
     sub-zero : (p q : Pt) → q -ᵖ p ≡ O → p ≡ q
     sub-zero p q e = pt-eq (omega (zarith, sub-parts (q .x) (p .x), ap (λ c. c .x) e)) (omega (zarith, sub-parts (q .y) (p .y), ap (λ c. c .y) e))

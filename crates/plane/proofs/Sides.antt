@@ -117,8 +117,8 @@ nz-cancel true s k (above h) a b = zero-cancel h (negℤ-*ℤ (s .y) k ∙ ap ne
 nz-cancel true s k (level e h) a b = zero-cancel h (negℤ-*ℤ (s .x) k ∙ ap negℤ a)
 
 -- u along v and b along u ≠ 0, so b along v: (b × v) u = (u × v) b - (u × b) v
-pub line-trans : (v u b : Pt) → Nz u → Line v u → Line u b → Line v b
-line-trans v u b n h k =
+pub line-trans : (v : Pt) {u : Pt} (b : Pt) → Nz u → Line v u → Line u b → Line v b
+line-trans v {u} b n h k =
     nz-cancel (lower u) u (cross b v) (n .nz)
     (along-x u b v ∙ (λ i. b .x *ℤ h i -ℤ v .x *ℤ line-swap b u k i) ∙ none (b .x) (v .x))
     (along-y u b v ∙ (λ i. b .y *ℤ h i -ℤ v .y *ℤ line-swap b u k i) ∙ none (b .y) (v .y))
@@ -165,7 +165,7 @@ add-same {a} {b} na nb s =
     record { nonzero = h .0; same = record { half = h .1; flat = flat' a b (s .flat) } }
   where
     in-half : (p : Bool) → Up (sgn p a) → Up (sgn p b) → Nz (a +ᵖ b) × (lower (a +ᵖ b) ≡ p)
-    in-half false h k = (nz-of-up (up-add h k), lower-up (a +ᵖ b) (up-add h k))
+    in-half false h k = (nz-of-up (up-add h k), lower-up (up-add h k))
     in-half true h k = (nz-of-down (down-add a b h k), lower-down (a +ᵖ b) (down-add a b h k))
 
     flat' : (a b : Pt) → cross a b ≡ pos 0 → cross (a +ᵖ b) b ≡ pos 0
@@ -194,8 +194,8 @@ pub le-behind : {u v : Pt} → Le v u → isLess (angleCmp u v) ≡ false
 le-behind {u} {v} h = elim (ahead-cases u v) [ ahead e k ↦ absurd (clash k h) | behind e k ↦ e ]
 
 -- the test does not tell two of one direction apart
-pub ahead-same : {a b : Pt} (r : Pt) → Nz a → Nz b → Nz r → Same a b → isLess (angleCmp a r) ≡ isLess (angleCmp b r)
-ahead-same {a} {b} r na nb nr s = elim (ahead-cases b r) [
+pub ahead-same : {a b : Pt} {r : Pt} → Nz a → Nz b → Nz r → Same a b → isLess (angleCmp a r) ≡ isLess (angleCmp b r)
+ahead-same {a} {b} {r} na nb nr s = elim (ahead-cases b r) [
   | ahead e h ↦ lt-ahead (lt-of h) ∙ sym e
   | behind e h ↦ le-behind (le-trans nr nb na h (same-le s .1)) ∙ sym e
 ]

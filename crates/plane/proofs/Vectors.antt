@@ -119,6 +119,6 @@ isZero-true v = of (eqZ (v .x) (pos 0)) refl
     of true e h = pt-eq (eqZ-true (v .x) (pos 0) e) (eqZ-true (v .y) (pos 0) h)
     of false e h = differ h
 
-pub isZero-false : (v : Pt) → isZero v ≡ false → v ≡ O → ⊥
+pub isZero-false : {v : Pt} → isZero v ≡ false → v ≡ O → ⊥
 unfolding isZero
-isZero-false v h e = differ (sym h ∙ ap isZero e)
+isZero-false h e = differ (sym h ∙ ap isZero e)

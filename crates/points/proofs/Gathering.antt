@@ -44,8 +44,8 @@ length-one p = ap length (append-nil p)
 -- ---- parts appended
 
 -- the points of a part were put after the others, and the start after it
-pub part-appended : (p : List Pt) (starts : List ℕ) (points : List (List ℤ)) (t : Tally) {starts′ : List ℕ} {points′ : List (List ℤ)} {n : ℕ} → t .parts + 1 < length starts → Appended p points (t .corners) points′ n → starts′ ≡ set starts (t .parts + 1) n → PartsAppended (p ∷ []) starts points t starts′ points′ (record { parts = t .parts + 1; corners = n })
-part-appended p starts points t {starts′} {points′} {n} h a e = record {
+pub part-appended : {p : List Pt} (starts : List ℕ) {points : List (List ℤ)} (t : Tally) {starts′ : List ℕ} {points′ : List (List ℤ)} {n : ℕ} → t .parts + 1 < length starts → Appended p points (t .corners) points′ n → starts′ ≡ set starts (t .parts + 1) n → PartsAppended (p ∷ []) starts points t starts′ points′ (record { parts = t .parts + 1; corners = n })
+part-appended {p} starts {points} t {starts′} {points′} {n} h a e = record {
   starts-size = ap length e ∙ length-set starts (t .parts + 1) n;
   points-size = a .size;
   parts = refl;
@@ -75,8 +75,8 @@ none-appended starts points t = record {
   gathered = λ ps q. subst (Gathered starts points t) (sym (append-nil ps)) q;
 }
 
-pub then-appended : (qs rs : List (List Pt)) {s s′ s″ : List ℕ} {p p′ p″ : List (List ℤ)} {t t′ t″ : Tally} → PartsAppended qs s p t s′ p′ t′ → PartsAppended rs s′ p′ t′ s″ p″ t″ → PartsAppended (qs ++ rs) s p t s″ p″ t″
-then-appended qs rs {s″ = s″} {p″ = p″} {t″ = t″} a b = record {
+pub then-appended : {qs rs : List (List Pt)} {s s′ s″ : List ℕ} {p p′ p″ : List (List ℤ)} {t t′ t″ : Tally} → PartsAppended qs s p t s′ p′ t′ → PartsAppended rs s′ p′ t′ s″ p″ t″ → PartsAppended (qs ++ rs) s p t s″ p″ t″
+then-appended {qs} {rs} {s″ = s″} {p″ = p″} {t″ = t″} a b = record {
   starts-size = b .starts-size ∙ a .starts-size;
   points-size = b .points-size ∙ a .points-size;
   parts = omega (arith, a .parts, b .parts, length-append qs rs);
@@ -86,15 +86,15 @@ then-appended qs rs {s″ = s″} {p″ = p″} {t″ = t″} a b = record {
 
 -- ---- room for the first of some parts, and for the rest once they are appended
 
-pub room-first : (qs rs : List (List Pt)) (s : List ℕ) (p : List (List ℤ)) (t : Tally) → RoomFor s p t (qs ++ rs) → RoomFor s p t qs
-room-first qs rs s p t r = record {
+pub room-first : (qs rs : List (List Pt)) {s : List ℕ} {p : List (List ℤ)} {t : Tally} → RoomFor s p t (qs ++ rs) → RoomFor s p t qs
+room-first qs rs r = record {
   for-starts = omega (arith, r .for-starts, length-append qs rs);
   for-points = omega (arith, r .for-points, length-flatten-append qs rs);
   small = r .small;
 }
 
-pub room-rest : (qs rs : List (List Pt)) (s : List ℕ) (p : List (List ℤ)) (t : Tally) {s′ : List ℕ} {p′ : List (List ℤ)} {t′ : Tally} → RoomFor s p t (qs ++ rs) → PartsAppended qs s p t s′ p′ t′ → RoomFor s′ p′ t′ rs
-room-rest qs rs s p t r a = record {
+pub room-rest : {qs : List (List Pt)} (rs : List (List Pt)) {s : List ℕ} {p : List (List ℤ)} {t : Tally} {s′ : List ℕ} {p′ : List (List ℤ)} {t′ : Tally} → RoomFor s p t (qs ++ rs) → PartsAppended qs s p t s′ p′ t′ → RoomFor s′ p′ t′ rs
+room-rest {qs} rs r a = record {
   for-starts = omega (arith, r .for-starts, length-append qs rs, a .parts, a .starts-size);
   for-points = omega (arith, r .for-points, length-flatten-append qs rs, a .corners, a .points-size);
   small = omega (arith, r .small, a .points-size);

@@ -30,8 +30,8 @@ appended-one points n p h = record {
   written = ap (map cornerOf) (ap (λ k. take k (set points n (pairOf p))) (add-one n) ∙ take-suc-set points n (pairOf p) h) ∙ map-append cornerOf (take n points) (pairOf p ∷ []);
 }
 
-pub appended-more : (a b : List Pt) {p q r : List (List ℤ)} {i j k : ℕ} → Appended a p i q j → Appended b q j r k → Appended (a ++ b) p i r k
-appended-more a b {p} {q} {r} {i} {j} {k} f g = record {
+pub appended-more : {a b : List Pt} {p q r : List (List ℤ)} {i j k : ℕ} → Appended a p i q j → Appended b q j r k → Appended (a ++ b) p i r k
+appended-more {a} {b} {p} {q} {r} {i} {j} {k} f g = record {
   size = g .size ∙ f .size;
   count = omega (arith, f .count, g .count, length-append a b);
   written = g .written ∙ ap (λ l. l ++ b) (f .written) ∙ append-assoc (firstPoints i p) a b;

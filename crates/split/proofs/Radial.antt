@@ -98,19 +98,19 @@ part-of g e [] h = absurd (omega arith)
 part-of g e (a ∷ l) h = ap (λ n. contourArea (g ∷ take n (a ∷ l))) (add-one e) ∙ part-radial g a (take e l) ∙ ap (λ n. radial g (take n (a ∷ l))) (sym (add-one e))
 
 -- a group with no edges has no parts, and its path no wedges
-no-edges : (g : Pt) (s : ℕ) (l : List Pt) → s ≡ 0 → s < length l → pos 0 ≡ radial g (take (s + 1) l)
+no-edges : (g : Pt) {s : ℕ} (l : List Pt) → s ≡ 0 → s < length l → pos 0 ≡ radial g (take (s + 1) l)
 unfolding radial
-no-edges g s [] e h = absurd (omega arith)
-no-edges g s (a ∷ l) e h = ap (λ n. radial g (take n (a ∷ l))) (sym (one s e))
+no-edges g [] e h = absurd (omega arith)
+no-edges g {s} (a ∷ l) e h = ap (λ n. radial g (take n (a ∷ l))) (sym (one e))
   where
-    one : (s : ℕ) → s ≡ 0 → s + 1 ≡ 1
-    one s e = omega (arith, e)
+    one : {s : ℕ} → s ≡ 0 → s + 1 ≡ 1
+    one e = omega (arith, e)
 
 pub group-areas : (n : ℕ) (g : Pt) (s : ℕ) (l : List Pt) → s ≤ n → s < length l → sumℤ (map contourArea (groupParts n g s l)) ≡ radial g (take (s + 1) l)
 unfolding groupParts sumℤ
-group-areas zero g s l h k = no-edges g s l (omega arith) k
+group-areas zero g s l h k = no-edges g l (omega arith) k
 group-areas (suc n) g s l h k =
-    by-test (eqb s 0) (λ e. rw e (no-edges g s l (eqb-true s 0 e) k))
+    by-test (eqb s 0) (λ e. rw e (no-edges g l (eqb-true s 0 e) k))
     (λ d. let e : ℕ = edgesTaken g s l in
     let z : s ≡ 0 → ⊥ = eqb-false s 0 d in
     let few : e ≤ s = edgesTaken-le g s l (omega (arith, z)) in
@@ -121,7 +121,7 @@ group-areas (suc n) g s l h k =
 
 pub sectors-areas : (ss : List ℕ) (g : Pt) (l : List Pt) → sumℕ ss < length l → sumℤ (map contourArea (sectors ss g l)) ≡ radial g (take (sumℕ ss + 1) l)
 unfolding sectors sumℕ
-sectors-areas [] g l h = unfold sumℤ in no-edges g 0 l refl h
+sectors-areas [] g l h = unfold sumℤ in no-edges g l refl h
 sectors-areas (s ∷ ss) g l h =
     let t : ℕ = sumℕ ss in
     ap sumℤ (map-append contourArea (groupParts s g s l) (sectors ss g (drop s l))) ∙ sum-append (map contourArea (groupParts s g s l)) (map contourArea (sectors ss g (drop s l)))

@@ -259,14 +259,14 @@ all-few how m (l ∷ ps) h k =
     }
 
 -- Σ (n − 2) is at most the number of triangles
-pub split-parts-few : (how : ConvexSplitStrategy) (m : ℕ) (mesh : Mesh) → Accepted mesh → AllFew (raised m - 2) (parts mesh) (splitParts how m mesh)
+pub split-parts-few : (how : ConvexSplitStrategy) (m : ℕ) {mesh : Mesh} → Accepted mesh → AllFew (raised m - 2) (parts mesh) (splitParts how m mesh)
 unfolding splitParts
-split-parts-few how m mesh ok = all-few how (raised m) (parts mesh) (omega arith) (all-map (parts mesh) convex-three (parts-convex mesh ok))
+split-parts-few how m {mesh} ok = all-few how (raised m) (parts mesh) (omega arith) (all-map (parts mesh) convex-three (parts-convex mesh ok))
 
 pub split-table : SplitTable
 split-table how m mesh h =
     let ok = accepted mesh h in
-    let f = split-parts-few how m mesh ok in
+    let f = split-parts-few how m ok in
     let c = parts-corners mesh ok in
     let sizes : All (λ p. (3 ≤ length p) × (length p ≤ raised m)) (splitParts how m mesh) = all-map (splitParts how m mesh) (λ p s. (s .0, omega (arith, s .1))) (f .sizes) in
     let few : length (splitParts how m mesh) ≤ maxParts = omega (arith, f .some, c, ok .few) in
@@ -275,7 +275,7 @@ split-table how m mesh h =
       sizes = sizes;
       few-parts = few;
       few-corners = corners;
-      table = limits-sound (splitParts how m mesh) (record { parts = few; corners = omega arith; contours = unfold splitParts in all-short how (raised m) maxContour (parts mesh) (omega arith) (parts-short mesh ok) });
+      table = limits-sound (record { parts = few; corners = omega arith; contours = unfold splitParts in all-short how (raised m) maxContour (parts mesh) (omega arith) (parts-short mesh ok) });
     }
 
 pub split-count : SplitCount
@@ -287,13 +287,13 @@ split-count m (c ∷ l) h =
 
 -- ---- a limit that no part is past
 
-whole-all : (how : ConvexSplitStrategy) (m : ℕ) (ps : List (List Pt)) → All (λ l. length l ≤ m) ps → flatten (map (splitContour how m) ps) ≡ ps
+whole-all : (how : ConvexSplitStrategy) (m : ℕ) {ps : List (List Pt)} → All (λ l. length l ≤ m) ps → flatten (map (splitContour how m) ps) ≡ ps
 unfolding flatten splitContour
-whole-all how m [] h = refl
-whole-all how m (l ∷ ps) h = rw (le-leb (length l) m (h .0)) (ap (λ r. l ∷ r) (whole-all how m ps (h .1)))
+whole-all how m {ps = []} h = refl
+whole-all how m {ps = l ∷ ps} h = rw (le-leb (length l) m (h .0)) (ap (λ r. l ∷ r) (whole-all how m (h .1)))
 
 -- a part has at most two corners more than the mesh has triangles, so with such a limit each is
 -- left whole
-pub split-whole : (how : ConvexSplitStrategy) (m : ℕ) (mesh : Mesh) → Accepted mesh → length mesh + 2 ≤ raised m → splitParts how m mesh ≡ parts mesh
+pub split-whole : (how : ConvexSplitStrategy) (m : ℕ) {mesh : Mesh} → Accepted mesh → length mesh + 2 ≤ raised m → splitParts how m mesh ≡ parts mesh
 unfolding splitParts
-split-whole how m mesh ok h = whole-all how (raised m) (parts mesh) (all-map (parts mesh) (λ l k. omega (arith, k)) (parts-within mesh ok))
+split-whole how m {mesh} ok h = whole-all how (raised m) (all-map (parts mesh) (λ l k. omega (arith, k)) (parts-within mesh ok))

@@ -41,8 +41,8 @@ neighbours-fan : (a b : Pt) (l : List Pt) → neighbours (a ∷ b ∷ l) ≡ (a,
 neighbours-fan a b l = neighbours-cons a (b ∷ l) ∙ links-cons a b (l ++ (a ∷ [])) ∙ ap (λ r. (a, b) ∷ r) (links-last b l a)
 
 module _ (g : Pt × Pt → ℤ) (left : (v : Pt) → g (O, v) ≡ pos 0) (right : (v : Pt) → g (v, O) ≡ pos 0) where
-  sum-fan : (a b : Pt) (l : List Pt) → a ≡ O → sumℤ (map g (neighbours (a ∷ b ∷ l))) ≡ sumℤ (map g (links b l))
-  sum-fan a b l e =
+  sum-fan : {a : Pt} (b : Pt) (l : List Pt) → a ≡ O → sumℤ (map g (neighbours (a ∷ b ∷ l))) ≡ sumℤ (map g (links b l))
+  sum-fan {a} b l e =
       ap (λ r. sumℤ (map g r)) (neighbours-fan a b l) ∙ sum-cons (g (a, b)) (map g (links b l ++ ((lastOf b l, a) ∷ [])))
       ∙ ap (λ s. g (a, b) +ℤ sumℤ s) (map-append g (links b l) ((lastOf b l, a) ∷ [])) ∙ ap (λ s. g (a, b) +ℤ s) (sum-snoc (map g (links b l)) (g (lastOf b l, a)))
       ∙ (λ i. g (e i, b) +ℤ (sumℤ (map g (links b l)) +ℤ g (lastOf b l, e i)))
@@ -55,8 +55,8 @@ all-fan : (P : Pt × Pt → Type 0) (a b : Pt) (l : List Pt) → All P (neighbou
 all-fan P a b l h = all-append P (links b l) ((lastOf b l, a) ∷ []) .0 (subst (All P) (neighbours-fan a b l) h .1) .0
 
 -- no wedge at the first corner
-no-cross : (k c : ℤ) → c ≡ pos 0 → k *ℤ c ≡ pos 0
-no-cross k c e = ap (λ z. k *ℤ z) e ∙ zero k
+no-cross : (k : ℤ) {c : ℤ} → c ≡ pos 0 → k *ℤ c ≡ pos 0
+no-cross k e = ap (λ z. k *ℤ z) e ∙ zero k
   where
     zero : (k : ℤ) → k *ℤ pos 0 ≡ pos 0
     zero = ring (int ∷ []) (λ k. k :* con (pos 0) :≡ con (pos 0)) tt
@@ -66,12 +66,12 @@ module _ (c b : Pt) (l : List Pt) where
   seen = neighbours (seenFrom c (c ∷ b ∷ l))
 
   pub area-fan : areaOf seen ≡ areaOf (wedges c (c ∷ b ∷ l))
-  area-fan = sum-fan (λ e. cross (e .0) (e .1)) cross-zero-l cross-zero-r (c -ᵖ c) (b -ᵖ c) (seenFrom c l) (sub-self c)
+  area-fan = sum-fan (λ e. cross (e .0) (e .1)) cross-zero-l cross-zero-r (b -ᵖ c) (seenFrom c l) (sub-self c)
 
   pub moment-fan : (f : Pt → ℤ) → momentOf f seen ≡ momentOf f (wedges c (c ∷ b ∷ l))
   moment-fan f =
-      sum-fan (λ e. (f (e .0) +ℤ f (e .1)) *ℤ cross (e .0) (e .1)) (λ v. no-cross (f O +ℤ f v) (cross O v) (cross-zero-l v))
-      (λ v. no-cross (f v +ℤ f O) (cross v O) (cross-zero-r v)) (c -ᵖ c) (b -ᵖ c) (seenFrom c l) (sub-self c)
+      sum-fan (λ e. (f (e .0) +ℤ f (e .1)) *ℤ cross (e .0) (e .1)) (λ v. no-cross (f O +ℤ f v) (cross-zero-l v))
+      (λ v. no-cross (f v +ℤ f O) (cross-zero-r v)) (b -ᵖ c) (seenFrom c l) (sub-self c)
 
 -- ---- the wedges, by index
 
@@ -109,14 +109,14 @@ pub sofar-start : (c : Pt) (l : List Pt) → Sofar c l 0 noSums
 unfolding sumℤ
 sofar-start c l = record { area = refl; x = refl; y = refl }
 
-sum-take : {A : Type 0} (g : A → ℤ) (l : List A) (k : ℕ) (d e : A) → k < length l → getD l k d ≡ e → sumℤ (map g (take (suc k) l)) ≡ sumℤ (map g (take k l)) +ℤ g e
-sum-take g l k d e h p =
+sum-take : {A : Type 0} (g : A → ℤ) (l : List A) (k : ℕ) (d : A) {e : A} → k < length l → getD l k d ≡ e → sumℤ (map g (take (suc k) l)) ≡ sumℤ (map g (take k l)) +ℤ g e
+sum-take g l k d {e} h p =
     ap (λ r. sumℤ (map g r)) (take-suc l k d h ∙ ap (λ z. take k l ++ (z ∷ [])) p) ∙ ap sumℤ (map-append g (take k l) (e ∷ [])) ∙ sum-snoc (map g (take k l)) (g e)
 
 module _ (c : Pt) (l : List Pt) (i : ℕ) (h : 2 ≤ i) (k : i < length l) where
   -- one wedge more
   more : (g : Pt × Pt → ℤ) → sumℤ (map g (take (suc (i - 2)) (wedges c l))) ≡ sumℤ (map g (take (i - 2) (wedges c l))) +ℤ g (getD l (i - 1) O -ᵖ c, getD l i O -ᵖ c)
-  more g = sum-take g (wedges c l) (i - 2) (O, O) (getD l (i - 1) O -ᵖ c, getD l i O -ᵖ c) (omega (arith, length-wedges c l)) (wedge-at c l i h k)
+  more g = sum-take g (wedges c l) (i - 2) (O, O) (omega (arith, length-wedges c l)) (wedge-at c l i h k)
 
   pub sofar-turn : {s r : Sums} → Sofar c l (i - 2) s → Added s (getD l (i - 1) O -ᵖ c) (getD l i O -ᵖ c) r → Sofar c l (i + 1 - 2) r
   sofar-turn {s} {r} p q =
@@ -170,15 +170,15 @@ module _ (c b : Pt) (l : List Pt) (h : Summable (c ∷ b ∷ l)) where
         omega (
           arith,
           area-below k,
-          moment-size f (f c) (small c (h .grid .0)) (take k (wedges c (c ∷ b ∷ l))) (all-take _ k (wedges c (c ∷ b ∷ l)) wedges-left)
+          moment-size f (small c (h .grid .0)) (take k (wedges c (c ∷ b ∷ l))) (all-take _ k (wedges c (c ∷ b ∷ l)) wedges-left)
               (all-take _ k (wedges c (c ∷ b ∷ l)) (all-fan _ (c -ᵖ c) (b -ᵖ c) (seenFrom c l) (edges-between f minus small c (b ∷ l) h))),
         )
 
 -- there is room for one wedge more
-pub sofar-room : (l : List Pt) → Summable l → (i : ℕ) → 2 ≤ i → i < length l → {s : Sums} → Sofar (getD l 0 O) l (i - 2) s → Roomy s (cross (getD l (i - 1) O -ᵖ getD l 0 O) (getD l i O -ᵖ getD l 0 O))
-sofar-room [] h i g k p = absurd (omega arith)
-sofar-room (c ∷ []) h i g k p = absurd (omega arith)
-sofar-room (c ∷ b ∷ l) h i g k {s} p = record {
+pub sofar-room : {l : List Pt} → Summable l → (i : ℕ) → 2 ≤ i → i < length l → {s : Sums} → Sofar (getD l 0 O) l (i - 2) s → Roomy s (cross (getD l (i - 1) O -ᵖ getD l 0 O) (getD l i O -ᵖ getD l 0 O))
+sofar-room {l = []} h i g k p = absurd (omega arith)
+sofar-room {l = c ∷ []} h i g k p = absurd (omega arith)
+sofar-room {l = c ∷ b ∷ l} h i g k {s} p = record {
   area =
       subst (λ z. natAbs z < 2 ^ 63) (more c (c ∷ b ∷ l) i g k (λ e. cross (e .0) (e .1)) ∙ ap (λ z. z +ℤ cross (getD (c ∷ b ∷ l) (i - 1) O -ᵖ c) (getD (c ∷ b ∷ l) i O -ᵖ c)) (sym (p .area))) (area-below c b l h (suc (i - 2)));
   x = high (s .x) (p .x) (moment-below c b l h (λ p. p .x) (λ a b. refl) (λ p g. on-grid-both p g .0) (i - 2));
@@ -189,11 +189,11 @@ sofar-room (c ∷ b ∷ l) h i g k {s} p = record {
     high v e g = omega (arith, high-below v (subst (λ z. natAbs z < 2 ^ 96) (sym e) g))
 
 -- all wedges
-pub sofar-end : (l : List Pt) → 2 ≤ length l → {s : Sums} → Sofar (getD l 0 O) l (length l - 2) s → Summed l s
+pub sofar-end : {l : List Pt} → 2 ≤ length l → {s : Sums} → Sofar (getD l 0 O) l (length l - 2) s → Summed l s
 unfolding contourArea momentX momentY
-sofar-end [] h p = absurd (omega arith)
-sofar-end (c ∷ []) h p = absurd (omega arith)
-sofar-end (c ∷ b ∷ l) h p = record {
+sofar-end {l = []} h p = absurd (omega arith)
+sofar-end {l = c ∷ []} h p = absurd (omega arith)
+sofar-end {l = c ∷ b ∷ l} h p = record {
   area = p .area ∙ ap areaOf all ∙ sym (area-fan c b l);
   x = p .x ∙ ap (momentOf (λ p. p .x)) all ∙ sym (moment-fan c b l (λ p. p .x));
   y = p .y ∙ ap (momentOf (λ p. p .y)) all ∙ sym (moment-fan c b l (λ p. p .y));

@@ -108,33 +108,33 @@ high z = pos 1073741823 -ℤ z
 abbrev pub Between : ℤ → ℤ → Type 0
 Between s z = (low s ≤ℤ z) × (z ≤ℤ high s)
 
-between : (z s : ℤ) → Coordinate z → Coordinate s → Between s (z -ℤ s)
-between z s h k =
+between : {z s : ℤ} → Coordinate z → Coordinate s → Between s (z -ℤ s)
+between {z} {s} h k =
     (omega (zarith, sub-parts z s, sub-parts (negsuc 1073741822) s, abs-parts z, h .abs), omega (zarith, sub-parts z s, sub-parts (pos 1073741823) s, abs-parts z, h .abs))
 
 in-range : (z : ℤ) → negsuc 1073741822 ≤ℤ z → z ≤ℤ pos 1073741823 → inRange z ≡ true
 unfolding inRange
 in-range z h k = rw (<-leZ {x = z} {y = negsuc 1073741823} (omega zarith)) (<-ltZ {x = z} {y = pos 1073741824} (omega zarith))
 
-low-below : (z : ℤ) → Coordinate z → low z ≤ℤ pos 0
-low-below z h = omega (zarith, sub-parts (negsuc 1073741822) z, abs-parts z, h .abs)
+low-below : {z : ℤ} → Coordinate z → low z ≤ℤ pos 0
+low-below {z} h = omega (zarith, sub-parts (negsuc 1073741822) z, abs-parts z, h .abs)
 
-high-above : (z : ℤ) → Coordinate z → pos 0 ≤ℤ high z
-high-above z h = omega (zarith, sub-parts (pos 1073741823) z, abs-parts z, h .abs)
+high-above : {z : ℤ} → Coordinate z → pos 0 ≤ℤ high z
+high-above {z} h = omega (zarith, sub-parts (pos 1073741823) z, abs-parts z, h .abs)
 
 -- |M| ≤ 2 (2^31 - 2) A
-size-of : (k : ℤ) → Coordinate k → (A M : ℤ) → pos 0 ≤ℤ A → ((low k +ℤ low k) *ℤ A) ≤ℤ M → M ≤ℤ ((high k +ℤ high k) *ℤ A) → natAbs M ≤ 4294967292 * natAbs A
-size-of k h (negsuc a) M p l u = absurd (p .le)
-size-of k h (pos a) M p l u =
-    let t : M ≤ℤ pos (4294967292 * a) = most (high k) a M (nn-mul p (sub-of-≤ (high-most k h))) u in
-    let b : (pos 0 -ℤ pos (4294967292 * a)) ≤ℤ M = least (low k) a M (nn-mul p (low-least k h)) l in
+size-of : {k : ℤ} → Coordinate k → (A M : ℤ) → pos 0 ≤ℤ A → ((low k +ℤ low k) *ℤ A) ≤ℤ M → M ≤ℤ ((high k +ℤ high k) *ℤ A) → natAbs M ≤ 4294967292 * natAbs A
+size-of h (negsuc a) M p l u = absurd (p .le)
+size-of {k} h (pos a) M p l u =
+    let t : M ≤ℤ pos (4294967292 * a) = most (high k) a M (nn-mul p (sub-of-≤ (high-most h))) u in
+    let b : (pos 0 -ℤ pos (4294967292 * a)) ≤ℤ M = least (low k) a M (nn-mul p (low-least h)) l in
     omega (zarith, t, b, sub-parts (pos 0) (pos (4294967292 * a)), abs-parts M)
   where
-    high-most : (k : ℤ) → Coordinate k → high k ≤ℤ pos 2147483646
-    high-most k h = omega (zarith, sub-parts (pos 1073741823) k, abs-parts k, h .abs)
+    high-most : {k : ℤ} → Coordinate k → high k ≤ℤ pos 2147483646
+    high-most {k} h = omega (zarith, sub-parts (pos 1073741823) k, abs-parts k, h .abs)
 
-    low-least : (k : ℤ) → Coordinate k → pos 0 ≤ℤ (low k +ℤ pos 2147483646)
-    low-least k h = omega (zarith, sub-parts (negsuc 1073741822) k, add-parts (low k) (pos 2147483646), abs-parts k, h .abs)
+    low-least : {k : ℤ} → Coordinate k → pos 0 ≤ℤ (low k +ℤ pos 2147483646)
+    low-least {k} h = omega (zarith, sub-parts (negsuc 1073741822) k, add-parts (low k) (pos 2147483646), abs-parts k, h .abs)
 
     most : (h : ℤ) (a : ℕ) (M : ℤ) → pos 0 ≤ℤ (pos a *ℤ (pos 2147483646 -ℤ h)) → M ≤ℤ ((h +ℤ h) *ℤ pos a) → M ≤ℤ (pos 4294967292 *ℤ pos a)
     most = arithℤ (int ∷ nat ∷ int ∷ []) (λ h a M. con (pos 0) :≤ a :* (con (pos 2147483646) :- h) ⇒ M :≤ (h :+ h) :* a ⇒ M :≤ con (pos 4294967292) :* a) (omega arith)
@@ -143,9 +143,9 @@ size-of k h (pos a) M p l u =
     least = arithℤ (int ∷ nat ∷ int ∷ []) (λ h a M. con (pos 0) :≤ a :* (h :+ con (pos 2147483646)) ⇒ (h :+ h) :* a :≤ M ⇒ con (pos 0) :- con (pos 4294967292) :* a :≤ M) (omega arith)
 
 -- of edges whose ends are between the limits seen from k
-pub moment-size : (f : Pt → ℤ) (k : ℤ) → Coordinate k → (m : List (Pt × Pt)) → Wedges m → All (λ e. Between k (f (e .0)) × Between k (f (e .1))) m → natAbs (momentOf f m) ≤ 4294967292 * natAbs (areaOf m)
-moment-size f k h m w b =
-    size-of k h (areaOf m) (momentOf f m) (area-least m w) (moment-least f (low k) m w (all-map m (λ e b. (b .0 .0, b .1 .0)) b)) (moment-most f (high k) m w (all-map m (λ e b. (b .0 .1, b .1 .1)) b))
+pub moment-size : (f : Pt → ℤ) {k : ℤ} → Coordinate k → (m : List (Pt × Pt)) → Wedges m → All (λ e. Between k (f (e .0)) × Between k (f (e .1))) m → natAbs (momentOf f m) ≤ 4294967292 * natAbs (areaOf m)
+moment-size f {k} h m w b =
+    size-of h (areaOf m) (momentOf f m) (area-least m w) (moment-least f (low k) m w (all-map m (λ e b. (b .0 .0, b .1 .0)) b)) (moment-most f (high k) m w (all-map m (λ e b. (b .0 .1, b .1 .1)) b))
 
 from-offset : (z r : ℤ) → low z ≤ℤ r → r ≤ℤ high z → inRange (z +ℤ r) ≡ true
 from-offset z r h k =
@@ -169,7 +169,7 @@ module _ (f : Pt → ℤ) (minus : (a b : Pt) → f (a -ᵖ b) ≡ f a -ℤ f b)
   corners-between : All (λ p. Between (f c) (f p)) (seenFrom c (c ∷ l))
   corners-between =
       all-image (λ p. Between (f c) (f p)) (λ p. p -ᵖ c) (c ∷ l) .1
-      (all-map (c ∷ l) (λ p g. rw (minus p c) (between (f p) (f c) (small p g) (small c (h .grid .0)))) (h .grid))
+      (all-map (c ∷ l) (λ p g. rw (minus p c) (between (small p g) (small c (h .grid .0)))) (h .grid))
 
   pub edges-between : All (λ e. Between (f c) (f (e .0)) × Between (f c) (f (e .1))) seen
   edges-between = all-neighbours (λ p. Between (f c) (f p)) (seenFrom c (c ∷ l)) corners-between
@@ -185,9 +185,9 @@ module _ (f : Pt → ℤ) (minus : (a b : Pt) → f (a -ᵖ b) ≡ f a -ℤ f b)
       let k : Coordinate (f c) = small c (h .grid .0) in
       let d : 0 < 3 * natAbs (areaOf seen) = omega (zarith, area-above, abs-parts (areaOf seen)) in (
         rounded-least (momentOf f seen) (low (f c)) (3 * natAbs (areaOf seen)) d
-            (third-least (low (f c)) (areaOf seen) (momentOf f seen) (low-below (f c) k) area-above (moment-between .0)),
+            (third-least (low (f c)) (areaOf seen) (momentOf f seen) (low-below k) area-above (moment-between .0)),
         rounded-most (momentOf f seen) (high (f c)) (3 * natAbs (areaOf seen)) d
-            (third-most (high (f c)) (areaOf seen) (momentOf f seen) (high-above (f c) k) area-above (moment-between .1)),
+            (third-most (high (f c)) (areaOf seen) (momentOf f seen) (high-above k) area-above (moment-between .1)),
       )
 
   -- where a coordinate of every corner is at least a, the centre's is; where at most, too

@@ -27,10 +27,10 @@ nearest-least n j d h k = le-div-iff-mul-le {k = 2 * d} {x = j} {y = 2 * n + d} 
 
 pub rounded-neg : (m : ℤ) (d : ℕ) → 0 < d → rounded (negℤ m) d ≡ negℤ (rounded m d)
 unfolding rounded
-rounded-neg (pos zero) d h = none (nearest 0 d) (div-eq-of-lt {n = 2 * 0 + d} {m = 2 * d} (omega arith))
+rounded-neg (pos zero) d h = none (div-eq-of-lt {n = 2 * 0 + d} {m = 2 * d} (omega arith))
   where
-    none : (q : ℕ) → q ≡ 0 → pos q ≡ negℤ (pos q)
-    none q e = omega (zarith, neg-parts (pos q))
+    none : {q : ℕ} → q ≡ 0 → pos q ≡ negℤ (pos q)
+    none {q} e = omega (zarith, neg-parts (pos q))
 rounded-neg (pos (suc n)) d h = refl
 rounded-neg (negsuc n) d h = twice (nearest (suc n) d)
   where

@@ -46,7 +46,7 @@ module _ (contour : List (List ℤ)) (i : ℕ) (points : List (List ℤ)) (count
   -- the first k corners of a run are appended, and one more
   pub run-turn : (k : ℕ) {points′ points″ : List (List ℤ)} {n m : ℕ} → i + k < length contour → Appended (runOf contour i k) points count points′ n → Appended (cornerIn contour (i + k) ∷ []) points′ n points″ m → Appended (runOf contour i (k + 1)) points count points″ m
   run-turn k {points″ = points″} {m = m} h a b =
-      subst (λ l. Appended l points count points″ m) (sym (run-more contour i k h)) (appended-more (runOf contour i k) (cornerIn contour (i + k) ∷ []) a b)
+      subst (λ l. Appended l points count points″ m) (sym (run-more contour i k h)) (appended-more a b)
 
 -- ---- one part
 
@@ -63,12 +63,12 @@ module _ (s : List ℕ) (p : List (List ℤ)) (t : Tally) where
   room-run a l r e = omega (arith, room-points (a ∷ l) r, e .count, e .size)
 
   -- the part's end has a number of 32 bits
-  pub room-end : (q : List Pt) {p′ : List (List ℤ)} {n : ℕ} → RoomFor s p t (q ∷ []) → Appended q p (t .corners) p′ n → n < 2 ^ 32
-  room-end q r e = omega (arith, room-points q r, e .count, r .small)
+  pub room-end : {q : List Pt} {p′ : List (List ℤ)} {n : ℕ} → RoomFor s p t (q ∷ []) → Appended q p (t .corners) p′ n → n < 2 ^ 32
+  room-end {q} r e = omega (arith, room-points q r, e .count, r .small)
 
 -- a part's points are put after the others, and the part is ended
-pub part-ended : (q : List Pt) (s : List ℕ) (p : List (List ℤ)) (t : Tally) {s′ : List ℕ} {p′ : List (List ℤ)} {n : ℕ} {r : Tally} → RoomFor s p t (q ∷ []) → Appended q p (t .corners) p′ n → (s′ ≡ set s (t .parts + 1) n) × (r ≡ record { parts = t .parts + 1; corners = n }) → PartsAppended (q ∷ []) s p t s′ p′ r
-part-ended q s p t {s′} {p′} room a e = subst (PartsAppended (q ∷ []) s p t s′ p′) (sym (e .1)) (part-appended q s p t (room .for-starts) a (e .0))
+pub part-ended : {q : List Pt} {s : List ℕ} {p : List (List ℤ)} {t : Tally} {s′ : List ℕ} {p′ : List (List ℤ)} {n : ℕ} {r : Tally} → RoomFor s p t (q ∷ []) → Appended q p (t .corners) p′ n → (s′ ≡ set s (t .parts + 1) n) × (r ≡ record { parts = t .parts + 1; corners = n }) → PartsAppended (q ∷ []) s p t s′ p′ r
+part-ended {q} {s} {p} {t} {s′} {p′} room a e = subst (PartsAppended (q ∷ []) s p t s′ p′) (sym (e .1)) (part-appended s t (room .for-starts) a (e .0))
 
 -- ---- parts appended in turn: of the parts qs, those before rest
 
@@ -85,12 +85,12 @@ module _ (qs : List (List Pt)) (s₀ : List ℕ) (p₀ : List (List ℤ)) (t₀ 
     -- there is room for the parts that come next
     pub partway-room : (ps rest′ : List (List Pt)) {rest : List (List Pt)} → RoomFor s₀ p₀ t₀ qs → Partway qs rest s₀ p₀ t₀ s p t → rest ≡ ps ++ rest′ → RoomFor s p t ps
     partway-room ps rest′ {rest} r k e =
-        room-first ps rest′ s p t (subst (RoomFor s p t) e (room-rest (k .done) rest s₀ p₀ t₀ (subst (RoomFor s₀ p₀ t₀) (sym (k .whole)) r) (k .appended)))
+        room-first ps rest′ (subst (RoomFor s p t) e (room-rest rest (subst (RoomFor s₀ p₀ t₀) (sym (k .whole)) r) (k .appended)))
 
-    pub partway-turn : (ps : List (List Pt)) {rest rest′ : List (List Pt)} {s′ : List ℕ} {p′ : List (List ℤ)} {t′ : Tally} → Partway qs rest s₀ p₀ t₀ s p t → rest ≡ ps ++ rest′ → PartsAppended ps s p t s′ p′ t′ → Partway qs rest′ s₀ p₀ t₀ s′ p′ t′
-    partway-turn ps {rest′ = rest′} k e a = record {
+    pub partway-turn : {ps : List (List Pt)} {rest rest′ : List (List Pt)} {s′ : List ℕ} {p′ : List (List ℤ)} {t′ : Tally} → Partway qs rest s₀ p₀ t₀ s p t → rest ≡ ps ++ rest′ → PartsAppended ps s p t s′ p′ t′ → Partway qs rest′ s₀ p₀ t₀ s′ p′ t′
+    partway-turn {ps} {rest′ = rest′} k e a = record {
       done = k .done ++ ps;
-      appended = then-appended (k .done) ps (k .appended) a;
+      appended = then-appended (k .appended) a;
       whole = append-assoc (k .done) ps rest′ ∙ ap (λ l. k .done ++ l) (sym e) ∙ k .whole;
     }
 

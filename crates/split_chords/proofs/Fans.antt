@@ -59,7 +59,7 @@ module _ (contour : List (List ℤ)) (s₀ : List ℕ) (p₀ : List (List ℤ)) 
       pub fanning-turn : {s′ : List ℕ} {p′ : List (List ℤ)} {t′ : Tally} → PartsAppended ((cornerIn contour 0 ∷ runOf contour start (m + 1)) ∷ []) s p t s′ p′ t′ → Fanning contour qs n k (i + 1) (start + m) s₀ p₀ t₀ s′ p′ t′
       fanning-turn a = record {
         size = omega (arith, f .size, sum-next n k i h, e);
-        partway = partway-turn qs s₀ p₀ t₀ ((cornerIn contour 0 ∷ runOf contour start (m + 1)) ∷ []) (f .partway) next a;
+        partway = partway-turn qs s₀ p₀ t₀ (f .partway) next a;
       }
 
     pub fanning-end : k ≤ i → PartsAppended qs s₀ p₀ t₀ s p t

@@ -42,10 +42,10 @@ corners-all contour =
     ∙ take-all (length contour) (cornersIn contour) (omega (arith, length-map contour cornerOf))
 
 module _ (contour : List (List ℤ)) (s₀ : List ℕ) (p₀ : List (List ℤ)) (t₀ : Tally) where
-  pub clipping-start : (limit : ℕ) (ring : List ℕ) {k : ℕ} → 3 ≤ length contour → 0 < k → k ≡ ceilDiv (length contour - 2) (limit - 2) → Fresh ring (length contour) → Clipping contour (earParts limit (cornersIn contour)) (length contour - 2) k 0 0 ring s₀ p₀ t₀ s₀ p₀ t₀
-  clipping-start limit ring {k} h some e f = record {
+  pub clipping-start : (limit : ℕ) {ring : List ℕ} {k : ℕ} → 3 ≤ length contour → 0 < k → k ≡ ceilDiv (length contour - 2) (limit - 2) → Fresh ring (length contour) → Clipping contour (earParts limit (cornersIn contour)) (length contour - 2) k 0 0 ring s₀ p₀ t₀ s₀ p₀ t₀
+  clipping-start limit {k} h some e f = record {
     left = upTo (length contour);
-    ringed = ringed-start ring (length contour) (omega arith) f;
+    ringed = ringed-start (omega arith) f;
     here = sym (getD-upTo (length contour) 0 0 (omega arith));
     size = omega (arith, h, length-upTo (length contour), ap sumℕ (shares-all (length contour - 2) k), sum-shares (length contour - 2) k some);
     partway = partway-start (earParts limit (cornersIn contour)) s₀ p₀ t₀
@@ -91,7 +91,7 @@ module _ (contour : List (List ℤ)) (s₀ : List ℕ) (p₀ : List (List ℤ)) 
               ringed = ringed-turn ring (length contour) (f .left) (f .ringed) (m + 1) (omega arith) enough c;
               here = b ∙ ap (λ j. getD ring′ j 0) (f .here) ∙ ringed-next ring (length contour) (f .left) (f .ringed) (m + 1) (omega arith) enough c;
               size = omega (arith, f .size, sum-next n k i h, e, length-append (drop (m + 1) (f .left)) (take 1 (f .left)), length-drop (m + 1) (f .left), length-take-le 1 (f .left) (omega (arith, enough)));
-              partway = partway-turn qs s₀ p₀ t₀ ((cornerIn contour start ∷ cornersAfter contour ring start (m + 1)) ∷ []) (f .partway) next (a .1);
+              partway = partway-turn qs s₀ p₀ t₀ (f .partway) next (a .1);
             }
 
     pub clipping-end : k ≤ i → PartsAppended qs s₀ p₀ t₀ s p t

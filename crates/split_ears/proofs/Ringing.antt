@@ -26,8 +26,8 @@ use Rattle.split_ears.specs.Rings.{stepped, cornersAfter, Ring, Fresh}
 abbrev pub Filled : List ℕ → ℕ → Type 0
 Filled ring i = (j : ℕ) → j < i → getD ring j 0 ≡ j + 1
 
-pub filled-turn : (ring : List ℕ) (i : ℕ) {ring′ : List ℕ} → i < length ring → Filled ring i → ring′ ≡ set ring i (i + 1) → Filled ring′ (i + 1)
-filled-turn ring i h f e j k =
+pub filled-turn : (ring : List ℕ) {i : ℕ} {ring′ : List ℕ} → i < length ring → Filled ring i → ring′ ≡ set ring i (i + 1) → Filled ring′ (i + 1)
+filled-turn ring {i} h f e j k =
     ap (λ l. getD l j 0) e
     ∙ by-test (eqb j i)
     (λ t. let q : j ≡ i = eqb-true j i t in ap (λ n. getD (set ring i (i + 1)) n 0) q ∙ getD-set-same ring i (i + 1) 0 h ∙ ap (λ n. n + 1) (sym q))
@@ -76,7 +76,7 @@ module _ (contour : List (List ℤ)) (ring : List ℕ) (i : ℕ) where
       let q : m ≡ n + (k + 1) = omega (arith, b .count) in
       let l : cornersAfter contour ring i k ++ (cornerIn contour e ∷ []) ≡ cornersAfter contour ring i (k + 1) =
       ap (λ j. cornersAfter contour ring i k ++ (cornerIn contour j ∷ [])) (f ∙ ap (stepped ring i) (add-one k)) ∙ sym (after-more k) ∙ ap (cornersAfter contour ring i) (sym (add-one k)) in
-      subst (λ r. Appended (cornersAfter contour ring i (k + 1)) p n p″ r) q (subst (λ r. Appended r p n p″ m) l (appended-more (cornersAfter contour ring i k) (cornerIn contour e ∷ []) a b))
+      subst (λ r. Appended (cornersAfter contour ring i (k + 1)) p n p″ r) q (subst (λ r. Appended r p n p″ m) l (appended-more a b))
 
 -- ---- the corners not yet clipped
 
@@ -88,8 +88,8 @@ pub record Ringed (ring : List ℕ) (n : ℕ) (ks : List ℕ) : Type 0 where
   pub closed : 0 < length ks → getD ring (getD ks (length ks - 1) 0) 0 ≡ getD ks 0 0
   pub distinct : (i j : ℕ) → i < length ks → j < length ks → getD ks i 0 ≡ getD ks j 0 → i ≡ j
 
-pub ringed-start : (ring : List ℕ) (n : ℕ) → 0 < n → Fresh ring n → Ringed ring n (upTo n)
-ringed-start ring n some f = record {
+pub ringed-start : {ring : List ℕ} {n : ℕ} → 0 < n → Fresh ring n → Ringed ring n (upTo n)
+ringed-start {ring} {n} some f = record {
   steps = record { room = f .room; below = below };
   within = λ j h. omega (arith, at j h, size);
   linked = λ j h. ap (λ i. getD ring i 0) (at j (omega arith)) ∙ f .next j (omega (arith, size)) ∙ sym (at (j + 1) h);

@@ -58,5 +58,5 @@ split-is-operand how m mesh b h range around =
 
 pub split-pairs : SplitPairs
 split-pairs reflected l r a b =
-    first-next 7 _ _ (a .table) ∙ first-next 7 _ _ (b .table) ∙ first-next 2 _ _ (a .range) ∙ first-next 2 _ _ (b .range)
-    ∙ first-next 9 _ _ (a .bounds) ∙ first-next 9 _ _ (b .bounds) ∙ first-next 8 _ _ (a .windings false) ∙ first-next 8 _ _ (b .windings reflected)
+    first-next 7 _ (a .table) ∙ first-next 7 _ (b .table) ∙ first-next 2 _ (a .range) ∙ first-next 2 _ (b .range)
+    ∙ first-next 9 _ (a .bounds) ∙ first-next 9 _ (b .bounds) ∙ first-next 8 _ (a .windings false) ∙ first-next 8 _ (b .windings reflected)

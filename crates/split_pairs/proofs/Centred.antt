@@ -96,10 +96,10 @@ about-triples g a b l h k =
     (s, triples-fan g a b l s (k .1))
 
 -- the part of a group of s edges that starts at the first of l
-group-polygon : (g : Pt) (s : ℕ) (l : List Pt) → 0 < s → s < length l → Around g l → Polygon (g ∷ take (edgesTaken g s l + 1) l)
-group-polygon g s [] z h k = absurd (omega arith)
-group-polygon g s (a ∷ []) z h k = absurd (omega arith)
-group-polygon g s (a ∷ b ∷ l) z h k =
+group-polygon : {g : Pt} (s : ℕ) (l : List Pt) → 0 < s → s < length l → Around g l → Polygon (g ∷ take (edgesTaken g s l + 1) l)
+group-polygon s [] z h k = absurd (omega arith)
+group-polygon s (a ∷ []) z h k = absurd (omega arith)
+group-polygon {g} s (a ∷ b ∷ l) z h k =
     let t : ℕ = taking g a (s - 1) l in
     subst (λ n. Polygon (g ∷ take n (a ∷ b ∷ l))) (sym (add-one (suc t)))
     (record {
@@ -118,7 +118,7 @@ group-polygons (suc n) g s l h k =
     let z : s ≡ 0 → ⊥ = eqb-false s 0 d in
     let e : ℕ = edgesTaken g s l in
     let few : e ≤ s = edgesTaken-le g s l (omega (arith, z)) in
-    rw d (group-polygon g s l (omega (arith, z)) h k, group-polygons n g (s - e) (drop e l) (omega (arith, few, length-drop e l)) (around-drop g e l k)))
+    rw d (group-polygon s l (omega (arith, z)) h k, group-polygons n g (s - e) (drop e l) (omega (arith, few, length-drop e l)) (around-drop g e l k)))
 
 sector-polygons : (ss : List ℕ) (g : Pt) (l : List Pt) → sumℕ ss < length l → Around g l → All Polygon (sectors ss g l)
 unfolding sectors sumℕ

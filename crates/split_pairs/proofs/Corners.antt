@@ -21,35 +21,35 @@ module _ (P : Pt → Type 0) where
   clipped-corners (s ∷ ss) l h =
       (all-take P (s + 2) l h, clipped-corners ss (drop (s + 1) l ++ take 1 l) (all-append P (drop (s + 1) l) (take 1 l) .1 (all-drop P (s + 1) l h, all-take P 1 l h)))
 
-  fanned-corners : (ss : List ℕ) (c : Pt) (l : List Pt) → P c → All P l → All (All P) (fanned ss c l)
+  fanned-corners : (ss : List ℕ) {c : Pt} (l : List Pt) → P c → All P l → All (All P) (fanned ss c l)
   unfolding fanned
-  fanned-corners [] c l k h = tt
-  fanned-corners (s ∷ ss) c l k h = ((k, all-take P (s + 1) l h), fanned-corners ss c (drop s l) k (all-drop P s l h))
+  fanned-corners [] l k h = tt
+  fanned-corners (s ∷ ss) l k h = ((k, all-take P (s + 1) l h), fanned-corners ss (drop s l) k (all-drop P s l h))
 
   fan-corners : (m : ℕ) (l : List Pt) → All P l → All (All P) (fanParts m l)
   unfolding fanParts
   fan-corners m [] h = tt
-  fan-corners m (c ∷ l) h = fanned-corners (triangleShares (suc (length l)) m) c l (h .0) (h .1)
+  fan-corners m (c ∷ l) h = fanned-corners (triangleShares (suc (length l)) m) l (h .0) (h .1)
 
-  group-corners : (n : ℕ) (g : Pt) (s : ℕ) (l : List Pt) → P g → All P l → All (All P) (groupParts n g s l)
+  group-corners : (n : ℕ) {g : Pt} (s : ℕ) (l : List Pt) → P g → All P l → All (All P) (groupParts n g s l)
   unfolding groupParts
-  group-corners zero g s l k h = tt
-  group-corners (suc n) g s l k h =
+  group-corners zero s l k h = tt
+  group-corners (suc n) {g} s l k h =
       let e : ℕ = edgesTaken g s l in
-      by-test (eqb s 0) (λ d. rw d tt) (λ d. rw d ((k, all-take P (e + 1) l h), group-corners n g (s - e) (drop e l) k (all-drop P e l h)))
+      by-test (eqb s 0) (λ d. rw d tt) (λ d. rw d ((k, all-take P (e + 1) l h), group-corners n (s - e) (drop e l) k (all-drop P e l h)))
 
-  pub sector-corners : (ss : List ℕ) (g : Pt) (l : List Pt) → P g → All P l → All (All P) (sectors ss g l)
+  pub sector-corners : (ss : List ℕ) {g : Pt} (l : List Pt) → P g → All P l → All (All P) (sectors ss g l)
   unfolding sectors
-  sector-corners [] g l k h = tt
-  sector-corners (s ∷ ss) g l k h =
-      all-append (All P) (groupParts s g s l) (sectors ss g (drop s l)) .1 (group-corners s g s l k h, sector-corners ss g (drop s l) k (all-drop P s l h))
+  sector-corners [] l k h = tt
+  sector-corners (s ∷ ss) {g} l k h =
+      all-append (All P) (groupParts s g s l) (sectors ss g (drop s l)) .1 (group-corners s s l k h, sector-corners ss (drop s l) k (all-drop P s l h))
 
   centred-corners : (m : ℕ) (l : List Pt) → All P l → P (roundedCentre l) → All (All P) (centredParts m l)
   unfolding centredParts
   centred-corners m [] h k = tt
   centred-corners m (c ∷ l) h k =
       by-test (centreServes (centreOf c (c ∷ l)) (c ∷ l))
-      (λ e. rw e (sector-corners (shares (suc (length l)) (ceilDiv (suc (length l)) (m - 2))) (centreOf c (c ∷ l)) (c ∷ l ++ (c ∷ [])) k (h .0, all-append P l (c ∷ []) .1 (h .1, (h .0, tt)))))
+      (λ e. rw e (sector-corners (shares (suc (length l)) (ceilDiv (suc (length l)) (m - 2))) (c ∷ l ++ (c ∷ [])) k (h .0, all-append P l (c ∷ []) .1 (h .1, (h .0, tt)))))
       (λ e. rw e (fan-corners m (c ∷ l) h))
 
   by-corners : (how : ConvexSplitStrategy) (m : ℕ) (l : List Pt) → All P l → P (roundedCentre l) → All (All P) (splitBy how m l)

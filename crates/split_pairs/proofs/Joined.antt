@@ -37,20 +37,20 @@ use Rattle.split_pairs.specs.Premise.{PartsSummable}
 pub terms-most : (l : List ℤ) → All (λ k. pos 0 ≤ℤ k) l → All (λ k. k ≤ℤ sumℤ l) l
 terms-most [] h = tt
 terms-most (k ∷ l) h =
-    (first k (sumℤ l) (sumℤ (k ∷ l)) (sum-cons k l) (nn-sum l (h .1)), all-map l (λ j g. other j k (sumℤ l) (sumℤ (k ∷ l)) (sum-cons k l) (h .0) g) (terms-most l (h .1)))
+    (first k (sumℤ l) (sum-cons k l) (nn-sum l (h .1)), all-map l (λ j g. other j k (sumℤ l) (sum-cons k l) (h .0) g) (terms-most l (h .1)))
   where
-    first : (k t s : ℤ) → s ≡ k +ℤ t → pos 0 ≤ℤ t → k ≤ℤ s
-    first k t s e h = omega (zarith, add-parts k t)
+    first : (k t : ℤ) {s : ℤ} → s ≡ k +ℤ t → pos 0 ≤ℤ t → k ≤ℤ s
+    first k t e h = omega (zarith, add-parts k t)
 
-    other : (j k t s : ℤ) → s ≡ k +ℤ t → pos 0 ≤ℤ k → j ≤ℤ t → j ≤ℤ s
-    other j k t s e h g = omega (zarith, add-parts k t)
+    other : (j k t : ℤ) {s : ℤ} → s ≡ k +ℤ t → pos 0 ≤ℤ k → j ≤ℤ t → j ≤ℤ s
+    other j k t e h g = omega (zarith, add-parts k t)
 
 -- polygons whose doubled areas add up to what fits 64 bits: each does
 pub areas-fit : (ps : List (List Pt)) → All Polygon ps → sumℤ (map contourArea ps) ≤ℤ pos 9223372036854775807 → All (λ l. contourArea l ≤ℤ pos 9223372036854775807) ps
 areas-fit ps h k =
     all-image (λ z. z ≤ℤ pos 9223372036854775807) contourArea ps .0
     (all-map (map contourArea ps) (λ z g. ≤-trans g k)
-    (terms-most (map contourArea ps) (all-image (λ z. pos 0 ≤ℤ z) contourArea ps .1 (all-map ps (λ l p. <-≤ (polygon-area l p)) h))))
+    (terms-most (map contourArea ps) (all-image (λ z. pos 0 ≤ℤ z) contourArea ps .1 (all-map ps (λ l p. <-≤ (polygon-area p)) h))))
 
 -- ---- one part
 
@@ -66,13 +66,13 @@ seen-wedges (c ∷ l) h =
 pub fits-word : (z : ℤ) → pos 0 <ℤ z → z ≤ℤ pos 9223372036854775807 → natAbs z < 2 ^ 63
 fits-word z h k = omega (zarith, abs-parts z)
 
-summable : (l : List Pt) → Polygon l → All (λ p. onGrid p ≡ true) l → length l ≤ maxContour → contourArea l ≤ℤ pos 9223372036854775807 → Summable l
-summable l p g s k = record {
+summable : {l : List Pt} → Polygon l → All (λ p. onGrid p ≡ true) l → length l ≤ maxContour → contourArea l ≤ℤ pos 9223372036854775807 → Summable l
+summable {l} p g s k = record {
   grid = g;
   size = s;
   wedges = seen-wedges l (p .triples);
-  above = <-ltZ (polygon-area l p);
-  below = fits-word (contourArea l) (polygon-area l p) k;
+  above = <-ltZ (polygon-area p);
+  below = fits-word (contourArea l) (polygon-area p) k;
 }
 
 -- ---- all
@@ -86,4 +86,4 @@ parts-summable mesh h =
     let grid : All (All (λ p. onGrid p ≡ true)) ps = parts-vertices (λ p. onGrid p ≡ true) mesh ok (λ k i l. ok .on-grid k i l) in
     let shapes : All (λ l. Polygon l × All (λ p. onGrid p ≡ true) l) ps = all-map2 ps (λ l p g. (p, g)) polygons grid in
     let sizes : All (λ l. (length l ≤ maxContour) × (contourArea l ≤ℤ pos 9223372036854775807)) ps = all-map2 ps (λ l s f. (s, f)) (parts-short mesh ok) fit in
-    all-map2 ps (λ l a b. summable l (a .0) (a .1) (b .0) (b .1)) shapes sizes
+    all-map2 ps (λ l a b. summable (a .0) (a .1) (b .0) (b .1)) shapes sizes

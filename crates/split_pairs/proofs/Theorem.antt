@@ -40,33 +40,33 @@ pub serves-left : (g : Pt) (l : List Pt) → centreServes g l ≡ true → leftO
 unfolding centreServes
 serves-left g l h = by-test (ltZ (pos 3074457345618258602) (contourArea l)) (λ e. differ (rw e at h)) (λ e. rw e at h)
 
-by-polygons : (how : ConvexSplitStrategy) (m : ℕ) (l : List Pt) → 3 ≤ m → Polygon l → All Polygon (splitBy how m l)
+by-polygons : (how : ConvexSplitStrategy) (m : ℕ) {l : List Pt} → 3 ≤ m → Polygon l → All Polygon (splitBy how m l)
 unfolding centredParts
-by-polygons EarClipping m l h p = ear-polygons m l h p
-by-polygons Fan m l h p = fan-polygons m l h p
-by-polygons Centroid m [] h p = tt
-by-polygons Centroid m (c ∷ l) h p =
+by-polygons EarClipping m h p = ear-polygons m h p
+by-polygons Fan m h p = fan-polygons m h p
+by-polygons Centroid m {l = []} h p = tt
+by-polygons Centroid m {l = c ∷ l} h p =
     by-test (centreServes (centreOf c (c ∷ l)) (c ∷ l))
-    (λ e. rw e (centroid-polygons m (centreOf c (c ∷ l)) c l h p (serves-left (centreOf c (c ∷ l)) (c ∷ l) e))) (λ e. rw e (fan-polygons m (c ∷ l) h p))
+    (λ e. rw e (centroid-polygons m (centreOf c (c ∷ l)) c l h p (serves-left (centreOf c (c ∷ l)) (c ∷ l) e))) (λ e. rw e (fan-polygons m h p))
 
-contour-polygons : (how : ConvexSplitStrategy) (m : ℕ) (l : List Pt) → 3 ≤ m → Polygon l → All Polygon (splitContour how m l)
+contour-polygons : (how : ConvexSplitStrategy) (m : ℕ) {l : List Pt} → 3 ≤ m → Polygon l → All Polygon (splitContour how m l)
 unfolding splitContour
-contour-polygons how m l h p = by-test (leb (length l) m) (λ e. rw e (p, tt)) (λ e. rw e (by-polygons how m l h p))
+contour-polygons how m {l} h p = by-test (leb (length l) m) (λ e. rw e (p, tt)) (λ e. rw e (by-polygons how m h p))
 
 -- ---- all
 
 -- what holds of the parts of each contour
-pub all-split : (P Q : List Pt → Type 0) (how : ConvexSplitStrategy) (m : ℕ) (mesh : Mesh) → ((l : List Pt) → P l → All Q (splitContour how (raised m) l)) → All P (parts mesh) → All Q (splitParts how m mesh)
+pub all-split : {P : List Pt → Type 0} (Q : List Pt → Type 0) (how : ConvexSplitStrategy) (m : ℕ) (mesh : Mesh) → ((l : List Pt) → P l → All Q (splitContour how (raised m) l)) → All P (parts mesh) → All Q (splitParts how m mesh)
 unfolding splitParts
-all-split P Q how m mesh f h =
+all-split Q how m mesh f h =
     all-flatten Q (map (splitContour how (raised m)) (parts mesh)) .1 (all-image (All Q) (splitContour how (raised m)) (parts mesh) .1 (all-map (parts mesh) f h))
 
 pub split-polygons : (how : ConvexSplitStrategy) (m : ℕ) (mesh : Mesh) → firstFault (meshKinds mesh) ≡ 0 → All Polygon (splitParts how m mesh)
-split-polygons how m mesh h = all-split Polygon Polygon how m mesh (λ l p. contour-polygons how (raised m) l (omega arith) p) (parts-polygons mesh h)
+split-polygons how m mesh h = all-split Polygon how m mesh (λ l p. contour-polygons how (raised m) (omega arith) p) (parts-polygons mesh h)
 
 pub split-meets-premise : SplitMeetsPremise
 split-meets-premise how m mesh h =
-    all-map (splitParts how m mesh) (λ l p. record { premise = meets l (polygon-convex l p); above = <-ltZ (polygon-area l p) }) (split-polygons how m mesh h)
+    all-map (splitParts how m mesh) (λ l p. record { premise = meets l (polygon-convex p); above = <-ltZ (polygon-area p) }) (split-polygons how m mesh h)
 
 pub split-reach : SplitReach
 split-reach reflected how m mesh how' m' mesh' h k =
@@ -75,10 +75,10 @@ split-reach reflected how m mesh how' m' mesh' h k =
     (split-meets-premise how m mesh h)
 
 -- a part is not empty, for its doubled area is above 0
-part-centre : (l : List Pt) → Summable l → onGrid (roundedCentre l) ≡ true
-part-centre [] s = unfold contourArea neighbours sumℤ in differ (s .above)
-part-centre (c ∷ l) s = centre-on-grid c l s
+part-centre : {l : List Pt} → Summable l → onGrid (roundedCentre l) ≡ true
+part-centre {l = []} s = unfold contourArea neighbours sumℤ in differ (s .above)
+part-centre {l = c ∷ l} s = centre-on-grid c l s
 
 pub split-on-grid : SplitOnGrid
 split-on-grid how m mesh h =
-    all-split Summable (All (λ p. onGrid p ≡ true)) how m mesh (λ l s. split-corners (λ p. onGrid p ≡ true) how (raised m) l (s .grid) (part-centre l s)) (parts-summable mesh h)
+    all-split (All (λ p. onGrid p ≡ true)) how m mesh (λ l s. split-corners (λ p. onGrid p ≡ true) how (raised m) l (s .grid) (part-centre s)) (parts-summable mesh h)

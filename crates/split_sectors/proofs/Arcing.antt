@@ -48,4 +48,4 @@ module _ (contour : List (List ℤ)) where
       near-appended k = subst (λ l. Appended l points count points″ total) (arc-near k)
 
       pub far-appended : {points′ : List (List ℤ)} {most : ℕ} → length contour - i < n → Appended (runOf contour i (length contour - i)) points count points′ most → Appended (cornerIn contour 0 ∷ []) points′ most points″ total → Appended (arcOf contour i n) points count points″ total
-      far-appended k a b = subst (λ l. Appended l points count points″ total) (arc-far k) (appended-more (runOf contour i (length contour - i)) (cornerIn contour 0 ∷ []) a b)
+      far-appended k a b = subst (λ l. Appended l points count points″ total) (arc-far k) (appended-more a b)

@@ -135,7 +135,7 @@ module _ (contour : List (List ℤ)) (g : Pt) (s₀ : List ℕ) (p₀ : List (Li
       pub sectoring-turn : {s′ : List ℕ} {p′ : List (List ℤ)} {t′ : Tally} → PartsAppended (groupFrom contour g (start + m) start) s p t s′ p′ t′ → Sectoring contour g qs n k (i + 1) (start + m) s₀ p₀ t₀ s′ p′ t′
       sectoring-turn a = record {
         size = omega (arith, f .size, sum-next n k i h, e);
-        partway = partway-turn qs s₀ p₀ t₀ (groupFrom contour g (start + m) start) (f .partway) next a;
+        partway = partway-turn qs s₀ p₀ t₀ (f .partway) next a;
       }
 
     pub sectoring-end : k ≤ i → PartsAppended qs s₀ p₀ t₀ s p t

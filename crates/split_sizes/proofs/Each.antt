@@ -64,11 +64,11 @@ module _ (how : ConvexSplitStrategy) (m : ℕ) (ps : List (List Pt)) (k : ℕ) (
     pub room-at : RoomFor s₀ p₀ t₀ (splitEach how m ps) → RoomFor s p t (splitContour how m (getD ps k []))
     room-at r =
         let rest = splitEach how m (drop (suc k) ps) in
-        room-first (splitContour how m (getD ps k [])) rest s p t
-        (room-rest (splitEach how m (take k ps)) (splitContour how m (getD ps k []) ++ rest) s₀ p₀ t₀ (subst (RoomFor s₀ p₀ t₀) each-whole r) a)
+        room-first (splitContour how m (getD ps k [])) rest
+        (room-rest (splitContour how m (getD ps k []) ++ rest) (subst (RoomFor s₀ p₀ t₀) each-whole r) a)
 
     pub each-more : {s′ : List ℕ} {p′ : List (List ℤ)} {t′ : Tally} → PartsAppended (splitContour how m (getD ps k [])) s p t s′ p′ t′ → PartsAppended (splitEach how m (take (k + 1) ps)) s₀ p₀ t₀ s′ p′ t′
-    each-more {s′} {p′} {t′} b = subst (λ qs. PartsAppended qs s₀ p₀ t₀ s′ p′ t′) (sym each-suc) (then-appended (splitEach how m (take k ps)) (splitContour how m (getD ps k [])) a b)
+    each-more {s′} {p′} {t′} b = subst (λ qs. PartsAppended qs s₀ p₀ t₀ s′ p′ t′) (sym each-suc) (then-appended a b)
 
 -- no parts are gathered at first
 pub first-gathered : (s : List ℕ) (p : List (List ℤ)) {s′ : List ℕ} → 0 < length s → s′ ≡ set s 0 0 → Gathered s′ p (record { parts = 0; corners = 0 }) []
@@ -113,7 +113,7 @@ module _ (s : List ℕ) (p : List (List ℤ)) (t : Tally) (rows : List (List ℤ
     pub few-in : (length (splitEach how r (partsIn s p t)) ≤ 2 * length rows) × (length (flatten (splitEach how r (partsIn s p t))) ≤ 6 * length rows)
     few-in =
         let ok = accepted (rowsMesh rows) e in
-        let f = split-parts-few how m (rowsMesh rows) ok in
+        let f = split-parts-few how m ok in
         let c = parts-corners (rowsMesh rows) ok in
         let n = length-rows rows in
         (omega (arith, ap length split-in, f .some, c, n), omega (arith, ap (λ qs. length (flatten qs)) split-in, f .corners, c, n))

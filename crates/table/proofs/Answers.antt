@@ -62,5 +62,5 @@ module _ (ps : List (List Pt)) (n f : ℕ) (s : List ℕ) (c : List ℤ) (e : n 
       ap₂ (λ t d. take (2 * getD t n 0) d) (accepted-buffer f h (startsOf ps) s) (accepted-buffer f h (cornersOf ps) c)
       ∙ ap (λ m. take (2 * getD (overlay (startsOf ps) s) m 0) (overlay (cornersOf ps) c)) e ∙ corners-back ps s c
 
-pub contours-left : (ps : List (List Pt)) (n f : ℕ) (s : List ℕ) (c : List ℤ) → n ≡ length ps → f ≡ 0 → firstContours n (written f (startsOf ps) s) (written f (cornersOf ps) c) ≡ ps
-contours-left ps n f s c e h = ap₂ tableParts (starts-left ps n f s c e h) (corners-left ps n f s c e h) ∙ parts-table ps
+pub contours-left : (ps : List (List Pt)) {n f : ℕ} (s : List ℕ) (c : List ℤ) → n ≡ length ps → f ≡ 0 → firstContours n (written f (startsOf ps) s) (written f (cornersOf ps) c) ≡ ps
+contours-left ps {n} {f} s c e h = ap₂ tableParts (starts-left ps n f s c e h) (corners-left ps n f s c e h) ∙ parts-table ps

@@ -120,10 +120,10 @@ pub record From0 (m n : ℕ) (starts : List ℕ) : Type 0 where
   pub shape : starts ≡ 0 ∷ rest
   pub steps : stepsBroken m n 0 rest ≡ false
 
-pub from-0 : (m n : ℕ) (starts : List ℕ) → startsBroken m n starts ≡ false → From0 m n starts
+pub from-0 : {m n : ℕ} (starts : List ℕ) → startsBroken m n starts ≡ false → From0 m n starts
 unfolding startsBroken
-from-0 m n [] e = differ (sym e)
-from-0 m n (a ∷ s) e =
+from-0 [] e = differ (sym e)
+from-0 {m} {n} (a ∷ s) e =
     let f = was-taken (eqb a 0) (stepsBroken m n a s) e in
     let z : a ≡ 0 = eqb-true a 0 (f .0) in
     record { rest = s; shape = ap (λ b. b ∷ s) z; steps = subst (λ b. stepsBroken m n b s ≡ false) z (f .1) }
@@ -141,7 +141,7 @@ tests s c e =
     let f = was-taken (eqb (length c % 2) 0) _ e in
     let g = either-false (ltb maxParts (partCount s)) _ (f .1) in
     let h = either-false (ltb maxCorners (length c / 2)) _ (g .1) in
-    record { even = eqb-true _ 0 (f .0); few-parts = ltb-false maxParts _ (g .0); few-corners = ltb-false maxCorners _ (h .0); from = from-0 _ _ s (h .1) }
+    record { even = eqb-true _ 0 (f .0); few-parts = ltb-false maxParts _ (g .0); few-corners = ltb-false maxCorners _ (h .0); from = from-0 s (h .1) }
 
 one-less : (n : ℕ) → suc n - 1 ≡ n
 one-less n = omega arith
@@ -155,8 +155,8 @@ pub record Ascends (m n : ℕ) (starts : List ℕ) : Type 0 where
   pub bounded : (k : ℕ) → k < length starts → getD starts k 0 ≤ n
   pub last : getD starts (partCount starts) 0 ≡ n
 
-ascends : (m n : ℕ) (starts : List ℕ) → From0 m n starts → Ascends m n starts
-ascends m n s f = subst (Ascends m n) (sym (f .shape)) (of (f .rest) (f .steps))
+ascends : {m n : ℕ} {starts : List ℕ} → From0 m n starts → Ascends m n starts
+ascends {m} {n} f = subst (Ascends m n) (sym (f .shape)) (of (f .rest) (f .steps))
   where
     of : (r : List ℕ) → stepsBroken m n 0 r ≡ false → Ascends m n (0 ∷ r)
     of r q = record {
@@ -171,7 +171,7 @@ ascends m n s f = subst (Ascends m n) (sym (f .shape)) (of (f .rest) (f .steps))
 pub sound : (starts : List ℕ) (corners : List ℤ) → tableBroken starts corners ≡ false → Sound starts corners
 sound s c e =
     let t = tests s c e in
-    let a = ascends _ _ s (t .from) in
+    let a = ascends (t .from) in
     record {
       even = t .even;
       few-parts = t .few-parts;
@@ -187,7 +187,7 @@ sound s c e =
 -- a pair result that is not broken
 pub result-ascends : (starts : List ℕ) (corners : List ℤ) → resultBroken starts corners ≡ false → Ascends (length corners / 2) (length corners / 2) starts
 unfolding resultBroken
-result-ascends s c e = ascends _ _ s (from-0 _ _ s (was-taken (eqb (length c % 2) 0) _ e .1))
+result-ascends s c e = ascends (from-0 s (was-taken (eqb (length c % 2) 0) _ e .1))
 
 -- ---- its parts give it back
 
@@ -275,9 +275,9 @@ startsFrom-steps m n k (p ∷ ps) e h =
       rw (le-ltb (k + length p) k (omega arith), le-ltb (k + m) (k + length p) (omega (arith, h .0))) (r .2),
     )
 
-pub limits-sound : (ps : List (List Pt)) → Limits ps → tableBroken (startsOf ps) (cornersOf ps) ≡ false
+pub limits-sound : {ps : List (List Pt)} → Limits ps → tableBroken (startsOf ps) (cornersOf ps) ≡ false
 unfolding tableBroken startsBroken startsOf cornersOf
-limits-sound ps h =
+limits-sound {ps} h =
     let e : length (numbersOf (flatten ps)) ≡ 2 * length (flatten ps) = length-numbers (flatten ps) in
     let half : length (numbersOf (flatten ps)) / 2 ≡ length (flatten ps) = omega arith in
     let r = startsFrom-steps maxContour (length (flatten ps)) 0 ps (omega arith) (h .contours) in

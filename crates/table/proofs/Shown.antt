@@ -28,21 +28,21 @@ use Rattle.table.proofs.Rules.{sound}
 module _ (ls : List ℕ) (lc : List ℤ) (rs : List ℕ) (rc : List ℤ) (right : Bool) (k : ℕ) where
   pub left-broken : tableBroken ls lc ≡ true → shownFault ls lc rs rc right k ≡ 7
   unfolding shownFault
-  left-broken e = first-this 7 _ _ e
+  left-broken e = first-this 7 _ e
 
   pub right-broken : tableBroken ls lc ≡ false → tableBroken rs rc ≡ true → shownFault ls lc rs rc right k ≡ 7
   unfolding shownFault
-  right-broken e f = first-next 7 _ _ e ∙ first-this 7 _ _ f
+  right-broken e f = first-next 7 _ e ∙ first-this 7 _ f
 
   -- of the starts of the operand that is asked for
   module _ (starts : List ℕ) (p : cond right rs ls ≡ starts) (e : tableBroken ls lc ≡ false) (f : tableBroken rs rc ≡ false) where
     pub past : partCount starts ≤ k → shownFault ls lc rs rc right k ≡ 12
     unfolding shownFault
-    past h = first-next 7 _ _ e ∙ first-next 7 _ _ f ∙ first-this 12 _ [] (ap (λ s. leb (partCount s) k) p ∙ le-leb _ k h)
+    past h = first-next 7 _ e ∙ first-next 7 _ f ∙ first-this 12 [] (ap (λ s. leb (partCount s) k) p ∙ le-leb _ k h)
 
     pub shown : k < partCount starts → shownFault ls lc rs rc right k ≡ 0
     unfolding shownFault
-    shown h = first-next 7 _ _ e ∙ first-next 7 _ _ f ∙ first-next 12 _ [] (ap (λ s. leb (partCount s) k) p ∙ lt-leb _ k h) ∙ first-empty
+    shown h = first-next 7 _ e ∙ first-next 7 _ f ∙ first-next 12 [] (ap (λ s. leb (partCount s) k) p ∙ lt-leb _ k h) ∙ first-empty
 
   -- what no fault tells
   pub record Shows : Type 0 where

@@ -89,7 +89,7 @@ module _ (s : List ℕ) (c : List ℤ) (whole : tableBroken s c ≡ false) (rang
   unfolding storedOf
   words-stored =
       let t = sound s c whole in
-      words-wordBytes _ (omega arith, (omega arith, all-append Word s (map unsigned c) .1 (starts-small, numbers-small)))
+      words-wordBytes (omega arith, (omega arith, all-append Word s (map unsigned c) .1 (starts-small, numbers-small)))
 
   counts-stored : (wordAt (storedOf s c) 0 ≡ length s - 1) × (wordAt (storedOf s c) 1 ≡ length c / 2)
   counts-stored = (ap (λ W. getD W 0 0) words-stored, ap (λ W. getD W 1 0) words-stored)
@@ -104,7 +104,7 @@ module _ (s : List ℕ) (c : List ℤ) (whole : tableBroken s c ≡ false) (rang
   corners-of-stored =
       let t = sound s c whole in
       let n : length s - 1 + 3 ≡ suc (suc (length s)) = omega arith in
-      rw words-stored (ap (λ k. map signed (drop k ((length s - 1) ∷ (length c / 2) ∷ (s ++ map unsigned c)))) n ∙ ap (map signed) (drop-append-seam s (map unsigned c)) ∙ signed-unsigned c (fit-all c ranged))
+      rw words-stored (ap (λ k. map signed (drop k ((length s - 1) ∷ (length c / 2) ∷ (s ++ map unsigned c)))) n ∙ ap (map signed) (drop-append-seam s (map unsigned c)) ∙ signed-unsigned (fit-all c ranged))
 
   pub sized-stored : lengthBroken (storedOf s c) ≡ false
   unfolding lengthBroken
@@ -121,7 +121,7 @@ module _ (s : List ℕ) (c : List ℤ) (whole : tableBroken s c ≡ false) (rang
   pub read-fault-of-stored : (rs rc : ℕ) → readFault (storedOf s c) rs rc ≡ firstFault (roomKinds (tableParts s c) rs rc)
   unfolding readFault
   read-fault-of-stored rs rc =
-      first-next 7 _ _ whole-stored ∙ first-next 2 _ _ (ap offRange corners-of-stored ∙ ranged)
+      first-next 7 _ whole-stored ∙ first-next 2 _ (ap offRange corners-of-stored ∙ ranged)
       ∙ (λ i. firstFault (roomKinds (tableParts (starts-of-stored i) (corners-of-stored i)) rs rc))
 
 -- ---- bytes that are accepted
@@ -162,17 +162,17 @@ accepted bytes rs rc e =
     }
 
 -- written again, the same bytes
-pub stored-of-read : (bytes : List ℕ) → All Byte bytes → lengthBroken bytes ≡ false → storedOf (storedStarts bytes) (storedCorners bytes) ≡ bytes
+pub stored-of-read : {bytes : List ℕ} → All Byte bytes → lengthBroken bytes ≡ false → storedOf (storedStarts bytes) (storedCorners bytes) ≡ bytes
 unfolding storedOf
-stored-of-read bytes h e =
+stored-of-read {bytes} h e =
     let n = sized bytes e in
     let W : List ℕ = wordsOf bytes in
     let p : length (storedStarts bytes) - 1 ≡ wordAt bytes 0 = omega (arith, count-starts bytes n) in
     let c : length (storedCorners bytes) / 2 ≡ wordAt bytes 1 = omega (arith, count-numbers bytes n) in
-    let u : map unsigned (storedCorners bytes) ≡ drop (wordAt bytes 0 + 3) (wordsOf bytes) = unsigned-signed _ (all-drop (wordAt bytes 0 + 3) (wordsOf bytes) (words-small bytes h)) in
+    let u : map unsigned (storedCorners bytes) ≡ drop (wordAt bytes 0 + 3) (wordsOf bytes) = unsigned-signed (all-drop (wordAt bytes 0 + 3) (wordsOf bytes) (words-small bytes h)) in
     (λ i. wordBytes (p i ∷ c i ∷ (storedStarts bytes ++ u i)))
     ∙ ap wordBytes (apart 0 (wordsOf bytes) (wordAt bytes 0) (omega (arith, count-words bytes n)))
-    ∙ wordBytes-words bytes (omega arith) h
+    ∙ wordBytes-words (omega arith) h
   where
     all-drop : (k : ℕ) (l : List ℕ) → All Word l → All Word (drop k l)
     all-drop zero l h = h

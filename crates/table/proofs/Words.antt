@@ -25,8 +25,8 @@ Word w = w < 4294967296
 -- ---- one word
 
 -- a + 256 m, taken apart
-lowest : (a m : ℕ) → Byte a → ((a + 256 * m) % 256 ≡ a) × ((a + 256 * m) / 256 ≡ m)
-lowest a m h = (omega arith, omega arith)
+lowest : {a : ℕ} (m : ℕ) → Byte a → ((a + 256 * m) % 256 ≡ a) × ((a + 256 * m) / 256 ≡ m)
+lowest m h = (omega arith, omega arith)
 
 -- n / 256 / 256 = n / 65536, and so on
 div-256 : (n : ℕ) → (n / 65536 ≡ n / 256 / 256) × (n / 16777216 ≡ n / 256 / 256 / 256)
@@ -36,28 +36,28 @@ div-256 n = (
 )
 
 -- n = r₀ + 256 (r₁ + 256 (r₂ + 256 q))
-joined : (n q₁ q₂ q r₀ r₁ r₂ : ℕ) → 256 * q₁ + r₀ ≡ n → 256 * q₂ + r₁ ≡ q₁ → 256 * q + r₂ ≡ q₂ → r₀ + 256 * r₁ + 65536 * r₂ + 16777216 * q ≡ n
-joined n q₁ q₂ q r₀ r₁ r₂ e f g = omega arith
+joined : {n q₁ q₂ : ℕ} (q r₀ r₁ r₂ : ℕ) → 256 * q₁ + r₀ ≡ n → 256 * q₂ + r₁ ≡ q₁ → 256 * q + r₂ ≡ q₂ → r₀ + 256 * r₁ + 65536 * r₂ + 16777216 * q ≡ n
+joined q r₀ r₁ r₂ e f g = omega arith
 
-pub word-bytes : (n : ℕ) → Word n → wordOf (n % 256) (n / 256 % 256) (n / 65536 % 256) (n / 16777216 % 256) ≡ n
+pub word-bytes : {n : ℕ} → Word n → wordOf (n % 256) (n / 256 % 256) (n / 65536 % 256) (n / 16777216 % 256) ≡ n
 unfolding wordOf
-word-bytes n h =
+word-bytes {n} h =
     let top : n / 16777216 < 256 = omega arith in
     rw (mod-eq-of-lt top, div-256 n .1, div-256 n .0)
-    (joined n (n / 256) (n / 256 / 256) (n / 256 / 256 / 256) (n % 256) (n / 256 % 256) (n / 256 / 256 % 256) (div-add-mod n 256) (div-add-mod (n / 256) 256) (div-add-mod (n / 256 / 256) 256))
+    (joined (n / 256 / 256 / 256) (n % 256) (n / 256 % 256) (n / 256 / 256 % 256) (div-add-mod n 256) (div-add-mod (n / 256) 256) (div-add-mod (n / 256 / 256) 256))
 
-pub bytes-word : (a b c d : ℕ) → Byte a → Byte b → Byte c → Byte d → bytesOf (wordOf a b c d) ≡ a ∷ b ∷ c ∷ d ∷ []
+pub bytes-word : {a b c d : ℕ} → Byte a → Byte b → Byte c → Byte d → bytesOf (wordOf a b c d) ≡ a ∷ b ∷ c ∷ d ∷ []
 unfolding bytesOf wordOf
-bytes-word a b c d ha hb hc hd =
+bytes-word {a} {b} {c} {d} ha hb hc hd =
     let n : a + 256 * b + 65536 * c + 16777216 * d ≡ a + 256 * (b + 256 * (c + 256 * d)) = omega arith in
-    let l₀ = lowest a (b + 256 * (c + 256 * d)) ha in
-    let l₁ = lowest b (c + 256 * d) hb in
-    let l₂ = lowest c d hc in
+    let l₀ = lowest (b + 256 * (c + 256 * d)) ha in
+    let l₁ = lowest (c + 256 * d) hb in
+    let l₂ = lowest d hc in
     rw (n, div-256 (a + 256 * (b + 256 * (c + 256 * d))) .0, div-256 (a + 256 * (b + 256 * (c + 256 * d))) .1, l₀ .0, l₀ .1, l₁ .0, l₁ .1, l₂ .0, l₂ .1, mod-eq-of-lt hd)
 
-pub word-small : (a b c d : ℕ) → Byte a → Byte b → Byte c → Byte d → Word (wordOf a b c d)
+pub word-small : {a b c d : ℕ} → Byte a → Byte b → Byte c → Byte d → Word (wordOf a b c d)
 unfolding wordOf
-word-small a b c d ha hb hc hd = omega arith
+word-small ha hb hc hd = omega arith
 
 -- ---- lengths
 
@@ -85,19 +85,19 @@ length-words (a ∷ b ∷ c ∷ d ∷ bs) = omega (arith, length-words bs)
 
 -- ---- round trips
 
-pub words-wordBytes : (ws : List ℕ) → All Word ws → wordsOf (wordBytes ws) ≡ ws
+pub words-wordBytes : {ws : List ℕ} → All Word ws → wordsOf (wordBytes ws) ≡ ws
 unfolding wordsOf wordBytes flatten bytesOf
-words-wordBytes [] h = refl
-words-wordBytes (w ∷ ws) h = λ i. word-bytes w (h .0) i ∷ words-wordBytes ws (h .1) i
+words-wordBytes {ws = []} h = refl
+words-wordBytes {ws = w ∷ ws} h = λ i. word-bytes (h .0) i ∷ words-wordBytes {ws = ws} (h .1) i
 
-pub wordBytes-words : (bs : List ℕ) → length bs % 4 ≡ 0 → All Byte bs → wordBytes (wordsOf bs) ≡ bs
+pub wordBytes-words : {bs : List ℕ} → length bs % 4 ≡ 0 → All Byte bs → wordBytes (wordsOf bs) ≡ bs
 unfolding wordsOf wordBytes flatten
-wordBytes-words [] e h = refl
-wordBytes-words (a ∷ []) e h = absurd (omega arith)
-wordBytes-words (a ∷ b ∷ []) e h = absurd (omega arith)
-wordBytes-words (a ∷ b ∷ c ∷ []) e h = absurd (omega arith)
-wordBytes-words (a ∷ b ∷ c ∷ d ∷ bs) e h =
-    λ i. bytes-word a b c d (h .0) (h .1 .0) (h .1 .1 .0) (h .1 .1 .1 .0) i ++ wordBytes-words bs (omega arith) (h .1 .1 .1 .1) i
+wordBytes-words {bs = []} e h = refl
+wordBytes-words {bs = a ∷ []} e h = absurd (omega arith)
+wordBytes-words {bs = a ∷ b ∷ []} e h = absurd (omega arith)
+wordBytes-words {bs = a ∷ b ∷ c ∷ []} e h = absurd (omega arith)
+wordBytes-words {bs = a ∷ b ∷ c ∷ d ∷ bs} e h =
+    λ i. bytes-word (h .0) (h .1 .0) (h .1 .1 .0) (h .1 .1 .1 .0) i ++ wordBytes-words {bs = bs} (omega arith) (h .1 .1 .1 .1) i
 
 -- ---- word k
 
@@ -125,14 +125,14 @@ words-small [] h = tt
 words-small (a ∷ []) h = tt
 words-small (a ∷ b ∷ []) h = tt
 words-small (a ∷ b ∷ c ∷ []) h = tt
-words-small (a ∷ b ∷ c ∷ d ∷ bs) h = (word-small a b c d (h .0) (h .1 .0) (h .1 .1 .0) (h .1 .1 .1 .0), words-small bs (h .1 .1 .1 .1))
+words-small (a ∷ b ∷ c ∷ d ∷ bs) h = (word-small (h .0) (h .1 .0) (h .1 .1 .0) (h .1 .1 .1 .0), words-small bs (h .1 .1 .1 .1))
 
 -- ---- signed numbers
 
-pub signed-unsigned : (l : List ℤ) → All (SFits w32) l → map signed (map unsigned l) ≡ l
-signed-unsigned [] h = refl
-signed-unsigned (z ∷ l) h = λ i. toZ-ofZ w32 z (h .0) i ∷ signed-unsigned l (h .1) i
+pub signed-unsigned : {l : List ℤ} → All (SFits w32) l → map signed (map unsigned l) ≡ l
+signed-unsigned {l = []} h = refl
+signed-unsigned {l = z ∷ l} h = λ i. toZ-ofZ w32 z (h .0) i ∷ signed-unsigned {l = l} (h .1) i
 
-pub unsigned-signed : (l : List ℕ) → All Word l → map unsigned (map signed l) ≡ l
-unsigned-signed [] h = refl
-unsigned-signed (w ∷ l) h = λ i. ofZ-toZ w32 w (record { fits = h .0 }) i ∷ unsigned-signed l (h .1) i
+pub unsigned-signed : {l : List ℕ} → All Word l → map unsigned (map signed l) ≡ l
+unsigned-signed {l = []} h = refl
+unsigned-signed {l = w ∷ l} h = λ i. ofZ-toZ w32 w (record { fits = h .0 }) i ∷ unsigned-signed {l = l} (h .1) i

@@ -121,39 +121,39 @@ module _ (bytes : List ℕ) (i : ℕ) (h : i < length bytes / 4) {r : Bool} {u :
   unfolding offRange
   passed k = rw (number, ← e, k)
 
-pub none-found : (bytes : List ℕ) (i : ℕ) → length bytes / 4 ≤ i → offRange (map signed (drop i (wordsOf bytes))) ≡ false
+pub none-found : (bytes : List ℕ) {i : ℕ} → length bytes / 4 ≤ i → offRange (map signed (drop i (wordsOf bytes))) ≡ false
 unfolding offRange
-none-found bytes i h = rw (drop-of-length-le (wordsOf bytes) {i = i} (omega (arith, length-words bytes)))
+none-found bytes {i} h = rw (drop-of-length-le (wordsOf bytes) {i = i} (omega (arith, length-words bytes)))
 
 -- ---- the fault
 
 module _ (bytes : List ℕ) (rs rc : ℕ) where
   pub fault-7 : storedBroken bytes ≡ true → readFault bytes rs rc ≡ 7
   unfolding readFault
-  fault-7 e = first-this 7 _ _ e
+  fault-7 e = first-this 7 _ e
 
   module _ (e : storedBroken bytes ≡ false) where
     pub fault-2 : offRange (storedCorners bytes) ≡ true → readFault bytes rs rc ≡ 2
     unfolding readFault
-    fault-2 f = first-next 7 _ _ e ∙ first-this 2 _ _ f
+    fault-2 f = first-next 7 _ e ∙ first-this 2 _ f
 
     module _ (l : lengthBroken bytes ≡ false) (w : tableBroken (storedStarts bytes) (storedCorners bytes) ≡ false) (f : offRange (storedCorners bytes) ≡ false) where
       pub fault-22 : rs < wordAt bytes 0 + 1 → readFault bytes rs rc ≡ 22
       unfolding readFault
-      fault-22 h = first-next 7 _ _ e ∙ first-next 2 _ _ f ∙ first-this 22 _ _ (lt-ltb rs _ (omega (arith, stored-starts bytes l w)))
+      fault-22 h = first-next 7 _ e ∙ first-next 2 _ f ∙ first-this 22 _ (lt-ltb rs _ (omega (arith, stored-starts bytes l w)))
 
       module _ (h : wordAt bytes 0 + 1 ≤ rs) where
         pub fault-21 : rc / 2 < wordAt bytes 1 → readFault bytes rs rc ≡ 21
         unfolding readFault
         fault-21 k =
-            first-next 7 _ _ e ∙ first-next 2 _ _ f ∙ first-next 22 _ _ (le-ltb rs _ (omega (arith, stored-starts bytes l w)))
-            ∙ first-this 21 _ _ (lt-ltb (rc / 2) _ (omega (arith, stored-corners bytes l w)))
+            first-next 7 _ e ∙ first-next 2 _ f ∙ first-next 22 _ (le-ltb rs _ (omega (arith, stored-starts bytes l w)))
+            ∙ first-this 21 _ (lt-ltb (rc / 2) _ (omega (arith, stored-corners bytes l w)))
 
         pub no-fault-read : wordAt bytes 1 ≤ rc / 2 → readFault bytes rs rc ≡ 0
         unfolding readFault
         no-fault-read k =
-            first-next 7 _ _ e ∙ first-next 2 _ _ f ∙ first-next 22 _ _ (le-ltb rs _ (omega (arith, stored-starts bytes l w)))
-            ∙ first-next 21 _ _ (le-ltb (rc / 2) _ (omega (arith, stored-corners bytes l w))) ∙ first-empty
+            first-next 7 _ e ∙ first-next 2 _ f ∙ first-next 22 _ (le-ltb rs _ (omega (arith, stored-starts bytes l w)))
+            ∙ first-next 21 _ (le-ltb (rc / 2) _ (omega (arith, stored-corners bytes l w))) ∙ first-empty
 
 -- ---- where the answer's words lie, and the room for them
 
@@ -163,8 +163,8 @@ pub record Room (bytes : List ℕ) (rs rc p c : ℕ) : Type 0 where
   pub corners-lie : 4 * (p + 3 + 2 * c) ≤ length bytes
   pub corners-fit : 2 * c ≤ rc
 
-pub room : (bytes : List ℕ) (rs rc p c : ℕ) → readFault bytes rs rc ≡ 0 → p ≡ wordAt bytes 0 → c ≡ wordAt bytes 1 → Room bytes rs rc p c
-room bytes rs rc p c e f g =
+pub room : {bytes : List ℕ} {rs rc p c : ℕ} → readFault bytes rs rc ≡ 0 → p ≡ wordAt bytes 0 → c ≡ wordAt bytes 1 → Room bytes rs rc p c
+room {bytes} {rs} {rc} e f g =
     let a = accepted bytes rs rc e in
     let n = sized bytes (a .sized-right) in
     record { starts-lie = omega arith; starts-fit = omega (arith, a .starts-room); corners-lie = omega arith; corners-fit = omega (arith, a .corners-room) }

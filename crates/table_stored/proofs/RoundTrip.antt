@@ -63,8 +63,8 @@ read-back s c old os oc e hs hc =
     let b = bytes-told s c old f in
     let p : storedParts (bytesTold s c old) ≡ tableParts s c = ap storedParts b ∙ (λ i. tableParts (starts-of-stored s c (w .whole) (w .ranged) i) (corners-of-stored s c (w .whole) (w .ranged) i)) in
     let n : faultRead (bytesTold s c old) os oc ≡ 0 =
-    read-only-room s c old os oc e ∙ first-next 22 _ _ (le-ltb (length os) _ (omega (arith, ap length (starts-parts s c (w .whole)))))
-    ∙ first-next 21 _ _ (le-ltb (length oc / 2) _ (omega (arith, count-corners s c (w .whole)))) ∙ first-empty in
+    read-only-room s c old os oc e ∙ first-next 22 _ (le-ltb (length os) _ (omega (arith, ap length (starts-parts s c (w .whole)))))
+    ∙ first-next 21 _ (le-ltb (length oc / 2) _ (omega (arith, count-corners s c (w .whole)))) ∙ first-empty in
     let k = ap length p ∙ count-parts s c (w .whole) in
     let l = ap (λ q. length (flatten q)) p ∙ count-corners s c (w .whole) in
     record {
@@ -113,7 +113,7 @@ written-again bytes os oc buf h e room =
     let a = accepted bytes (length os) (length oc) f in
     let s = starts-told bytes os oc f in
     let c = corners-told bytes os oc f in
-    let same : storedOf (storedStarts bytes) (storedCorners bytes) ≡ bytes = stored-of-read bytes h (a .sized-right) in
+    let same : storedOf (storedStarts bytes) (storedCorners bytes) ≡ bytes = stored-of-read h (a .sized-right) in
     let n : faultWritten (storedStarts bytes) (storedCorners bytes) buf ≡ 0 =
     no-fault-write (storedStarts bytes) (storedCorners bytes) (length buf) (a .whole) (a .ranged)
     (omega (arith, length-stored (storedStarts bytes) (storedCorners bytes), ap length same)) in

@@ -8,5 +8,5 @@ use lib.Seq.{getD-drop}
 use Rattle.table.specs.Stored.{wordsOf, wordAt}
 
 -- word i from word k on
-pub word-from : (bytes : List ℕ) (k i n : ℕ) → n ≡ k + i → wordAt bytes n ≡ getD (drop k (wordsOf bytes)) i 0
-word-from bytes k i n e = ap (λ j. getD (wordsOf bytes) j 0) e ∙ sym (getD-drop k (wordsOf bytes) i 0)
+pub word-from : (bytes : List ℕ) (k i : ℕ) {n : ℕ} → n ≡ k + i → wordAt bytes n ≡ getD (drop k (wordsOf bytes)) i 0
+word-from bytes k i e = ap (λ j. getD (wordsOf bytes) j 0) e ∙ sym (getD-drop k (wordsOf bytes) i 0)

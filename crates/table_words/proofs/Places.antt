@@ -66,9 +66,9 @@ module _ (k : ℕ) (ws old : List ℕ) (h : 4 * k + 4 * length ws ≤ length old
       ap (putWords (k + length ws) vs) (put-eq k ws old) ∙ put-behind (k + length ws) vs (a ++ b) (drop (4 * k + 4 * length ws) old) n
       ∙ (λ i. p i ++ q i) ∙ sym (put-eq k (ws ++ vs) old)
 
-pub put-none : (k : ℕ) (old : List ℕ) → putWords k [] old ≡ old
+pub put-none : (k : ℕ) {old : List ℕ} → putWords k [] old ≡ old
 unfolding putWords wordBytes flatten
-put-none k old = let n : 4 * k + 0 ≡ 4 * k = omega arith in
+put-none k {old} = let n : 4 * k + 0 ≡ 4 * k = omega arith in
     (λ i. append-nil (take (4 * k) old) i ++ drop (n i) old) ∙ take-append-drop (4 * k) old
 
 -- from the front on

@@ -8,5 +8,5 @@ use mir.Syntax.{Width}
 use mir.Val.{toZ, bits, hbits}
 
 -- bits from half on, of any width
-pub signed-high : (w : Width) (n : ℕ) {m : ℕ} → 2 ^ hbits w ≤ n → m ≡ 2 ^ bits w - suc n → negsuc m ≡ toZ w n
-signed-high w n h e = rw (le-ltb n (2 ^ hbits w) h) (ap negsuc e)
+pub signed-high : (w : Width) {n : ℕ} {m : ℕ} → 2 ^ hbits w ≤ n → m ≡ 2 ^ bits w - suc n → negsuc m ≡ toZ w n
+signed-high w {n} h e = rw (le-ltb n (2 ^ hbits w) h) (ap negsuc e)

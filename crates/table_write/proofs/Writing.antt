@@ -64,21 +64,21 @@ put-table s c old {p} {n} room e f h₁ h₂ h₃ h₄ =
 module _ (s : List ℕ) (c : List ℤ) (room : ℕ) where
   pub fault-7 : tableBroken s c ≡ true → writeFault s c room ≡ 7
   unfolding writeFault
-  fault-7 e = first-this 7 _ _ e
+  fault-7 e = first-this 7 _ e
 
   module _ (e : tableBroken s c ≡ false) where
     pub fault-2 : offRange c ≡ true → writeFault s c room ≡ 2
     unfolding writeFault
-    fault-2 f = first-next 7 _ _ e ∙ first-this 2 _ _ f
+    fault-2 f = first-next 7 _ e ∙ first-this 2 _ f
 
     module _ (f : offRange c ≡ false) where
       pub fault-21 : room < 8 + 4 * length s + 4 * length c → writeFault s c room ≡ 21
       unfolding writeFault
-      fault-21 h = first-next 7 _ _ e ∙ first-next 2 _ _ f ∙ first-this 21 _ [] (lt-ltb room _ (omega (arith, length-stored s c)))
+      fault-21 h = first-next 7 _ e ∙ first-next 2 _ f ∙ first-this 21 [] (lt-ltb room _ (omega (arith, length-stored s c)))
 
       pub no-fault-write : 8 + 4 * length s + 4 * length c ≤ room → writeFault s c room ≡ 0
       unfolding writeFault
-      no-fault-write h = first-next 7 _ _ e ∙ first-next 2 _ _ f ∙ first-next 21 _ [] (le-ltb room _ (omega (arith, length-stored s c))) ∙ first-empty
+      no-fault-write h = first-next 7 _ e ∙ first-next 2 _ f ∙ first-next 21 [] (le-ltb room _ (omega (arith, length-stored s c))) ∙ first-empty
 
   -- what no fault tells
   pub record Writes : Type 0 where

@@ -55,33 +55,33 @@ module _ (bytes : List ℕ) where
 
   pub too-short : length bytes < 4 → 13 ≡ tablesFault bytes
   unfolding tablesFault
-  too-short h = sym (first-this 13 (ltb (length bytes) 4) _ (lt-ltb _ 4 h))
+  too-short h = sym (first-this 13 _ (lt-ltb _ 4 h))
 
   module _ (h : 4 ≤ length bytes) {w : ℕ} (e : w ≡ wordAt bytes 0) where
     pub other-operation : 1 < w → 13 ≡ tablesFault bytes
     unfolding tablesFault
-    other-operation k = sym (first-next 13 (ltb (length bytes) 4) _ (le-ltb _ 4 h) ∙ first-this 13 (ltb 1 (wordAt bytes 0)) _ (lt-ltb 1 (wordAt bytes 0) (omega (arith, e, k))))
+    other-operation k = sym (first-next 13 _ (le-ltb _ 4 h) ∙ first-this 13 _ (lt-ltb 1 (wordAt bytes 0) (omega (arith, e, k))))
 
     module _ (k : w ≤ 1) where
       past-operation : tablesFault bytes ≡ firstFault ((7, tablesLengthBroken bytes) ∷ (7, brokenAt bytes 1) ∷ (7, brokenAt bytes (rightTable bytes)) ∷ [])
       unfolding tablesFault
-      past-operation = first-next 13 (ltb (length bytes) 4) _ (le-ltb _ 4 h) ∙ first-next 13 (ltb 1 (wordAt bytes 0)) _ (le-ltb 1 (wordAt bytes 0) (omega (arith, e, k)))
+      past-operation = first-next 13 _ (le-ltb _ 4 h) ∙ first-next 13 _ (le-ltb 1 (wordAt bytes 0) (omega (arith, e, k)))
 
       pub other-length : tablesLengthBroken bytes ≡ true → 7 ≡ tablesFault bytes
-      other-length t = sym (past-operation ∙ first-this 7 _ _ t)
+      other-length t = sym (past-operation ∙ first-this 7 _ t)
 
       module _ (l : tablesLengthBroken bytes ≡ false) where
         pub left-broken : brokenAt bytes 1 ≡ true → 7 ≡ tablesFault bytes
-        left-broken t = sym (past-operation ∙ first-next 7 _ _ l ∙ first-this 7 (brokenAt bytes 1) _ t)
+        left-broken t = sym (past-operation ∙ first-next 7 _ l ∙ first-this 7 _ t)
 
         module _ (a : brokenAt bytes 1 ≡ false) {r : ℕ} (p : r ≡ tableWords bytes 1) where
           pub right-broken : brokenAt bytes (1 + r) ≡ true → 7 ≡ tablesFault bytes
           right-broken t =
-              sym (past-operation ∙ first-next 7 _ _ l ∙ first-next 7 (brokenAt bytes 1) _ a ∙ first-this 7 (brokenAt bytes (rightTable bytes)) _ (sym (ap (λ n. brokenAt bytes (1 + n)) p) ∙ t))
+              sym (past-operation ∙ first-next 7 _ l ∙ first-next 7 _ a ∙ first-this 7 _ (sym (ap (λ n. brokenAt bytes (1 + n)) p) ∙ t))
 
           pub good-tables : brokenAt bytes (1 + r) ≡ false → 0 ≡ tablesFault bytes
           good-tables t =
-              sym (past-operation ∙ first-next 7 _ _ l ∙ first-next 7 (brokenAt bytes 1) _ a ∙ first-next 7 (brokenAt bytes (rightTable bytes)) _ (sym (ap (λ n. brokenAt bytes (1 + n)) p) ∙ t) ∙ first-empty)
+              sym (past-operation ∙ first-next 7 _ l ∙ first-next 7 _ a ∙ first-next 7 _ (sym (ap (λ n. brokenAt bytes (1 + n)) p) ∙ t) ∙ first-empty)
 
   -- what no fault tells
   pub record Good : Type 0 where

@@ -79,7 +79,7 @@ module _ (P : List ℕ) (m : ℕ) (e : length P ≡ 4 * m) where
   four-behind : (a b c d : ℕ) (R : List ℕ) → All Word (a ∷ b ∷ c ∷ d ∷ []) → (j : ℕ) → wordAt (P ++ (wordBytes (a ∷ b ∷ c ∷ d ∷ []) ++ R)) (m + j) ≡ getD ((a ∷ b ∷ c ∷ d ∷ []) ++ wordsOf R) j 0
   four-behind a b c d R w j =
       let B = a ∷ b ∷ c ∷ d ∷ [] in
-      words-behind (wordBytes B ++ R) j ∙ ap (λ ws. getD ws j 0) (words-append (wordBytes B) R (omega (arith, length-wordBytes B)) ∙ ap (λ ws. ws ++ wordsOf R) (words-wordBytes B w))
+      words-behind (wordBytes B ++ R) j ∙ ap (λ ws. getD ws j 0) (words-append (wordBytes B) R (omega (arith, length-wordBytes B)) ∙ ap (λ ws. ws ++ wordsOf R) (words-wordBytes w))
 
 -- ---- the bounds are words
 

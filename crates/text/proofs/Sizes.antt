@@ -39,20 +39,20 @@ decimal-size n = omega (arith, digits-size 20 n [])
 pub decimal-below : (k n : ℕ) → n < 10 ^ suc k → length (decimal n) ≤ suc k
 decimal-below k n h = omega (arith, digits-below 20 k n [] h)
 
-pub signed-size : (z : ℤ) → SFits w32 z → length (signedDecimal z) ≤ 11
+pub signed-size : {z : ℤ} → SFits w32 z → length (signedDecimal z) ≤ 11
 unfolding signedDecimal
-signed-size (pos n) f = omega (arith, decimal-below 9 n (omega (arith, f .sfits)))
-signed-size (negsuc n) f = omega (arith, decimal-below 9 (suc n) (omega (arith, f .sfits)))
+signed-size {z = pos n} f = omega (arith, decimal-below 9 n (omega (arith, f .sfits)))
+signed-size {z = negsuc n} f = omega (arith, decimal-below 9 (suc n) (omega (arith, f .sfits)))
 
 -- a corner of two numbers of 32 bits
 pub record Word32s (p : Pt) : Type 0 where
   pub x-fits : SFits w32 (p .x)
   pub y-fits : SFits w32 (p .y)
 
-pub corner-size : (p : Pt) → Word32s p → length (cornerText p) ≤ 26
+pub corner-size : {p : Pt} → Word32s p → length (cornerText p) ≤ 26
 unfolding cornerText
-corner-size p f = simp length-append (omega (arith, signed-size (p .x) (f .x-fits), signed-size (p .y) (f .y-fits)))
+corner-size f = simp length-append (omega (arith, signed-size (f .x-fits), signed-size (f .y-fits)))
 
 pub corners-size : (ps : List Pt) → All Word32s ps → length (cornersText ps) ≤ 26 * length ps
 corners-size [] h = omega (arith, ap length corners-none)
-corners-size (p ∷ ps) h = omega (arith, ap length (corners-more p ps), length-append (cornerText p) (cornersText ps), corner-size p (h .0), corners-size ps (h .1))
+corners-size (p ∷ ps) h = omega (arith, ap length (corners-more p ps), length-append (cornerText p) (cornersText ps), corner-size (h .0), corners-size ps (h .1))

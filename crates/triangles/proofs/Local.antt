@@ -41,10 +41,10 @@ module _ {M : Type 1} (𝓤 : URA M) (H : Heap 𝓤) (A : Atoms 𝓤) (W : Given
       use1 W (‵ (cellAt fullShare (Array R n .mir) (v ∷ []) l 0)) (W .laws .at-raw fullShare (tyArray (lone (R .mir)) n) l 0 v) $ fjoin ! $
       fpack ! (List Val) (λ vs. fsep (cellAt fullShare (Array R n .mir) vs l 0) (Array R n .own xs vs)) (v ∷ []) $ by ! (array-apart 𝓤 H A W R fullShare s n xs l 0)
 
-  pub gathered : (vals : R .Denot → List Val) → Tells R (Is R) vals → (xs : List (R .Denot))
+  pub gathered : {vals : R .Denot → List Val} → Tells R (Is R) vals → (xs : List (R .Denot))
       → ent 𝓤 (sem 𝓤 H A (Row xs)) (ex 𝓤 (λ (v : Val). sep 𝓤 (sem 𝓤 H A (Cell v)) (sem 𝓤 H A (Array R n .own xs (v ∷ [])))))
   unfolding partOf
-  gathered vals tl xs =
+  gathered {vals} tl xs =
       qed W (‵ (Row xs) ∷ []) ∵ use1 W (‵ (partAt (Array R n) fullShare xs l 0)) (array-whole 𝓤 H A W R fullShare n xs l 0) $ fpick ! (λ vs. fsplit ! $ move ! (1 ∷ []) $
       peeks ! (Array R n) (Is (Array R n)) (shows 𝓤 H A (Array R n)) xs vs (λ p.
       rewrite ! 0 (λ (us : List Val). ‵ (Array R n .own xs us)) (array-tells R vals tl n xs vs p) refl $

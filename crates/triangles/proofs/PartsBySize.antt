@@ -179,8 +179,8 @@ module _ {M : Type 1} (𝓤 : URA M) (H : Heap 𝓤) (A : Atoms 𝓤) (W : Given
       → Sq W (‵ (N.the-row .own r (w ∷ [])) ∷ (‵ (flft κ q) ⊛ tok₂) ∷ ‵ (Own κ s) ∷ ‵ (finally u32 (x .name) f) ∷ ‵ (finally i32 (y .name) g) ∷ (rooms 𝓤 H En l
       ++ (room 𝓤 H En (o .test) tyBool ∷ room 𝓤 H En (o .count) (tyInt w64) ∷ room 𝓤 H En (o .corners) corners-ty ∷ room 𝓤 H En (o .starts) starts-ty ∷ room 𝓤 H En 1 sl ∷ room 𝓤 H En 0 N′.mir ∷ Γ))) (frees En (prop (Kf w)))
 
-  answered : {size : ℕ} (l : OfSize 𝓤 H En size) (Γ : List (Item 𝓤)) → Frees l Γ → Ends l Γ
-  answered l Γ freeing r w f g lf lg so Q back =
+  answered : {size : ℕ} (l : OfSize 𝓤 H En size) {Γ : List (Item 𝓤)} → Frees l Γ → Ends l Γ
+  answered l freeing r w f g lf lg so Q back =
       peeks ! N.the-row (Is N.the-row) (shows 𝓤 H A N.the-row) r (w ∷ []) (λ is. land ! (lies ! (o .at-answer) (stop !)) (init ! 15 refl (LL.lawful N.the-type N′.the-laws 𝓤 H A W .typed r _ is .0)) $
       returns-within ! Kf back (lies-read En 0 (o .at-answer) (look ! 15 refl)) $ forget ! 11 refl $ forget ! 12 refl $ forget ! 13 refl $ forget ! 14 refl $ forget ! 15 refl $ freeing r w f g lf lg so)
 
@@ -201,12 +201,12 @@ module _ {M : Type 1} (𝓤 : URA M) (H : Heap 𝓤) (A : Atoms 𝓤) (W : Given
         → Sq W (raw (Said size z r) ∷ Γ) G
 
   module _ (c : Callee) (fits-x : length (x .now) < 2 ^ 64) (fits-y : length (y .now) < 2 ^ 64) where
-    at-size : (size : ℕ) {s₂ s₃ : ℕ} (l : OfSize 𝓤 H En size) (l₂ : OfSize 𝓤 H En s₂) (l₃ : OfSize 𝓤 H En s₃) {#rows #rest : Name} {bound : Operand} {more : Body}
+    at-size : {size : ℕ} {s₂ s₃ : ℕ} (l : OfSize 𝓤 H En size) (l₂ : OfSize 𝓤 H En s₂) (l₃ : OfSize 𝓤 H En s₃) {#rows #rest : Name} {bound : Operand} {more : Body}
         → Triple 𝓤 (𝓣 .C #rows) (Rows 𝓤 H A size) → Triple 𝓤 (𝓣 .C #rest) (c .Rest size) → ((Δ : List (Item 𝓤)) → Opd (Go {0}) W Δ En bound (vint w64 size))
         → Ends l (rooms 𝓤 H En l₂ ++ (rooms 𝓤 H En l₃ ++ Γ₀))
         → (size < n → Sq W (Before l (rooms 𝓤 H En l₂ ++ (rooms 𝓤 H En l₃ ++ Γ₀))) (runs (𝓣 .C) (𝓣 .Λ) En more (atRet En Kf)))
         → Sq W (Before l (rooms 𝓤 H En l₂ ++ (rooms 𝓤 H En l₃ ++ Γ₀))) (runs (𝓣 .C) (𝓣 .Λ) En (sized 𝓤 H En o l #rows #rest (c .args (l .rows) (l .starts) (l .corners)) bound more) (atRet En Kf))
-    at-size size l l₂ l₃ read rest bound ends above =
+    at-size {size} l l₂ l₃ read rest bound ends above =
         move ! (10 ∷ 11 ∷ []) $ tests 𝓤 H A W 𝓣 En size (o .at-count) (o .at-test) bound
         (λ few Q back. move ! (2 ∷ 3 ∷ 11 ∷ 14 ∷ []) $
         -- [mesh's token; what mesh owns; the array; mesh; the test; its length; the others' tokens;
@@ -230,9 +230,9 @@ module _ {M : Type 1} (𝓤 : URA M) (H : Heap 𝓤) (A : Atoms 𝓤) (W : Given
         (λ h. move ! (2 ∷ 3 ∷ 4 ∷ 5 ∷ 6 ∷ 7 ∷ 8 ∷ 9 ∷ 10 ∷ 11 ∷ []) $ above h)
 
     -- nothing is written: starts and corners are given up as they were
-    past : {size : ℕ} (l : OfSize 𝓤 H En size) (Γ : List (Item 𝓤)) → Triple 𝓤 (𝓣 .C #refuse) (Refuse 𝓤 H A mem run) → ((r : Counts) → r ≡ refusedCounts 1 → Answers (trianglesMesh (s .now)) r (x .now) (y .now))
+    past : {size : ℕ} (l : OfSize 𝓤 H En size) {Γ : List (Item 𝓤)} → Triple 𝓤 (𝓣 .C #refuse) (Refuse 𝓤 H A mem run) → ((r : Counts) → r ≡ refusedCounts 1 → Answers (trianglesMesh (s .now)) r (x .now) (y .now))
         → Ends l Γ → Sq W (Before l Γ) (runs (𝓣 .C) (𝓣 .Λ) En refusing (atRet En Kf))
-    past l Γ known refused ends =
+    past l known refused ends =
         refuses 𝓤 H A W mem run 1 tt 𝓣 En known (λ r u er.
         -- [what the answer owns; mesh's token; what mesh owns; the others' tokens; what starts
         -- owns; what corners owns; …]
@@ -247,8 +247,8 @@ module _ {M : Type 1} (𝓤 : URA M) (H : Heap 𝓤) (A : Atoms 𝓤) (W : Given
         (sized 𝓤 H En o l₂ #rows-small #small (c .args (l₂ .rows) (l₂ .starts) (l₂ .corners)) (int w64 small)
         (sized 𝓤 H En o l₃ #rows-large #large (c .args (l₃ .rows) (l₃ .starts) (l₃ .corners)) (intBig w64 maxTriangles) refusing))) (atRet En Kf))
     by-size l₁ l₂ l₃ known known-refuse refused freeing =
-        let ends : Ends l₁ (rooms 𝓤 H En l₂ ++ (rooms 𝓤 H En l₃ ++ Γ₀)) = answered l₁ (rooms 𝓤 H En l₂ ++ (rooms 𝓤 H En l₃ ++ Γ₀)) freeing in
-        at-size tiny l₁ l₂ l₃ (known .read-tiny) (known .rest-tiny) (λ Δ. lit ! tt) ends (λ _. move ! second $
-        at-size small l₂ l₁ l₃ (known .read-small) (known .rest-small) (λ Δ. lit ! tt) (λ r w f g lf lg so Q back. move ! second $ ends r w f g lf lg so Q back) (λ _. move ! second $ move ! third $
-        at-size maxTriangles l₃ l₂ l₁ (known .read-large) (known .rest-large) (λ Δ. big-lit ! (record { fits = lit< tt })) (λ r w f g lf lg so Q back. move ! third $ ends r w f g lf lg so Q back) (λ h. move ! third $
-        past l₁ (rooms 𝓤 H En l₂ ++ (rooms 𝓤 H En l₃ ++ Γ₀)) known-refuse (refused h) ends)))
+        let ends : Ends l₁ (rooms 𝓤 H En l₂ ++ (rooms 𝓤 H En l₃ ++ Γ₀)) = answered l₁ freeing in
+        at-size l₁ l₂ l₃ (known .read-tiny) (known .rest-tiny) (λ Δ. lit ! tt) ends (λ _. move ! second $
+        at-size l₂ l₁ l₃ (known .read-small) (known .rest-small) (λ Δ. lit ! tt) (λ r w f g lf lg so Q back. move ! second $ ends r w f g lf lg so Q back) (λ _. move ! second $ move ! third $
+        at-size l₃ l₂ l₁ (known .read-large) (known .rest-large) (λ Δ. big-lit ! (record { fits = lit< tt })) (λ r w f g lf lg so Q back. move ! third $ ends r w f g lf lg so Q back) (λ h. move ! third $
+        past l₁ known-refuse (refused h) ends)))

@@ -228,9 +228,9 @@ module _ (size : ℕ) (#blank : Name) where
       abbrev Turned : Read size ys → Out → SProp 𝓤
       Turned a = afterTurn 𝓤 H (Below 𝓤 H A Nearer At a) (afterBlock 𝓤 H (afterSeq 𝓤 H (Wp 𝓤 H C Λ En rest (atReturn 𝓤 H En Post)) (atReturn 𝓤 H En Post)))
 
-      turn-by : (a : Read size ys) (b : Bool) → ltb (a .i) (length ys) ≡ b → Sq W (At a) (runs C Λ En turn (anyQ (Turned a)))
+      turn-by : (a : Read size ys) {b : Bool} → ltb (a .i) (length ys) ≡ b → Sq W (At a) (runs C Λ En turn (anyQ (Turned a)))
       unfolding afterTurn
-      turn-by a true e =
+      turn-by a {b = true} e =
           assigns ! (of-opd ! (load ! (from ! (fld ! refl (stop !))) (look-in ! 20 (sub ! 1 refl (whole !))))) (from ! (stop !)) (init ! 11 refl (tt, record { fits = fits-len })) $
           assigns ! (bin ! (load ! (from ! (stop !)) (look ! 17 refl)) (load ! (from ! (stop !)) (look ! 11 refl)) tt) (from ! (stop !)) (init ! 9 refl (tt, tt)) $
           rewrite ! 9 (λ (t : Bool). ‵ (fat fullShare tyBool l₇ 0 (vbool t))) e refl $ stays ! (load ! (from ! (stop !)) (look ! 9 refl)) $
@@ -266,12 +266,12 @@ module _ (size : ℕ) (#blank : Name) where
 
           in-rows : a .i < length (a .rows)
           in-rows = subst (λ (m : ℕ). a .i < m) (sym (a .long)) (omega (arith, less, few))
-      turn-by a false e =
+      turn-by a {b = false} e =
           assigns ! (of-opd ! (load ! (from ! (fld ! refl (stop !))) (look-in ! 20 (sub ! 1 refl (whole !))))) (from ! (stop !)) (init ! 11 refl (tt, record { fits = fits-len })) $
           assigns ! (bin ! (load ! (from ! (stop !)) (look ! 17 refl)) (load ! (from ! (stop !)) (look ! 11 refl)) tt) (from ! (stop !)) (init ! 9 refl (tt, tt)) $
           rewrite ! 9 (λ (t : Bool). ‵ (fat fullShare tyBool l₇ 0 (vbool t))) e refl $ leaves-loop ! (load ! (from ! (stop !)) (look ! 9 refl)) $ exec ! C Λ En rest (atRet En Post) $
           move ! (2 ∷ []) $ feqI ! ℕ (length (a .rows)) size (a .long) $ fjoin ! $
-          use1 W (some (λ (w : Val). ‵ (fat fullShare array l₂ 0 w) ⊛ ‵ (Array′ .own (a .rows) (w ∷ [])))) (gathered 𝓤 H A W R size l₂ vals tells (a .rows)) $ pick ! (λ w. split ! $ move ! (1 ∷ []) $
+          use1 W (some (λ (w : Val). ‵ (fat fullShare array l₂ 0 w) ⊛ ‵ (Array′ .own (a .rows) (w ∷ [])))) (gathered 𝓤 H A W R size l₂ tells (a .rows)) $ pick ! (λ w. split ! $ move ! (1 ∷ []) $
           -- [what the rows own; _2; the token; what mesh owns; _10; …]
           peeks ! Array′ (Is Array′) (shows 𝓤 H A Array′) (a .rows) (w ∷ []) (λ is.
           assigns ! (of-opd ! (load ! (from ! (stop !)) (look ! 1 refl))) (from ! (stop !)) (init ! 23 refl (Big-lawful .typed (a .rows) _ is .0)) $
@@ -281,7 +281,7 @@ module _ (size : ℕ) (#blank : Name) where
           move ! (1 ∷ 2 ∷ 0 ∷ []) $ by ! (exits (a .rows) w (all-read ys (a .i) (a .rows) (a .within) (ltb-false _ _ e) (a .so)))))
 
       turns : (a : Read size ys) → Sq W (At a) (runs C Λ En turn (anyQ (Turned a)))
-      turns a = turn-by a (ltb (a .i) (length ys)) refl
+      turns a = turn-by a refl
 
     walk : (𝓣 : Tables 𝓤 H) → Triple 𝓤 (𝓣 .C #blank) (Blank 𝓤 H A mem run) → Triple 𝓤 (𝓣 .C #get) (Get 𝓤 H A mem run) → Triple 𝓤 (𝓣 .C #step) (Step 𝓤 H A mem run)
         → ent 𝓤 (onEntry 𝓤 H A (ended size .signature) (κ, tt) (q, tt) (s, tt) at) (WpFn 𝓤 H (𝓣 .C) (𝓣 .Λ) function (v ∷ []) Post)

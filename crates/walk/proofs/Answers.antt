@@ -73,17 +73,17 @@ next-number l r s = choice-number nextNumber (pairStepFault l r s) _ _ (emitted-
 
 -- ---- a refusal hands back what came
 
-refused : {A B : Type 0} (place : A → B) (f : ℕ) (good bad : A) → 0 < f → place (cond (eqb f 0) good bad) ≡ place bad
-refused place zero good bad h = absurd (omega arith)
-refused place (suc f) good bad h = rw (ne-eqb (suc f) 0 (omega arith))
+refused : {A B : Type 0} (place : A → B) (f : ℕ) (good : A) {bad : A} → 0 < f → place (cond (eqb f 0) good bad) ≡ place bad
+refused place zero good h = absurd (omega arith)
+refused place (suc f) good h = rw (ne-eqb (suc f) 0 (omega arith))
 
 pub stepped-back : (l : List ℤ) (w : Place) → 0 < stepFault l w → steppedPlace (steppedOf l w) ≡ w
 unfolding steppedOf
-stepped-back l w h = refused steppedPlace (stepFault l w) _ _ h
+stepped-back l w h = refused steppedPlace (stepFault l w) _ h
 
 pub next-back : (l r : List ℤ) (s : ConvexSum) → 0 < pairStepFault l r s → nextPlaces (pairSteppedOf l r s) ≡ s
 unfolding pairSteppedOf
-next-back l r s h = refused nextPlaces (pairStepFault l r s) _ _ h
+next-back l r s h = refused nextPlaces (pairStepFault l r s) _ h
 
 -- ---- an accepted step stays on the contour
 
@@ -112,14 +112,14 @@ index-inside n w h = leb-false n (w .index) (all-false (leb n (w .index)) (w .se
 -- off a segment its ends don't matter
 flat-next : (n : ℕ) (w : Place) → w .segment ≡ false → w .index < n → nextIndex n w < n
 unfolding nextIndex
-flat-next n w h k = rw h (valid-next n (record { index = w .index; remaining = 0; reverse = w .reverse; reflected = false; segment = false; start = w .index; end = w .index }) (record { index = k; start = k; end = k }))
+flat-next n w h k = rw h (valid-next {n = n} {w = record { index = w .index; remaining = 0; reverse = w .reverse; reflected = false; segment = false; start = w .index; end = w .index }} (record { index = k; start = k; end = k }))
 
 pub next-inside : (n : ℕ) (w : Place) → misplaced n w ≡ false → nextIndex n w < n
 unfolding misplaced
 next-inside n w h =
     let t = all-false (leb n (w .index)) (w .segment) (leb n (w .start)) (leb n (w .end)) h in
     by-test (w .segment)
-    (λ s. valid-next n w (record { index = leb-false n (w .index) (t .0); start = leb-false n (w .start) (t .1 s .0); end = leb-false n (w .end) (t .1 s .1) }))
+    (λ s. valid-next (record { index = leb-false n (w .index) (t .0); start = leb-false n (w .start) (t .1 s .0); end = leb-false n (w .end) (t .1 s .1) }))
     (λ s. flat-next n w s (leb-false n (w .index) (t .0)))
 
 -- the place stepped to is a corner again, and so are the ends, which stay
@@ -127,11 +127,11 @@ pub advance-placed : (n : ℕ) (w : Place) → misplaced n w ≡ false → mispl
 unfolding misplaced advance
 advance-placed n w h =
     let t = all-false (leb n (w .index)) (w .segment) (leb n (w .start)) (leb n (w .end)) h in
-    rw (lt-leb n (nextIndex n w) (next-inside n w h), ends (w .segment) _ _ (t .1))
+    rw (lt-leb n (nextIndex n w) (next-inside n w h), ends (w .segment) (t .1))
   where
-    ends : (s b c : Bool) → (s ≡ true → (b ≡ false) × (c ≡ false)) → cond s (cond b true c) false ≡ false
-    ends true b c f = rw (f refl .0, f refl .1)
-    ends false b c f = refl
+    ends : (s : Bool) {b c : Bool} → (s ≡ true → (b ≡ false) × (c ≡ false)) → cond s (cond b true c) false ≡ false
+    ends true f = rw (f refl .0, f refl .1)
+    ends false f = refl
 
 -- where a step is accepted, the walk had a step left and was in place, and so was its next place
 pub record Accepted (l : List ℤ) (w : Place) : Type 0 where
@@ -156,13 +156,13 @@ pub step-placed : (l : List ℤ) (w : Place) → stepFault l w ≡ 0 → misplac
 unfolding steppedOf
 step-placed l w h = rw (h, advance-placed (length (pointsOf l)) w (accepted l w h .placed))
 
-valid-placed : (n : ℕ) (w : Place) → Valid n w → misplaced n w ≡ false
+valid-placed : {n : ℕ} {w : Place} → Valid n w → misplaced n w ≡ false
 unfolding misplaced
-valid-placed n w v = rw (lt-leb n (w .index) (v .index), lt-leb n (w .start) (v .start), lt-leb n (w .end) (v .end), neither (w .segment))
+valid-placed {n} {w} v = rw (lt-leb n (w .index) (v .index), lt-leb n (w .start) (v .start), lt-leb n (w .end) (v .end), neither (w .segment))
   where
     neither : (s : Bool) → cond s false false ≡ false
     neither true = refl
     neither false = refl
 
 pub begin-placed : (reflected : Bool) (l : List Pt) → 0 < length l → misplaced (length l) (begin reflected l) ≡ false
-begin-placed reflected l h = valid-placed (length l) (begin reflected l) (valid-begin reflected l h)
+begin-placed reflected l h = valid-placed (valid-begin reflected l h)

@@ -38,29 +38,29 @@ module _ (l : List ℤ) (reflected : Bool) where
 
   pub begin-7 : lengthBroken l ≡ true → Refused 7 ≡ begunOf l reflected
   unfolding beginFault
-  begin-7 a = refused-by 7 (first-this 7 (lengthBroken l) _ a) (λ z. absurd (omega arith))
+  begin-7 a = refused-by 7 (first-this 7 _ a) (λ z. absurd (omega arith))
 
   module _ (a : lengthBroken l ≡ false) where
     pub begin-2 : offRange l ≡ true → Refused 2 ≡ begunOf l reflected
     unfolding beginFault
-    begin-2 b = refused-by 2 (first-next 7 (lengthBroken l) _ a ∙ first-this 2 (offRange l) _ b) (λ z. absurd (omega arith))
+    begin-2 b = refused-by 2 (first-next 7 _ a ∙ first-this 2 _ b) (λ z. absurd (omega arith))
 
     module _ (b : offRange l ≡ false) where
       pub begin-8 : windingLeaves reflected (pointsOf l) ≡ true → Refused 8 ≡ begunOf l reflected
       unfolding beginFault
-      begin-8 k = refused-by 8 (first-next 7 (lengthBroken l) _ a ∙ first-next 2 (offRange l) _ b ∙ first-this 8 _ _ k) (λ z. absurd (omega arith))
+      begin-8 k = refused-by 8 (first-next 7 _ a ∙ first-next 2 _ b ∙ first-this 8 _ k) (λ z. absurd (omega arith))
 
       pub begin-20 : length l ≡ 0 → Refused 20 ≡ begunOf l reflected
       unfolding beginFault windingLeaves
       begin-20 h =
           let none : windingLeaves reflected (pointsOf l) ≡ false = none-leaves (pos 0) (windingTerms (startAt reflected (pointsOf l)) (pointsOf l)) (omega (arith, length-terms (startAt reflected (pointsOf l)) (pointsOf l), length-points l)) in
-          refused-by 20 (first-next 7 (lengthBroken l) _ a ∙ first-next 2 (offRange l) _ b ∙ first-next 8 _ _ none ∙ first-this 20 (eqb (length l) 0) _ (eq-eqb (length l) 0 h)) (λ z. absurd (omega arith))
+          refused-by 20 (first-next 7 _ a ∙ first-next 2 _ b ∙ first-next 8 _ none ∙ first-this 20 _ (eq-eqb (length l) 0 h)) (λ z. absurd (omega arith))
 
       pub begin-at : windingLeaves reflected (pointsOf l) ≡ false → (length l ≡ 0 → ⊥) → At (begin reflected (pointsOf l)) ≡ begunOf l reflected
       unfolding beginFault begunOf
       begin-at k h =
           accepts (At (begin reflected (pointsOf l))) (Refused (beginFault l reflected))
-          (first-next 7 (lengthBroken l) _ a ∙ first-next 2 (offRange l) _ b ∙ first-next 8 _ _ k ∙ first-next 20 (eqb (length l) 0) _ (ne-eqb (length l) 0 h) ∙ first-empty)
+          (first-next 7 _ a ∙ first-next 2 _ b ∙ first-next 8 _ k ∙ first-next 20 _ (ne-eqb (length l) 0 h) ∙ first-empty)
 
 -- ---- by what the code holds: the start s and the winding seen from it
 

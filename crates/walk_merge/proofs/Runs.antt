@@ -40,13 +40,13 @@ module _ (set : Bool) (v : IntVector) (e : Pt) where
 
 -- ---- the direction after an edge
 
-pub took-headed : (g : Going) (e : Pt) (t : ConvexSum) → g .headed ≡ true → Short (g .heading) → Took g e t (record { on = true; headed = true; heading = g .heading; at = t })
+pub took-headed : {g : Going} {e : Pt} {t : ConvexSum} → g .headed ≡ true → Short (g .heading) → Took g e t (record { on = true; headed = true; heading = g .heading; at = t })
 unfolding headed
-took-headed g e t h s = record { on = refl; heads = ap (λ b. headed (headingBy b (g .heading)) e) (sym h); at = refl; short = s }
+took-headed {g} {e} h s = record { on = refl; heads = ap (λ b. headed (headingBy b (g .heading)) e) (sym h); at = refl; short = s }
 
-pub took-fresh : (g : Going) (v : IntVector) (t : ConvexSum) {z : Bool} → g .headed ≡ false → z ≡ isZero (vector v) → Short v → Took g (vector v) t (record { on = true; headed = not z; heading = v; at = t })
+pub took-fresh : {g : Going} {v : IntVector} {t : ConvexSum} {z : Bool} → g .headed ≡ false → z ≡ isZero (vector v) → Short v → Took g (vector v) t (record { on = true; headed = not z; heading = v; at = t })
 unfolding headed
-took-fresh g v t {z} h e s = record {
+took-fresh {g} {v} {z} h e s = record {
   on = refl;
   heads = ap (λ b. cond (not b) (along (vector v)) unset) e ∙ turned (isZero (vector v)) ∙ ap (λ b. headed (headingBy b (g .heading)) (vector v)) (sym h);
   at = refl;
@@ -138,9 +138,9 @@ module _ (l r : List ℤ) (g : Going) (on : g .on ≡ true) (ready : MayStep l r
       less : stepsToCome stopped < stepsToCome g
       less = rw on (omega arith)
 
-  pub went-on : (e : Pt) (t : ConvexSum) {h : Going} → Took g e t h → Judged l r t → stepsLeft (g .at) ≡ suc (stepsLeft t) → ahead ≡ run (stepsLeft t) A B (headed (headingOf g) e) t → SteppedOn l r g h
+  pub went-on : {e : Pt} {t : ConvexSum} {h : Going} → Took g e t h → Judged l r t → stepsLeft (g .at) ≡ suc (stepsLeft t) → ahead ≡ run (stepsLeft t) A B (headed (headingOf g) e) t → SteppedOn l r g h
   unfolding finalOf stepsToCome
-  went-on e t {h} k j n f = record {
+  went-on {e} {t} {h} k j n f = record {
     ready = record { judged = subst (Judged l r) (sym (k .at)) j; short = k .short };
     same = there ∙ sym f ∙ sym final-ahead;
     fewer = less;
@@ -153,25 +153,25 @@ module _ (l r : List ℤ) (g : Going) (on : g .on ≡ true) (ready : MayStep l r
       less = rw (on, k .on, k .at) (omega arith)
 
   -- an edge that belongs is taken
-  pub took-first : (e : Pt) → first e ≡ nextStep A B (g .at) → belongs (headingOf g) e ≡ true → {t : ConvexSum} {h : Going} → t ≡ stepFirst A (g .at) → Took g e t h → SteppedOn l r g h
+  pub took-first : {e : Pt} → first e ≡ nextStep A B (g .at) → belongs (headingOf g) e ≡ true → {t : ConvexSum} {h : Going} → t ≡ stepFirst A (g .at) → Took g e t h → SteppedOn l r g h
   unfolding advance
-  took-first e p b {t} {h} u k =
-      went-on e t k (subst (Judged l r) (sym u) (first-judged (ready .judged))) (omega (arith, first-left A B (g .at) e p .0) ∙ ap (λ z. suc (stepsLeft z)) (sym u))
+  took-first {e} p b {t} {h} u k =
+      went-on k (subst (Judged l r) (sym u) (first-judged (ready .judged))) (omega (arith, first-left A B (g .at) e p .0) ∙ ap (λ z. suc (stepsLeft z)) (sym u))
       (run-first A B (headingOf g) (g .at) e p ∙ ap (λ z. cond z (run (stepsLeft (stepFirst A (g .at))) A B (headed (headingOf g) e) (stepFirst A (g .at))) (stopOf g)) b ∙ ap (λ z. run (stepsLeft z) A B (headed (headingOf g) e) z) (sym u))
 
-  pub took-second : (e : Pt) → second e ≡ nextStep A B (g .at) → belongs (headingOf g) e ≡ true → {t : ConvexSum} {h : Going} → t ≡ stepSecond B (g .at) → Took g e t h → SteppedOn l r g h
+  pub took-second : {e : Pt} → second e ≡ nextStep A B (g .at) → belongs (headingOf g) e ≡ true → {t : ConvexSum} {h : Going} → t ≡ stepSecond B (g .at) → Took g e t h → SteppedOn l r g h
   unfolding advance
-  took-second e p b {t} {h} u k =
-      went-on e t k (subst (Judged l r) (sym u) (second-judged (ready .judged))) (omega (arith, second-left A B (g .at) e p .0) ∙ ap (λ z. suc (stepsLeft z)) (sym u))
+  took-second {e} p b {t} {h} u k =
+      went-on k (subst (Judged l r) (sym u) (second-judged (ready .judged))) (omega (arith, second-left A B (g .at) e p .0) ∙ ap (λ z. suc (stepsLeft z)) (sym u))
       (run-second A B (headingOf g) (g .at) e p ∙ ap (λ z. cond z (run (stepsLeft (stepSecond B (g .at))) A B (headed (headingOf g) e) (stepSecond B (g .at))) (stopOf g)) b ∙ ap (λ z. run (stepsLeft z) A B (headed (headingOf g) e) z) (sym u))
 
   -- one that does not is left
-  pub left-first : (e : Pt) → first e ≡ nextStep A B (g .at) → belongs (headingOf g) e ≡ false → {h : Going} → h ≡ stopped → SteppedOn l r g h
-  left-first e p b u =
+  pub left-first : {e : Pt} → first e ≡ nextStep A B (g .at) → belongs (headingOf g) e ≡ false → {h : Going} → h ≡ stopped → SteppedOn l r g h
+  left-first {e} p b u =
       stopped-on u (run-first A B (headingOf g) (g .at) e p ∙ ap (λ z. cond z (run (stepsLeft (stepFirst A (g .at))) A B (headed (headingOf g) e) (stepFirst A (g .at))) (stopOf g)) b)
 
-  pub left-second : (e : Pt) → second e ≡ nextStep A B (g .at) → belongs (headingOf g) e ≡ false → {h : Going} → h ≡ stopped → SteppedOn l r g h
-  left-second e p b u =
+  pub left-second : {e : Pt} → second e ≡ nextStep A B (g .at) → belongs (headingOf g) e ≡ false → {h : Going} → h ≡ stopped → SteppedOn l r g h
+  left-second {e} p b u =
       stopped-on u (run-second A B (headingOf g) (g .at) e p ∙ ap (λ z. cond z (run (stepsLeft (stepSecond B (g .at))) A B (headed (headingOf g) e) (stepSecond B (g .at))) (stopOf g)) b)
 
 -- ---- the loop's first and last

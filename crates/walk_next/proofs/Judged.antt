@@ -17,23 +17,23 @@ use Rattle.walk_pick.specs.Picking.{Judged}
 use Rattle.walk_next.proofs.Promises.{fault-none, next-given, next-by}
 
 module _ (l r : List ℤ) where
-  pub no-fault : (s : ConvexSum) → Judged l r s → pairStepFault l r s ≡ 0
-  no-fault s j = sym (fault-none l r s (j .left-short) (j .right-short) (j .left-placed) (j .right-placed) (j .left-range) (j .right-range))
+  pub no-fault : {s : ConvexSum} → Judged l r s → pairStepFault l r s ≡ 0
+  no-fault {s} j = sym (fault-none l r s (j .left-short) (j .right-short) (j .left-placed) (j .right-placed) (j .left-range) (j .right-range))
 
-  pub answered : (s : ConvexSum) → Judged l r s → pairSteppedOf l r s ≡ nextOf (pairStep (pointsOf l) (pointsOf r) s)
-  answered s j = sym (next-given l r s refl (no-fault s j) refl)
+  pub answered : {s : ConvexSum} → Judged l r s → pairSteppedOf l r s ≡ nextOf (pairStep (pointsOf l) (pointsOf r) s)
+  answered {s} j = sym (next-given l r s refl (no-fault j) refl)
 
   -- a corner: both walks are judged where they then stand, with fewer steps left
   pub record Gave (s t : ConvexSum) : Type 0 where
     pub judged : Judged l r t
     pub fewer : stepsLeft t < stepsLeft s
 
-  pub gave : (s : ConvexSum) → Judged l r s → (p : Pt) (t : ConvexSum) → pairStep (pointsOf l) (pointsOf r) s ≡ corner p t → Gave s t
-  gave s j p t h =
+  pub gave : {s : ConvexSum} → Judged l r s → (p : Pt) (t : ConvexSum) → pairStep (pointsOf l) (pointsOf r) s ≡ corner p t → Gave s t
+  gave {s} j p t h =
       let n = next-by l r s in
-      let e : pairSteppedOf l r s ≡ next.Corner (intPoint p) t = answered s j ∙ ap nextOf h in
+      let e : pairSteppedOf l r s ≡ next.Corner (intPoint p) t = answered j ∙ ap nextOf h in
       let at : nextPlaces (pairSteppedOf l r s) ≡ t = ap nextPlaces e in
-      let p' = n .stays (no-fault s j) in
+      let p' = n .stays (no-fault j) in
       record {
         judged = record {
           left-short = j .left-short;

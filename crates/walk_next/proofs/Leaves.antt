@@ -33,24 +33,24 @@ after A B n h s (second e) = cond (belongs h e) (run n A B (headed h e) (stepSec
 
 run-after : (A B : List Pt) (n : ℕ) (h : Heading) (s : ConvexSum) → run (suc n) A B h s ≡ after A B n h s (nextStep A B s)
 unfolding run
-run-after A B n h s = by (nextStep A B s) refl
+run-after A B n h s = by refl
   where
-    by : (k : Pick) → k ≡ nextStep A B s → run (suc n) A B h s ≡ after A B n h s k
-    by none p = rw (sym p, run)
-    by (first e) p = rw (sym p, run)
-    by (second e) p = rw (sym p, run)
+    by : {k : Pick} → k ≡ nextStep A B s → run (suc n) A B h s ≡ after A B n h s k
+    by {k = none} p = rw (sym p, run)
+    by {k = first e} p = rw (sym p, run)
+    by {k = second e} p = rw (sym p, run)
 
-after-placed : (A B : List Pt) (n : ℕ) (h : Heading) (s : ConvexSum) → Placed A B s → ((g : Heading) (t : ConvexSum) → Placed A B t → Placed A B (run n A B g t .at)) → (k : Pick) → Placed A B (after A B n h s k .at)
-after-placed A B n h s p ih none = p
-after-placed A B n h s p ih (first e) = cond-ind (belongs h e) (run n A B (headed h e) (stepFirst A s)) (record { heading = h; at = s }) (λ (r : Run). Placed A B (r .at))
+after-placed : {A B : List Pt} (n : ℕ) (h : Heading) {s : ConvexSum} → Placed A B s → ((g : Heading) (t : ConvexSum) → Placed A B t → Placed A B (run n A B g t .at)) → (k : Pick) → Placed A B (after A B n h s k .at)
+after-placed n h p ih none = p
+after-placed {A} {B} n h {s} p ih (first e) = cond-ind (belongs h e) (run n A B (headed h e) (stepFirst A s)) (record { heading = h; at = s }) (λ (r : Run). Placed A B (r .at))
     (λ t. ih (headed h e) (stepFirst A s) (record { left = advance-placed (length A) (s .a) (p .left); right = p .right })) (λ t. p)
-after-placed A B n h s p ih (second e) = cond-ind (belongs h e) (run n A B (headed h e) (stepSecond B s)) (record { heading = h; at = s }) (λ (r : Run). Placed A B (r .at))
+after-placed {A} {B} n h {s} p ih (second e) = cond-ind (belongs h e) (run n A B (headed h e) (stepSecond B s)) (record { heading = h; at = s }) (λ (r : Run). Placed A B (r .at))
     (λ t. ih (headed h e) (stepSecond B s) (record { left = p .left; right = advance-placed (length B) (s .b) (p .right) })) (λ t. p)
 
-pub run-placed : (A B : List Pt) (n : ℕ) (h : Heading) (s : ConvexSum) → Placed A B s → Placed A B (run n A B h s .at)
+pub run-placed : {A B : List Pt} (n : ℕ) (h : Heading) {s : ConvexSum} → Placed A B s → Placed A B (run n A B h s .at)
 unfolding run
-run-placed A B zero h s p = p
-run-placed A B (suc n) h s p = subst (λ (r : Run). Placed A B (r .at)) (sym (run-after A B n h s)) (after-placed A B n h s p (λ g t q. run-placed A B n g t q) (nextStep A B s))
+run-placed zero h p = p
+run-placed {A} {B} (suc n) h {s} p = subst (λ (r : Run). Placed A B (r .at)) (sym (run-after A B n h s)) (after-placed n h p (λ g t q. run-placed n g q) (nextStep A B s))
 
 -- ---- run out
 
@@ -60,9 +60,9 @@ unfolding handed live afterSteps
 out-done l w h = record { idle = ap (λ k. live (handed k l w)) h; over = sym (ap (λ k. afterSteps k (length l) w) h); done = h }
 
 -- a zero edge is stepped over
-out-step : (l : List Pt) (w t : Place) → 0 < w .remaining → isZero (edgeOf l w) ≡ true → RunOut l (advance (length l) w) t → RunOut l w t
+out-step : {l : List Pt} (w : Place) {t : Place} → 0 < w .remaining → isZero (edgeOf l w) ≡ true → RunOut l (advance (length l) w) t → RunOut l w t
 unfolding handed live afterSteps advance
-out-step l w t h z o =
+out-step {l} w h z o =
     let k : w .remaining ≡ suc (w .remaining - 1) = omega arith in
     record {
       idle = ap (λ m. live (handed m l w)) k ∙ ap (λ b. cond b (live (handed (w .remaining - 1) l (advance (length l) w))) (edgeOf l w ∷ live (handed (w .remaining - 1) l (advance (length l) w)))) z ∙ o .idle;
@@ -89,23 +89,23 @@ module _ (A B : List Pt) (n : ℕ) (s : ConvexSum) where
 
   first-out : 0 < s .a .remaining → stepsLeft (stepFirst A s) ≤ n → OutFrom unset (stepFirst A s) (stepFirst A s) → OutFrom (begunBy (edgeOf A (s .a))) (stepFirst A s) s
   first-out q f ih = by-test (isZero (edgeOf A (s .a)))
-      (λ z. subst (λ b. OutFrom (cond b unset (along (edgeOf A (s .a)))) (stepFirst A s) s) (sym z) (λ u. let o = ih u in record { left = out-step A (s .a) _ q z (o .left); right = o .right }))
+      (λ z. subst (λ b. OutFrom (cond b unset (along (edgeOf A (s .a)))) (stepFirst A s) s) (sym z) (λ u. let o = ih u in record { left = out-step (s .a) q z (o .left); right = o .right }))
       (λ z. subst (λ b. OutFrom (cond b unset (along (edgeOf A (s .a)))) (stepFirst A s) s) (sym z) (λ u. absurd (differs (edgeOf A (s .a)) (sym (run-along A B n (edgeOf A (s .a)) (stepFirst A s) f .heads) ∙ u))))
 
   second-out : 0 < s .b .remaining → stepsLeft (stepSecond B s) ≤ n → OutFrom unset (stepSecond B s) (stepSecond B s) → OutFrom (begunBy (edgeOf B (s .b))) (stepSecond B s) s
   second-out q f ih = by-test (isZero (edgeOf B (s .b)))
-      (λ z. subst (λ b. OutFrom (cond b unset (along (edgeOf B (s .b)))) (stepSecond B s) s) (sym z) (λ u. let o = ih u in record { left = o .left; right = out-step B (s .b) _ q z (o .right) }))
+      (λ z. subst (λ b. OutFrom (cond b unset (along (edgeOf B (s .b)))) (stepSecond B s) s) (sym z) (λ u. let o = ih u in record { left = o .left; right = out-step (s .b) q z (o .right) }))
       (λ z. subst (λ b. OutFrom (cond b unset (along (edgeOf B (s .b)))) (stepSecond B s) s) (sym z) (λ u. absurd (differs (edgeOf B (s .b)) (sym (run-along A B n (edgeOf B (s .b)) (stepSecond B s) f .heads) ∙ u))))
 
-  after-out : stepsLeft s ≤ suc n → ((t : ConvexSum) → stepsLeft t ≤ n → OutFrom unset t t) → (k : Pick) → Picked A B s k → after A B n unset s k .heading ≡ unset → BothOut A B s (after A B n unset s k .at)
+  after-out : stepsLeft s ≤ suc n → ((t : ConvexSum) → stepsLeft t ≤ n → OutFrom unset t t) → {k : Pick} → Picked A B s k → after A B n unset s k .heading ≡ unset → BothOut A B s (after A B n unset s k .at)
   unfolding belongs headed advance
-  after-out h ih none (none-left a b) u = record { left = out-done A (s .a) a; right = out-done B (s .b) b }
-  after-out h ih (first e) (first-steps q) u = first-out q (omega arith) (ih (stepFirst A s) (omega arith)) u
-  after-out h ih (second e) (second-steps q) u = second-out q (omega arith) (ih (stepSecond B s) (omega arith)) u
+  after-out h ih {k = none} (none-left a b) u = record { left = out-done A (s .a) a; right = out-done B (s .b) b }
+  after-out h ih {k = first e} (first-steps q) u = first-out q (omega arith) (ih (stepFirst A s) (omega arith)) u
+  after-out h ih {k = second e} (second-steps q) u = second-out q (omega arith) (ih (stepSecond B s) (omega arith)) u
 
 pub run-out : (A B : List Pt) (n : ℕ) (s : ConvexSum) → stepsLeft s ≤ n → run n A B unset s .heading ≡ unset → BothOut A B s (run n A B unset s .at)
 unfolding run
 run-out A B zero s h = λ u. record { left = out-done A (s .a) (omega arith); right = out-done B (s .b) (omega arith) }
 run-out A B (suc n) s h =
     subst (λ (r : Run). r .heading ≡ unset → BothOut A B s (r .at)) (sym (run-after A B n unset s))
-    (after-out A B n s h (λ t k. run-out A B n t k) (nextStep A B s) (picked A B s))
+    (after-out A B n s h (λ t k. run-out A B n t k) (picked A B s))

@@ -41,37 +41,37 @@ module _ (l r : List ℤ) (s : ConvexSum) where
 
   pub fault-left-7 : lengthBroken l ≡ true → 7 ≡ pairStepFault l r s
   unfolding pairStepFault
-  fault-left-7 a = sym (first-this 7 (lengthBroken l) _ a)
+  fault-left-7 a = sym (first-this 7 _ a)
 
   module _ (a : lengthBroken l ≡ false) where
     pub fault-right-7 : lengthBroken r ≡ true → 7 ≡ pairStepFault l r s
     unfolding pairStepFault
-    fault-right-7 b = sym (first-next 7 (lengthBroken l) _ a ∙ first-this 7 (lengthBroken r) _ b)
+    fault-right-7 b = sym (first-next 7 _ a ∙ first-this 7 _ b)
 
     module _ (b : lengthBroken r ≡ false) where
       pub fault-left-23 : leftPlaced ≡ true → 23 ≡ pairStepFault l r s
       unfolding pairStepFault
-      fault-left-23 c = sym (first-next 7 (lengthBroken l) _ a ∙ first-next 7 (lengthBroken r) _ b ∙ first-this 23 leftPlaced _ c)
+      fault-left-23 c = sym (first-next 7 _ a ∙ first-next 7 _ b ∙ first-this 23 _ c)
 
       module _ (c : leftPlaced ≡ false) where
         pub fault-right-23 : rightPlaced ≡ true → 23 ≡ pairStepFault l r s
         unfolding pairStepFault
-        fault-right-23 d = sym (first-next 7 (lengthBroken l) _ a ∙ first-next 7 (lengthBroken r) _ b ∙ first-next 23 leftPlaced _ c ∙ first-this 23 rightPlaced _ d)
+        fault-right-23 d = sym (first-next 7 _ a ∙ first-next 7 _ b ∙ first-next 23 _ c ∙ first-this 23 _ d)
 
         module _ (d : rightPlaced ≡ false) where
           past : pairStepFault l r s ≡ firstFault ((2, offRange l) ∷ (2, offRange r) ∷ [])
           unfolding pairStepFault
-          past = first-next 7 (lengthBroken l) _ a ∙ first-next 7 (lengthBroken r) _ b ∙ first-next 23 leftPlaced _ c ∙ first-next 23 rightPlaced ((2, offRange l) ∷ (2, offRange r) ∷ []) d
+          past = first-next 7 _ a ∙ first-next 7 _ b ∙ first-next 23 _ c ∙ first-next 23 ((2, offRange l) ∷ (2, offRange r) ∷ []) d
 
           pub fault-left-2 : offRange l ≡ true → 2 ≡ pairStepFault l r s
-          fault-left-2 e = sym (past ∙ first-this 2 (offRange l) _ e)
+          fault-left-2 e = sym (past ∙ first-this 2 _ e)
 
           module _ (e : offRange l ≡ false) where
             pub fault-right-2 : offRange r ≡ true → 2 ≡ pairStepFault l r s
-            fault-right-2 f = sym (past ∙ first-next 2 (offRange l) _ e ∙ first-this 2 (offRange r) _ f)
+            fault-right-2 f = sym (past ∙ first-next 2 _ e ∙ first-this 2 _ f)
 
             pub fault-none : offRange r ≡ false → 0 ≡ pairStepFault l r s
-            fault-none f = sym (past ∙ first-next 2 (offRange l) _ e ∙ first-next 2 (offRange r) _ f ∙ first-empty)
+            fault-none f = sym (past ∙ first-next 2 _ e ∙ first-next 2 _ f ∙ first-empty)
 
   pub judged-by : pairStepFault l r s ≡ 0 → Judged l r s
   unfolding pairStepFault
@@ -138,9 +138,9 @@ module _ (A B : List Pt) (s : ConvexSum) (g : Going) (e : stopOf g ≡ run (step
   abbrev told : Bool → Next
   told b = nextOf (emittedBy (sumPoint A B s) (record { heading = headingBy b (g .heading); at = g .at }))
 
-  pub corner-given : g .headed ≡ true → (p : IntPoint) → point p ≡ sumPoint A B s → next.Corner p (g .at) ≡ nextOf (pairStep A B s)
+  pub corner-given : g .headed ≡ true → {p : IntPoint} → point p ≡ sumPoint A B s → next.Corner p (g .at) ≡ nextOf (pairStep A B s)
   unfolding pairStep
-  corner-given h p q = ap (λ c. next.Corner (intPoint c) (g .at)) q ∙ ap told (sym h) ∙ ap (λ r. nextOf (emittedBy (sumPoint A B s) r)) e
+  corner-given h q = ap (λ c. next.Corner (intPoint c) (g .at)) q ∙ ap told (sym h) ∙ ap (λ r. nextOf (emittedBy (sumPoint A B s) r)) e
 
   pub end-given : g .headed ≡ false → next.End (g .at) ≡ nextOf (pairStep A B s)
   unfolding pairStep
@@ -180,7 +180,7 @@ next-by l r s = record {
     stays h =
         let j = judged-by l r s h in
         subst (Placed (pointsOf l) (pointsOf r)) (sym (ap nextPlaces (taken h) ∙ stands (pointsOf l) (pointsOf r) s))
-        (run-placed (pointsOf l) (pointsOf r) (stepsLeft s) unset s (record { left = j .left-placed; right = j .right-placed }))
+        (run-placed (stepsLeft s) unset (record { left = j .left-placed; right = j .right-placed }))
 
     fewer : (nextCorner (pairSteppedOf l r s) ≡ [] → ⊥) → stepsLeft (nextPlaces (pairSteppedOf l r s)) < stepsLeft s
     fewer n =

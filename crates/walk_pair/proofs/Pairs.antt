@@ -64,7 +64,7 @@ merged-is false false false false = refl
 -- a walk's fault past 7 and 2
 past : (l : List ℤ) (reflected : Bool) → lengthBroken l ≡ false → offRange l ≡ false → beginFault l reflected ≡ one (windingLeaves reflected (pointsOf l)) (eqb (length l) 0)
 unfolding beginFault
-past l reflected a c = first-next 7 (lengthBroken l) _ a ∙ first-next 2 (offRange l) _ c
+past l reflected a c = first-next 7 _ a ∙ first-next 2 _ c
 
 -- ---- the answers
 
@@ -75,28 +75,28 @@ module _ (reflected : Bool) (l r : List ℤ) where
 
   pub left-7 : lengthBroken l ≡ true → paired.Refused 7 ≡ pairedOf reflected l r
   unfolding pairBeginFault
-  left-7 a = refused-by 7 (first-this 7 (lengthBroken l) _ a) (λ z. absurd (omega arith))
+  left-7 a = refused-by 7 (first-this 7 _ a) (λ z. absurd (omega arith))
 
   module _ (a : lengthBroken l ≡ false) where
     pub right-7 : lengthBroken r ≡ true → paired.Refused 7 ≡ pairedOf reflected l r
     unfolding pairBeginFault
-    right-7 b = refused-by 7 (first-next 7 (lengthBroken l) _ a ∙ first-this 7 (lengthBroken r) _ b) (λ z. absurd (omega arith))
+    right-7 b = refused-by 7 (first-next 7 _ a ∙ first-this 7 _ b) (λ z. absurd (omega arith))
 
     module _ (b : lengthBroken r ≡ false) where
       pub left-2 : offRange l ≡ true → paired.Refused 2 ≡ pairedOf reflected l r
       unfolding pairBeginFault
-      left-2 c = refused-by 2 (first-next 7 (lengthBroken l) _ a ∙ first-next 7 (lengthBroken r) _ b ∙ first-this 2 (offRange l) _ c) (λ z. absurd (omega arith))
+      left-2 c = refused-by 2 (first-next 7 _ a ∙ first-next 7 _ b ∙ first-this 2 _ c) (λ z. absurd (omega arith))
 
       module _ (c : offRange l ≡ false) where
         pub right-2 : offRange r ≡ true → paired.Refused 2 ≡ pairedOf reflected l r
         unfolding pairBeginFault
-        right-2 d = refused-by 2 (first-next 7 (lengthBroken l) _ a ∙ first-next 7 (lengthBroken r) _ b ∙ first-next 2 (offRange l) _ c ∙ first-this 2 (offRange r) _ d) (λ z. absurd (omega arith))
+        right-2 d = refused-by 2 (first-next 7 _ a ∙ first-next 7 _ b ∙ first-next 2 _ c ∙ first-this 2 _ d) (λ z. absurd (omega arith))
 
         module _ (d : offRange r ≡ false) where
           both-faults : pairBeginFault reflected l r ≡ merged (beginFault l false) (beginFault r reflected)
           unfolding pairBeginFault
           both-faults =
-              first-next 7 (lengthBroken l) _ a ∙ first-next 7 (lengthBroken r) _ b ∙ first-next 2 (offRange l) _ c ∙ first-next 2 (offRange r) _ d
+              first-next 7 _ a ∙ first-next 7 _ b ∙ first-next 2 _ c ∙ first-next 2 _ d
               ∙ merged-is (windingLeaves false (pointsOf l)) (windingLeaves reflected (pointsOf r)) (eqb (length l) 0) (eqb (length r) 0)
               ∙ (λ i. merged (sym (past l false a c) i) (sym (past r reflected b d) i))
 

@@ -38,8 +38,8 @@ module _ (l r : List ℤ) where
 
   -- the calls from s hand out K, where they do so from each t with fewer steps
   from-step : (n : ℕ) (s : ConvexSum) → Judged l r s → ((t : ConvexSum) → Gave l r s t → HandsOut l r t (emit n A B t)) → (e : Emitted) → pairStep A B s ≡ e → HandsOut l r s (elim e [ corner p t ↦ p ∷ emit n A B t | end t ↦ [] ])
-  from-step n s j ih (corner p t) h = hands s t (intPoint p) (emit n A B t) (answered l r s j ∙ ap nextOf h) (ih t (gave l r s j p t h))
-  from-step n s j ih (end t) h = ends s t (answered l r s j ∙ ap nextOf h)
+  from-step n s j ih (corner p t) h = hands s t (intPoint p) (emit n A B t) (answered l r j ∙ ap nextOf h) (ih t (gave l r j p t h))
+  from-step n s j ih (end t) h = ends s t (answered l r j ∙ ap nextOf h)
 
   hands-emit : (n : ℕ) (s : ConvexSum) → Judged l r s → stepsLeft s ≤ n → HandsOut l r s (emit (suc n) A B s)
   unfolding emit

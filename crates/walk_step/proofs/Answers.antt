@@ -28,9 +28,9 @@ module _ (l : List ℤ) (w : Place) {f : ℕ} (e : f ≡ pointFault l w) where
   unfolding pointedOf
   point-refused n = ap pointed.Refused e ∙ refuses (pointed.Point (intPoint (pointOf (pointsOf l) w))) (pointed.Refused (pointFault l w)) (λ z. n (e ∙ z))
 
-  pub point-given : f ≡ 0 → (p : IntPoint) → point p ≡ pointOf (pointsOf l) w → pointed.Point p ≡ pointedOf l w
+  pub point-given : f ≡ 0 → {p : IntPoint} → point p ≡ pointOf (pointsOf l) w → pointed.Point p ≡ pointedOf l w
   unfolding pointedOf
-  point-given z p g = ap (λ q. pointed.Point (intPoint q)) g ∙ accepts (pointed.Point (intPoint (pointOf (pointsOf l) w))) (pointed.Refused (pointFault l w)) (sym e ∙ z)
+  point-given z g = ap (λ q. pointed.Point (intPoint q)) g ∙ accepts (pointed.Point (intPoint (pointOf (pointsOf l) w))) (pointed.Refused (pointFault l w)) (sym e ∙ z)
 
   pub point-sound : f ≡ 0 → (misplaced (length (pointsOf l)) w ≡ false) × (offAt (pointsOf l) (w .index) ≡ false)
   unfolding pointFault
@@ -46,22 +46,22 @@ module _ (l : List ℤ) (w : Place) {f : ℕ} (e : f ≡ stepFault l w) where
   unfolding edgedOf
   edge-refused n = ap edged.Refused e ∙ refuses (edged.Edge (intVector (edgeOf (pointsOf l) w))) (edged.Refused (stepFault l w)) (λ z. n (e ∙ z))
 
-  pub edge-given : f ≡ 0 → (v : IntVector) → vector v ≡ edgeOf (pointsOf l) w → edged.Edge v ≡ edgedOf l w
+  pub edge-given : f ≡ 0 → {v : IntVector} → vector v ≡ edgeOf (pointsOf l) w → edged.Edge v ≡ edgedOf l w
   unfolding edgedOf
-  edge-given z v g = ap (λ q. edged.Edge (intVector q)) g ∙ accepts (edged.Edge (intVector (edgeOf (pointsOf l) w))) (edged.Refused (stepFault l w)) (sym e ∙ z)
+  edge-given z g = ap (λ q. edged.Edge (intVector q)) g ∙ accepts (edged.Edge (intVector (edgeOf (pointsOf l) w))) (edged.Refused (stepFault l w)) (sym e ∙ z)
 
   pub advance-refused : (f ≡ 0 → ⊥) → advanced.Refused f w ≡ advancedOf l w
   unfolding advancedOf
   advance-refused n = ap (λ k. advanced.Refused k w) e ∙ refuses (advanced.At (advance (length (pointsOf l)) w)) (advanced.Refused (stepFault l w) w) (λ z. n (e ∙ z))
 
-  pub advance-given : f ≡ 0 → (t : Place) → t ≡ advance (length (pointsOf l)) w → advanced.At t ≡ advancedOf l w
+  pub advance-given : f ≡ 0 → {t : Place} → t ≡ advance (length (pointsOf l)) w → advanced.At t ≡ advancedOf l w
   unfolding advancedOf
-  advance-given z t g = ap advanced.At g ∙ accepts (advanced.At (advance (length (pointsOf l)) w)) (advanced.Refused (stepFault l w) w) (sym e ∙ z)
+  advance-given z g = ap advanced.At g ∙ accepts (advanced.At (advance (length (pointsOf l)) w)) (advanced.Refused (stepFault l w) w) (sym e ∙ z)
 
   pub step-refused : (f ≡ 0 → ⊥) → stepped.Refused f w ≡ steppedOf l w
   unfolding steppedOf
   step-refused n = ap (λ k. stepped.Refused k w) e ∙ refuses (stepped.Edge (intVector (edgeOf (pointsOf l) w)) (advance (length (pointsOf l)) w)) (stepped.Refused (stepFault l w) w) (λ z. n (e ∙ z))
 
-  pub step-given : f ≡ 0 → (v : IntVector) (t : Place) → vector v ≡ edgeOf (pointsOf l) w → t ≡ advance (length (pointsOf l)) w → stepped.Edge v t ≡ steppedOf l w
+  pub step-given : f ≡ 0 → {v : IntVector} {t : Place} → vector v ≡ edgeOf (pointsOf l) w → t ≡ advance (length (pointsOf l)) w → stepped.Edge v t ≡ steppedOf l w
   unfolding steppedOf
-  step-given z v t g h = (λ i. stepped.Edge (intVector (g i)) (h i)) ∙ accepts (stepped.Edge (intVector (edgeOf (pointsOf l) w)) (advance (length (pointsOf l)) w)) (stepped.Refused (stepFault l w) w) (sym e ∙ z)
+  step-given z g h = (λ i. stepped.Edge (intVector (g i)) (h i)) ∙ accepts (stepped.Edge (intVector (edgeOf (pointsOf l) w)) (advance (length (pointsOf l)) w)) (stepped.Refused (stepFault l w) w) (sym e ∙ z)

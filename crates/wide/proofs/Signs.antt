@@ -22,15 +22,15 @@ high-below p h = omega (arith, h, signed-size (p .negative) (magnitude (p .words
 
 -- ---- products
 
-pub product-below : (a b : ℤ) (k : ℕ) → k ≡ natAbs a * natAbs b → ltZ a (pos 0) ≡ true → signed (leZ (pos 0) b) k ≡ a *ℤ b
-product-below (pos m) b k e h = absurd (omega (arith, ltZ-true (pos m) (pos 0) h))
-product-below (negsuc m) (pos n) k e h = rw (≤-leZ {x = pos 0} {y = pos n} (omega zarith)) (omega (zarith, neg-parts (pos k), mul-parts (negsuc m) (pos n)))
-product-below (negsuc m) (negsuc n) k e h = omega (zarith, mul-parts (negsuc m) (negsuc n))
+pub product-below : (a b : ℤ) {k : ℕ} → k ≡ natAbs a * natAbs b → ltZ a (pos 0) ≡ true → signed (leZ (pos 0) b) k ≡ a *ℤ b
+product-below (pos m) b e h = absurd (omega (arith, ltZ-true (pos m) (pos 0) h))
+product-below (negsuc m) (pos n) {k} e h = rw (≤-leZ {x = pos 0} {y = pos n} (omega zarith)) (omega (zarith, neg-parts (pos k), mul-parts (negsuc m) (pos n)))
+product-below (negsuc m) (negsuc n) e h = omega (zarith, mul-parts (negsuc m) (negsuc n))
 
-pub product-above : (a b : ℤ) (k : ℕ) → k ≡ natAbs a * natAbs b → ltZ a (pos 0) ≡ false → signed (ltZ b (pos 0)) k ≡ a *ℤ b
-product-above (negsuc m) b k e h = differ (sym h)
-product-above (pos m) (pos n) k e h = rw (≤-ltZ {x = pos n} {y = pos 0} (omega zarith)) (omega (zarith, mul-parts (pos m) (pos n)))
-product-above (pos m) (negsuc n) k e h = omega (zarith, neg-parts (pos k), mul-parts (pos m) (negsuc n))
+pub product-above : (a b : ℤ) {k : ℕ} → k ≡ natAbs a * natAbs b → ltZ a (pos 0) ≡ false → signed (ltZ b (pos 0)) k ≡ a *ℤ b
+product-above (negsuc m) b e h = differ (sym h)
+product-above (pos m) (pos n) e h = rw (≤-ltZ {x = pos n} {y = pos 0} (omega zarith)) (omega (zarith, mul-parts (pos m) (pos n)))
+product-above (pos m) (negsuc n) {k} e h = omega (zarith, neg-parts (pos k), mul-parts (pos m) (negsuc n))
 
 -- ---- sums
 

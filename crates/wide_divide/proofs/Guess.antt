@@ -65,9 +65,9 @@ module _ (u x v : ℕ) (hv : 2 ^ 63 ≤ v) (hu : u < v) (hx : x < 2 ^ 32) where
   guess-some zero rest h = absurd (omega arith)
   guess-some (suc q) rest h = omega arith
 
-  pub guess-turn : (q rest : ℕ) → Guess u x v q rest → rest < H → rest * H + x < q * (v % H) → Guess u x v (q - 1) (rest + v / H)
-  guess-turn zero rest g l h = absurd (omega arith)
-  guess-turn (suc q) rest g l h = subst (λ n. Guess u x v n (rest + v / H)) (less q) (record {
+  pub guess-turn : {q rest : ℕ} → Guess u x v q rest → rest < H → rest * H + x < q * (v % H) → Guess u x v (q - 1) (rest + v / H)
+  guess-turn {q = zero} g l h = absurd (omega arith)
+  guess-turn {q = suc q} {rest} g l h = subst (λ n. Guess u x v n (rest + v / H)) (less q) (record {
     sum = omega (arith, g .sum);
     most = omega (arith, h);
     near = omega arith;

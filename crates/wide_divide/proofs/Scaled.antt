@@ -44,8 +44,8 @@ unscale N Q R d P p e l =
         rest k s = let n : N * P ≡ (Q * d + k) * P = ap (λ n. n * P) (sym s) in omega (arith, e, n)
 
 -- m = b 2^64 + m mod 2^64
-joined : (t a b m : ℕ) → t ≡ a + b → m / 2 ^ 64 ≡ b → t * 2 ^ 64 + m % 2 ^ 64 ≡ a * 2 ^ 64 + m
-joined t a b m e f = omega arith
+joined : {t : ℕ} (a : ℕ) {b : ℕ} (m : ℕ) → t ≡ a + b → m / 2 ^ 64 ≡ b → t * 2 ^ 64 + m % 2 ^ 64 ≡ a * 2 ^ 64 + m
+joined a m e f = omega arith
 
 gathered : (h l p : ℕ) → h * p * 2 ^ 64 + l * p ≡ (h * 2 ^ 64 + l) * p
 gathered h l p = omega arith
@@ -89,10 +89,10 @@ module _ (h l d s : ℕ) (hd : h < d) (fl : l < 2 ^ 64) (n : Normal d s) where
 
   -- l P / 2^64 = l / W
   scaled : twoWords top ((l * P) % 2 ^ 64) ≡ twoWords h l * P
-  scaled = joined top (h * P) (l / W) (l * P) top-is (ap (λ n. l * P / n) (word ∙ mul-comm P W) ∙ mul-div-mul-right {m = P} l W (pow-pos s)) ∙ gathered h l P
+  scaled = joined (h * P) (l * P) top-is (ap (λ n. l * P / n) (word ∙ mul-comm P W) ∙ mul-div-mul-right {m = P} l W (pow-pos s)) ∙ gathered h l P
 
-  pub unscaled : (q : Quotient) → Divided (twoWords top ((l * P) % 2 ^ 64)) ((d * P) % 2 ^ 64) q → Divided (twoWords h l) d (record { quotient = q .quotient; remainder = q .remainder / P })
-  unscaled q g =
+  pub unscaled : {q : Quotient} → Divided (twoWords top ((l * P) % 2 ^ 64)) ((d * P) % 2 ^ 64) q → Divided (twoWords h l) d (record { quotient = q .quotient; remainder = q .remainder / P })
+  unscaled {q} g =
       let f : Divided (twoWords h l * P) (d * P) q = subst (λ n. Divided n (d * P) q) scaled (subst (λ v. Divided (twoWords top ((l * P) % 2 ^ 64)) v q) divisor-kept g) in
       let r = unscale (twoWords h l) (q .quotient) (q .remainder) d P (pow-pos s) (f .whole) (f .rest) in
       record { whole = r .0; rest = r .1 }

@@ -15,12 +15,12 @@ four-on-grid-requires c κs = search needs
 
 subtract-requires : tie.Need-subtract-requires
 subtract-requires c κs =
-    let on = four-on _ _ _ _ (c .before .four-on-grid .ensures) (c .if1 .taken) in
+    let on = four-on (c .before .four-on-grid .ensures) (c .if1 .taken) in
     search needs
 
 subtract-requires-2 : tie.Need-subtract-requires-2
 subtract-requires-2 c κs =
-    let on = four-on _ _ _ _ (c .before .before .four-on-grid .ensures) (c .before .if1 .taken) in
+    let on = four-on (c .before .before .four-on-grid .ensures) (c .before .if1 .taken) in
     search needs
 
 cross-product-requires : tie.Need-cross-product-requires

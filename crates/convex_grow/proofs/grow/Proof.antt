@@ -22,7 +22,7 @@ same-length-3 : tie.Need-same-length-3
 same-length-3 c = search needs
 
 returns : tie.Need-returns
-returns c = let g = c .before .before .before .before .before .before .before .before .before .before .before .before .before .before .before .before .before .args in grown (length (g .corners .now)) (rowsMesh (g .mesh .now)) (g .k) (g .taken .now) (c .before .before .before .before .before .before .before .before .before .before .before .before .start-region .ensures) (c .before .before .before .before .run .ensures)
+returns c = let g = c .before .before .before .before .before .before .before .before .before .before .before .before .before .before .before .before .before .args in grown (c .before .before .before .before .before .before .before .before .before .before .before .before .start-region .ensures) (c .before .before .before .before .run .ensures)
 
 pub grow-spec : {M : Type 1} → statement M
 grow-spec =

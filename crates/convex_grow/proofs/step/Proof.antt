@@ -77,7 +77,7 @@ joins-over-requires c κs =
     let n = f .before .before .before .before in
     let s = n .before .before .before in
     let g = s .args in
-    (around-of (length (g .corners .now)) (rowsMesh (g .mesh .now)) (g .corners .now) (g .edges .now) (g .taken .now) (g .p) (s .pre .0) (s .pre .1), far-grid (length (g .corners .now)) (g .mesh .now) (g .corners .now) (g .edges .now) (g .taken .now) (g .p) (s .pre .0) (n .if1 .left) (f .far-of .ensures .0))
+    (around-of (s .pre .0) (s .pre .1), far-grid (length (g .corners .now)) (g .mesh .now) (g .corners .now) (g .edges .now) (g .taken .now) (g .p) (s .pre .0) (n .if1 .left) (f .far-of .ensures .0))
 
 slice-write-taken : tie.Need-slice-write-taken
 slice-write-taken c =

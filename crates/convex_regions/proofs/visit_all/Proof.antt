@@ -39,7 +39,7 @@ loop-again c =
     let p1 = p2 .before .before .before .before .before .before in
     let s = p1 .before .before .before .before in
     let g = s .args in
-    visiting-turn (length (g .corners .now)) (length (g .starts .now)) (length (g .points .now)) (rowsMesh (g .mesh .now)) (p1 .before .loop .k)
+    visiting-turn (length (g .corners .now)) (length (g .starts .now)) (length (g .points .now)) (rowsMesh (g .mesh .now))
     (omega (arith, length-rows (g .mesh .now), p1 .loop-test .taken)) (p1 .before .loop .inv) (p2 .visit .ensures)
 
 same-length : tie.Need-same-length Inv-loop μ-loop
@@ -61,7 +61,7 @@ returns : tie.Need-returns Inv-loop μ-loop
 returns c =
     let s = c .before .before .before .before in
     let g = s .args in
-    visited-rows (g .mesh .now) (visiting-end (length (g .corners .now)) (length (g .starts .now)) (length (g .points .now)) (rowsMesh (g .mesh .now)) (c .before .loop .k) (omega (arith, length-rows (g .mesh .now), c .loop-test .left)) (c .before .loop .inv))
+    visited-rows (g .mesh .now) (visiting-end (length (g .corners .now)) (length (g .starts .now)) (length (g .points .now)) (rowsMesh (g .mesh .now)) (omega (arith, length-rows (g .mesh .now), c .loop-test .left)) (c .before .loop .inv))
 
 pub visit-all-spec : {M : Type 1} → statement M
 visit-all-spec =

@@ -54,7 +54,7 @@ loop-again c =
     let g = s .args in
     let l = c .before .before .loop in
     let h = c .before .loop-test .taken in
-    (omega (arith, h), copied-next (g .from .now) (g .at) (g .out .now) (l .i) (omega (arith, s .pre .0, h)) (omega (arith, s .pre .1, h)) (got w32 (getD (g .from .now) (l .i) (pos 0)) (c .x .given)) (l .inv .1))
+    (omega (arith, h), copied-next (g .from .now) (g .at) (g .out .now) (omega (arith, s .pre .0, h)) (omega (arith, s .pre .1, h)) (got w32 (getD (g .from .now) (l .i) (pos 0)) (c .x .given)) (l .inv .1))
 
 same-length : tie.Need-same-length Inv-loop μ-loop
 same-length c = c .before .loop .inv .1 .size

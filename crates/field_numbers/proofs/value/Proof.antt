@@ -46,7 +46,7 @@ loop-again c =
     let v = l .loop .v in
     let i = l .loop .i in
     let d = c .digit .result in
-    (omega arith, larger v d i (l .loop .inv .1) (c .digit .ensures .1), l .loop .inv .2 ∙ value-more v d digits i (omega arith) (c .digit .ensures .0))
+    (omega arith, larger v d i (l .loop .inv .1) (c .digit .ensures .1), l .loop .inv .2 ∙ value-more v digits i (omega arith) (c .digit .ensures .0))
 
 returns : tie.Need-returns Inv-loop μ-loop
 returns c =

@@ -15,7 +15,7 @@ refused-requires c κs = search needs
 
 returns : tie.Need-returns
 unfolding contourMeasured
-returns c = behind-refused _ _ (c .before .before .contour-fault .ensures) (c .before .if1 .taken) (c .refused .ensures)
+returns c = behind-refused _ (c .before .before .contour-fault .ensures) (c .before .if1 .taken) (c .refused .ensures)
 
 contour-area-requires : tie.Need-contour-area-requires
 contour-area-requires c κs = contour-ranged _ (sym (c .before .contour-fault .ensures) ∙ c .if1 .left)
@@ -27,7 +27,7 @@ returns-2 : tie.Need-returns-2
 unfolding contourMeasured
 returns-2 c =
     let a = c .before in
-    behind-told _ _ (a .before .before .contour-fault .ensures) (a .before .if1 .left) (c .told .ensures ∙ ap areaTold (a .contour-area .ensures .0))
+    behind-told _ (a .before .before .contour-fault .ensures) (a .before .if1 .left) (c .told .ensures ∙ ap areaTold (a .contour-area .ensures .0))
 
 pub contour-area-two-spec : {M : Type 1} → statement M
 contour-area-two-spec =

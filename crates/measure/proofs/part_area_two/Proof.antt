@@ -15,7 +15,7 @@ refused-requires c κs = search needs
 
 returns : tie.Need-returns
 unfolding partMeasured
-returns c = behind-refused _ _ (c .before .before .part-fault .ensures) (c .before .if1 .taken) (c .refused .ensures)
+returns c = behind-refused _ (c .before .before .part-fault .ensures) (c .before .if1 .taken) (c .refused .ensures)
 
 area-at-requires : tie.Need-area-at-requires
 area-at-requires c κs = part-accepted _ _ _ (sym (c .before .part-fault .ensures) ∙ c .if1 .left)
@@ -27,7 +27,7 @@ returns-2 : tie.Need-returns-2
 unfolding partMeasured
 returns-2 c =
     let a = c .before in
-    behind-told _ _ (a .before .before .part-fault .ensures) (a .before .if1 .left) (c .told .ensures ∙ ap areaTold (a .area-at .ensures .0))
+    behind-told _ (a .before .before .part-fault .ensures) (a .before .if1 .left) (c .told .ensures ∙ ap areaTold (a .area-at .ensures .0))
 
 pub part-area-two-spec : {M : Type 1} → statement M
 part-area-two-spec =

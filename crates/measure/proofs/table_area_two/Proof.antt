@@ -15,7 +15,7 @@ refused-requires c κs = search needs
 
 returns : tie.Need-returns
 unfolding tableMeasured
-returns c = behind-refused _ _ (c .before .before .table-fault .ensures) (c .before .if1 .taken) (c .refused .ensures)
+returns c = behind-refused _ (c .before .before .table-fault .ensures) (c .before .if1 .taken) (c .refused .ensures)
 
 total-area-requires : tie.Need-total-area-requires
 total-area-requires c κs = table-accepted _ _ (sym (c .before .table-fault .ensures) ∙ c .if1 .left)
@@ -27,7 +27,7 @@ returns-2 : tie.Need-returns-2
 unfolding tableMeasured
 returns-2 c =
     let a = c .before in
-    behind-told _ _ (a .before .before .table-fault .ensures) (a .before .if1 .left) (c .told .ensures ∙ ap areaTold (a .total-area .ensures))
+    behind-told _ (a .before .before .table-fault .ensures) (a .before .if1 .left) (c .told .ensures ∙ ap areaTold (a .total-area .ensures))
 
 pub table-area-two-spec : {M : Type 1} → statement M
 table-area-two-spec =

@@ -25,7 +25,7 @@ with-point-requires-3 : tie.Need-with-point-requires-3
 with-point-requires-3 c κs = search needs
 
 returns : tie.Need-returns
-returns c = three-points (rowTriangle (c .before .before .before .before .before .before .args .row)) (c .before .before .before .before .before .before .args .b) (c .before .before .before .before .with-point .result) (c .before .before .with-point2 .result) (c .with-point3 .result) (point (c .before .before .before .before .before .vertex-of .result)) (point (c .before .before .before .vertex-of2 .result)) (point (c .before .vertex-of3 .result))
+returns c = three-points (rowTriangle (c .before .before .before .before .before .before .args .row)) (c .before .before .before .before .before .before .args .b)
     (c .before .before .before .before .before .vertex-of .ensures) (c .before .before .before .vertex-of2 .ensures) (c .before .vertex-of3 .ensures) (c .before .before .before .before .with-point .ensures) (c .before .before .with-point2 .ensures) (c .with-point3 .ensures)
 
 pub with-row-spec : {M : Type 1} → statement M

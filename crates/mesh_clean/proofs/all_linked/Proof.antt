@@ -16,7 +16,7 @@ abbrev μ-loop : tie.MeasureT-loop
 μ-loop mesh s₀ k₀ s k = length mesh - k
 
 loop-holds : tie.Need-loop-holds Inv-loop μ-loop
-loop-holds c = (omega arith, linking-start (c .args .mesh .now) _ refl refl)
+loop-holds c = (omega arith, linking-start (c .args .mesh .now) refl refl)
 
 count-row-requires : tie.Need-count-row-requires Inv-loop μ-loop
 count-row-requires c κs =
@@ -42,7 +42,7 @@ loop-again c =
     (omega arith, linking-next (l .before .args .mesh .now) (l .loop .k) (omega arith) (l .loop .inv .1) (r .count-row .ensures) (not-false _ (c .if1 .left)))
 
 returns-2 : tie.Need-returns-2 Inv-loop μ-loop
-returns-2 c = let l = c .before .before in linking-end (l .before .args .mesh .now) (l .loop .k) (omega arith) (l .loop .inv .1)
+returns-2 c = let l = c .before .before in linking-end (l .before .args .mesh .now) (omega arith) (l .loop .inv .1)
 
 pub all-linked-spec : {M : Type 1} → statement M
 all-linked-spec =

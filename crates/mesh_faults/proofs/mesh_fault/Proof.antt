@@ -39,15 +39,15 @@ module _ (m : Mesh) where
   rest = (6, flat m) ∷ (11, tooLarge m) ∷ []
 
   one : tooMany m ≡ true → 1 ≡ answer
-  one a = sym (first-this 1 (tooMany m) _ a)
+  one a = sym (first-this 1 _ a)
 
   module _ (a : tooMany m ≡ false) where
     two : offGrid m ≡ true → 2 ≡ answer
-    two b = sym (first-next 1 (tooMany m) _ a ∙ first-this 2 (offGrid m) _ b)
+    two b = sym (first-next 1 _ a ∙ first-this 2 _ b)
 
     module _ (b : offGrid m ≡ false) {f : ℕ} (e : f ≡ neighbourFault m) where
       left : answer ≡ firstFault (neighbours ++ rest)
-      left = first-next 1 (tooMany m) _ a ∙ first-next 2 (offGrid m) _ b
+      left = first-next 1 _ a ∙ first-next 2 _ b
 
       neighbour : (f ≡ 0 → ⊥) → f ≡ answer
       unfolding neighbourFault
@@ -59,14 +59,14 @@ module _ (m : Mesh) where
         past = left ∙ append-none neighbours rest (lit< tt, (lit< tt, (lit< tt, tt))) (sym e ∙ z)
 
         six : flat m ≡ true → 6 ≡ answer
-        six g = sym (past ∙ first-this 6 (flat m) _ g)
+        six g = sym (past ∙ first-this 6 _ g)
 
         module _ (g : flat m ≡ false) where
           eleven : tooLarge m ≡ true → 11 ≡ answer
-          eleven h = sym (past ∙ first-next 6 (flat m) _ g ∙ first-this 11 (tooLarge m) _ h)
+          eleven h = sym (past ∙ first-next 6 _ g ∙ first-this 11 _ h)
 
           accepted : tooLarge m ≡ false → 0 ≡ answer
-          accepted h = sym (past ∙ first-next 6 (flat m) _ g ∙ first-next 11 (tooLarge m) _ h ∙ first-empty)
+          accepted h = sym (past ∙ first-next 6 _ g ∙ first-next 11 _ h ∙ first-empty)
 
 -- an answer of a pass, and the branch that it took
 read : {r s t : Bool} → r ≡ s → r ≡ t → s ≡ t

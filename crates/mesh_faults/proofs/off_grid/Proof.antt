@@ -32,7 +32,7 @@ returns : tie.Need-returns Inv-loop μ-loop
 unfolding offGrid
 returns c =
     let l = c .before .before .before .before in
-    pass-found _ _ (l .loop .k) (omega arith) (l .loop .inv .1) (sym (c .before .row-off .ensures) ∙ c .if1 .taken)
+    pass-found _ _ (omega arith) (l .loop .inv .1) (sym (c .before .row-off .ensures) ∙ c .if1 .taken)
 
 add-k : tie.Need-add-k Inv-loop μ-loop
 add-k c = omega arith
@@ -43,11 +43,11 @@ loop-less c = omega arith
 loop-again : tie.Need-loop-again Inv-loop μ-loop
 loop-again c =
     let l = c .before .before .before .before in
-    (omega arith, pass-next _ _ (l .loop .k) (omega arith) (l .loop .inv .1) (sym (c .before .row-off .ensures) ∙ c .if1 .left))
+    (omega arith, pass-next _ _ (omega arith) (l .loop .inv .1) (sym (c .before .row-off .ensures) ∙ c .if1 .left))
 
 returns-2 : tie.Need-returns-2 Inv-loop μ-loop
 unfolding offGrid
-returns-2 c = pass-end _ _ (c .before .loop .k) (omega arith) (c .before .loop .inv .1)
+returns-2 c = pass-end _ _ (omega arith) (c .before .loop .inv .1)
 
 pub off-grid-spec : {M : Type 1} → statement M
 off-grid-spec =

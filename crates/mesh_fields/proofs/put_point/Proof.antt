@@ -10,7 +10,7 @@ comma-requires : tie.Need-comma-requires
 comma-requires c κs = search needs
 
 returns : tie.Need-returns
-returns c = put-wrong _ _ _ (no-point (c .before .before .before .before .args .entry .now) (c .before .comma .ensures .0) (c .if1 .taken))
+returns c = put-wrong (no-point (c .before .before .before .before .args .entry .now) (c .before .comma .ensures .0) (c .if1 .taken))
 
 sub-coordinate : tie.Need-sub-coordinate
 sub-coordinate c = search needs

@@ -14,10 +14,10 @@ same-length : tie.Need-same-length
 same-length c = search needs
 
 returns : tie.Need-returns
-returns c = put-word _ (c .before .args .at) (c .before .args .n .bits) (c .before .args .words .now) (c .before .pre) (c .if1 .taken)
+returns c = put-word (c .before .args .at) (c .before .args .n .bits) (c .before .args .words .now) (c .before .pre) (c .if1 .taken)
 
 returns-2 : tie.Need-returns-2
-returns-2 c = put-wrong _ _ _ (c .if1 .left)
+returns-2 c = put-wrong (c .if1 .left)
 
 pub put-reading-spec : {M : Type 1} → statement M
 put-reading-spec = tie.close (tie.spec mul-words slice-write-words same-length returns returns-2)

@@ -36,7 +36,7 @@ returns c =
     (put-number-of (p3 .before .field2 .ensures) (p4 .put-reading .ensures) (p3 .number-or-none .ensures))
 
 returns-2 : tie.Need-returns-2
-returns-2 c = put-wrong _ _ _ (not-named (c .before .before .before .before .before .before .args .line .now) (c .before .before .before .field .ensures) (c .before .is-word .ensures) (c .if1 .left))
+returns-2 c = put-wrong (not-named (c .before .before .before .before .before .before .args .line .now) (c .before .before .before .field .ensures) (c .before .is-word .ensures) (c .if1 .left))
 
 pub put-limit-spec : {M : Type 1} → statement M
 put-limit-spec =

@@ -24,7 +24,7 @@ same-length c = search needs
 
 returns : tie.Need-returns
 unfolding isTriangle
-returns c = put-then (c .before .before .before .before .before .before .before .before .before .put-points .ensures) (c .before .before .before .before .before .before .if1 .taken) refl (put-then (c .before .before .before .before .put-neighbours .ensures) (c .before .if2 .taken) refl (put-none _ _ (c .ends .ensures)))
+returns c = put-then (c .before .before .before .before .before .before .before .before .before .put-points .ensures) (c .before .before .before .before .before .before .if1 .taken) refl (put-then (c .before .before .before .before .put-neighbours .ensures) (c .before .if2 .taken) refl (put-none (c .ends .ensures)))
 
 same-length-2 : tie.Need-same-length-2
 same-length-2 c = search needs

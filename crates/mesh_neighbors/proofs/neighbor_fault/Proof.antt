@@ -31,10 +31,10 @@ loop-less : tie.Need-loop-less Inv-loop μ-loop
 loop-less c = omega arith
 
 loop-again : tie.Need-loop-again Inv-loop μ-loop
-loop-again c = (judged-turn (rowsMesh (c .before .before .before .before .args .mesh .now)) (c .before .before .before .loop .k) (omega (arith, length-rows (c .before .before .before .before .args .mesh .now), c .before .before .loop-test .taken)) (c .before .before .before .loop .inv .0) (c .before .row-fault .ensures) (c .earlier-of .ensures), omega arith)
+loop-again c = (judged-turn (rowsMesh (c .before .before .before .before .args .mesh .now)) (omega (arith, length-rows (c .before .before .before .before .args .mesh .now), c .before .before .loop-test .taken)) (c .before .before .before .loop .inv .0) (c .before .row-fault .ensures) (c .earlier-of .ensures), omega arith)
 
 returns : tie.Need-returns Inv-loop μ-loop
-returns c = judged-end (rowsMesh (c .before .before .args .mesh .now)) (c .before .loop .k) (omega (arith, length-rows (c .before .before .args .mesh .now), c .loop-test .left)) (c .before .loop .inv .0)
+returns c = judged-end (rowsMesh (c .before .before .args .mesh .now)) (omega (arith, length-rows (c .before .before .args .mesh .now), c .loop-test .left)) (c .before .loop .inv .0)
 
 pub neighbor-fault-spec : {M : Type 1} → statement M
 neighbor-fault-spec =

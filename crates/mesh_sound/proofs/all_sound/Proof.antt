@@ -69,7 +69,7 @@ returns-2 c =
     let f = d .before .before .before in
     let l = f .before .before .before .before in
     let a = got w64 (d .before .area-of .result) (d .before .area-of .ok) ∙ d .before .area-of .ensures .0 in
-    going-past (l .before .args .mesh .now) (l .loop .k) (omega arith) (l .loop .inv .1) (sym (f .before .row-sound .ensures) ∙ not-false _ (f .if1 .left)) (past-of _ (ap (λ z. addedOf (toZ w64 (l .loop .total) +ℤ z)) (sym a) ∙ sym (d .add-area .ensures) ∙ c .enum-told .given .1))
+    going-past (l .before .args .mesh .now) (l .loop .k) (omega arith) (l .loop .inv .1) (sym (f .before .row-sound .ensures) ∙ not-false _ (f .if1 .left)) (past-of (ap (λ z. addedOf (toZ w64 (l .loop .total) +ℤ z)) (sym a) ∙ sym (d .add-area .ensures) ∙ c .enum-told .given .1))
 
 add-k : tie.Need-add-k Inv-loop μ-loop
 add-k c = omega arith
@@ -84,11 +84,11 @@ loop-again c =
     let l = f .before .before .before .before in
     let rows = l .before .args .mesh .now in
     let a = got w64 (d .before .area-of .result) (d .before .area-of .ok) ∙ d .before .area-of .ensures .0 in
-    let q = total-of _ (c .before .sum .given .0 .0) (ap (λ z. addedOf (toZ w64 (l .loop .total) +ℤ z)) (sym a) ∙ sym (d .add-area .ensures) ∙ c .before .sum .given .1) in
+    let q = total-of (c .before .sum .given .0 .0) (ap (λ z. addedOf (toZ w64 (l .loop .total) +ℤ z)) (sym a) ∙ sym (d .add-area .ensures) ∙ c .before .sum .given .1) in
     (omega arith, subst (Going rows (l .loop .k + 1)) (sym (kept {w = w64} {z = c .before .sum .given .0 .0} (search needs) ∙ q .0)) (going-next rows (l .loop .k) (omega arith) (l .loop .inv .1) (sym (f .before .row-sound .ensures) ∙ not-false _ (f .if1 .left)) (q .1)))
 
 returns-3 : tie.Need-returns-3 Inv-loop μ-loop
-returns-3 c = going-end (c .before .before .args .mesh .now) (c .before .loop .k) (omega arith) (c .before .loop .inv .1)
+returns-3 c = going-end (c .before .before .args .mesh .now) (omega arith) (c .before .loop .inv .1)
 
 pub all-sound-spec : {M : Type 1} → statement M
 all-sound-spec =

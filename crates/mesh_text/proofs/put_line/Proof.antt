@@ -15,7 +15,7 @@ returns : tie.Need-returns
 returns c = put-first (c .before .before .before .before .before .before .before .args .count) (c .before .before .before .before .before .before .before .args .line .now) (c .before .before .before .before .if1 .taken) (c .before .before .put-head .ensures)
 
 returns-2 : tie.Need-returns-2
-returns-2 c = put-wrong _ _ _ (fits-many (c .before .before .before .before .args .count) (c .before .before .before .before .args .line .now) (c .before .if1 .left) (c .if2 .taken))
+returns-2 c = put-wrong (fits-many (c .before .before .before .before .args .count) (c .before .before .before .before .args .line .now) (c .before .if1 .left) (c .if2 .taken))
 
 mul-put-triangle : tie.Need-mul-put-triangle
 mul-put-triangle c = search needs

@@ -39,7 +39,7 @@ place-at-requires : tie.Need-place-at-requires
 place-at-requires c κs = point-good (c .before .before .before .before .before .before .before .before .before .before .before .before .before .before .before .args .bytes .now) (sym (c .before .before .before .before .before .before .before .before .before .before .before .before .before .point-fault .ensures) ∙ c .before .before .before .before .before .before .before .before .before .before .before .before .if1 .left) .0
 
 add-left-starts : tie.Need-add-left-starts
-add-left-starts c = omega (arith, few-held _ (c .before .before .before .before .before .before .before .before .take-two .result .left) ((rest-taken (c .before .before .before .before .before .before .before .before .before .before .before .before .before .before .before .before .before .args .bytes .now) (sym (c .before .before .before .before .before .before .before .before .before .before .before .before .before .before .before .point-fault .ensures) ∙ c .before .before .before .before .before .before .before .before .before .before .before .before .before .before .if1 .left) (c .before .before .before .before .before .before .before .before .take-two .ensures)) .left-held (c .before .before .before .before .before .before .if2 .left)) .0)
+add-left-starts c = omega (arith, few-held ((rest-taken (c .before .before .before .before .before .before .before .before .before .before .before .before .before .before .before .before .before .args .bytes .now) (sym (c .before .before .before .before .before .before .before .before .before .before .before .before .before .before .before .point-fault .ensures) ∙ c .before .before .before .before .before .before .before .before .before .before .before .before .before .before .if1 .left) (c .before .before .before .before .before .before .before .before .take-two .ensures)) .left-held (c .before .before .before .before .before .before .if2 .left)) .0)
 
 array-share-prefix-left-starts : tie.Need-array-share-prefix-left-starts
 array-share-prefix-left-starts c = ((rest-taken (c .before .before .before .before .before .before .before .before .before .before .before .before .before .before .before .before .before .args .bytes .now) (sym (c .before .before .before .before .before .before .before .before .before .before .before .before .before .before .before .point-fault .ensures) ∙ c .before .before .before .before .before .before .before .before .before .before .before .before .before .before .if1 .left) (c .before .before .before .before .before .before .before .before .take-two .ensures)) .left-held (c .before .before .before .before .before .before .if2 .left)) .starts-in
@@ -51,7 +51,7 @@ front-requires : tie.Need-front-requires
 front-requires c κs = whole-corners _ _ (rest-taken (c .before .before .before .before .before .before .before .before .before .before .before .before .before .before .before .before .before .before .before .args .bytes .now) (sym (c .before .before .before .before .before .before .before .before .before .before .before .before .before .before .before .before .before .point-fault .ensures) ∙ c .before .before .before .before .before .before .before .before .before .before .before .before .before .before .before .before .if1 .left) (c .before .before .before .before .before .before .before .before .before .before .take-two .ensures) .left-held (c .before .before .before .before .before .before .before .before .if2 .left) .corners-in)
 
 add-right-starts : tie.Need-add-right-starts
-add-right-starts c = omega (arith, few-held _ (c .before .before .before .before .before .before .before .before .before .before .before .before .take-two .result .right) (rest-taken (c .before .before .before .before .before .before .before .before .before .before .before .before .before .before .before .before .before .before .before .before .before .args .bytes .now) (sym (c .before .before .before .before .before .before .before .before .before .before .before .before .before .before .before .before .before .before .before .point-fault .ensures) ∙ c .before .before .before .before .before .before .before .before .before .before .before .before .before .before .before .before .before .before .if1 .left) (c .before .before .before .before .before .before .before .before .before .before .before .before .take-two .ensures) .right-held (c .before .before .before .before .before .before .before .before .before .before .if2 .left)) .0)
+add-right-starts c = omega (arith, few-held (rest-taken (c .before .before .before .before .before .before .before .before .before .before .before .before .before .before .before .before .before .before .before .before .before .args .bytes .now) (sym (c .before .before .before .before .before .before .before .before .before .before .before .before .before .before .before .before .before .before .before .point-fault .ensures) ∙ c .before .before .before .before .before .before .before .before .before .before .before .before .before .before .before .before .before .before .if1 .left) (c .before .before .before .before .before .before .before .before .before .before .before .before .take-two .ensures) .right-held (c .before .before .before .before .before .before .before .before .before .before .if2 .left)) .0)
 
 array-share-prefix-right-starts : tie.Need-array-share-prefix-right-starts
 array-share-prefix-right-starts c = rest-taken (c .before .before .before .before .before .before .before .before .before .before .before .before .before .before .before .before .before .before .before .before .before .args .bytes .now) (sym (c .before .before .before .before .before .before .before .before .before .before .before .before .before .before .before .before .before .before .before .point-fault .ensures) ∙ c .before .before .before .before .before .before .before .before .before .before .before .before .before .before .before .before .before .before .if1 .left) (c .before .before .before .before .before .before .before .before .before .before .before .before .take-two .ensures) .right-held (c .before .before .before .before .before .before .before .before .before .before .if2 .left) .starts-in

@@ -26,7 +26,7 @@ put-start-requires : tie.Need-put-start-requires
 put-start-requires c κs =
     let s = c .before .before .before .before .before in
     let g = s .args in
-    (first-starts (workCorners (g .count) (g .work .now)) [] (s .pre .1), first-small (workCorners (g .count) (g .work .now)) [] (s .pre .1) (copied-end (g .work .now) (g .at) (g .out .now) (g .count) (s .pre .0) (c .before .before .copy-corners .ensures)))
+    (first-starts (workCorners (g .count) (g .work .now)) [] (s .pre .1), first-small (workCorners (g .count) (g .work .now)) [] (s .pre .1) (copied-end (g .count) (s .pre .0) (c .before .before .copy-corners .ensures)))
 
 same-length : tie.Need-same-length
 same-length c = search needs
@@ -38,7 +38,7 @@ returns : tie.Need-returns
 returns c =
     let s = c .before .before .before .before .before .before .before .before in
     let g = s .args in
-    pairs-one (workCorners (g .count) (g .work .now)) (g .starts .now) (g .n) (g .out .now) (g .at) (first-starts (workCorners (g .count) (g .work .now)) [] (s .pre .1)) (copied-end (g .work .now) (g .at) (g .out .now) (g .count) (s .pre .0) (c .before .before .before .before .before .copy-corners .ensures)) (c .before .before .put-start .ensures)
+    pairs-one (g .starts .now) (g .n) (first-starts (workCorners (g .count) (g .work .now)) [] (s .pre .1)) (copied-end (g .count) (s .pre .0) (c .before .before .before .before .before .copy-corners .ensures)) (c .before .before .put-start .ensures)
 
 pub append-copied-spec : {M : Type 1} → statement M
 append-copied-spec =

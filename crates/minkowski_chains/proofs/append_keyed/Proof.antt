@@ -53,7 +53,7 @@ returns : tie.Need-returns
 returns c =
     let s = c .before .before .before .before .before .before .before .before .before .before .before .before .before in
     let g = s .args in
-    all-same (g .firsts .now) (g .points .now) (g .numbers .now) (g .left) (g .right) (s .pre .0) (c .before .before .before .before .before .before .before .before .before .first .ensures .0) (c .before .before .before .append-small .ensures)
+    all-same (s .pre .0) (c .before .before .before .before .before .before .before .before .before .first .ensures .0) (c .before .before .before .append-small .ensures)
 
 slice-aggregate-append-large : tie.Need-slice-aggregate-append-large
 slice-aggregate-append-large c =
@@ -84,7 +84,7 @@ returns-2 : tie.Need-returns-2
 returns-2 c =
     let s = c .before .before .before .before .before .before .before .before .before .before .before .before .before in
     let g = s .args in
-    all-same (g .firsts .now) (g .points .now) (g .numbers .now) (g .left) (g .right) (s .pre .0) (c .before .before .before .before .before .before .before .before .before .first .ensures .0) (c .before .before .before .append-large .ensures)
+    all-same (s .pre .0) (c .before .before .before .before .before .before .before .before .before .first .ensures .0) (c .before .before .before .append-large .ensures)
 
 pub append-keyed-spec : {M : Type 1} → statement M
 append-keyed-spec =

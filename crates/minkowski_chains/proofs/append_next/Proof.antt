@@ -41,7 +41,7 @@ returns : tie.Need-returns
 returns c =
     let s = c .before .before .before .before .before .before .before .before .before .before .before .before .before in
     let g = s .args in
-    put-on (g .left) (g .right) (c .after .ensures) (pairs-one (pairContourAt (g .firsts .now) (g .points .now) (g .left) (g .right) (g .s .n)) (g .starts .now) (g .s .n) (g .out .now) (g .s .k) (first-starts (pairContourAt (g .firsts .now) (g .points .now) (g .left) (g .right) (g .s .n)) [] (s .pre .2)) (as-put (c .before .before .before .before .before .before .before .before .before .pair-next .ensures) (c .before .before .before .before .before .before .before .merge-one .ensures)) (c .before .before .before .put-start .ensures))
+    put-on (c .after .ensures) (pairs-one (g .starts .now) (g .s .n) (first-starts (pairContourAt (g .firsts .now) (g .points .now) (g .left) (g .right) (g .s .n)) [] (s .pre .2)) (as-put (c .before .before .before .before .before .before .before .before .before .pair-next .ensures) (c .before .before .before .before .before .before .before .merge-one .ensures)) (c .before .before .before .put-start .ensures))
 
 pub append-next-spec : {M : Type 1} → statement M
 append-next-spec =

@@ -26,7 +26,7 @@ mul-all c = let s = c .before .before .before .before .before .before .before in
 append-fours-requires : tie.Need-append-fours-requires Inv-loop μ-loop
 append-fours-requires c κs =
     let s = c .before .before .before .before .before .before .before .before .before .before .before .before in
-    (s .pre .0, s .pre .1, room-started (s .args .starts .now) (c .before .before .before .before .before .before .before .put-start .ensures) (s .pre .2))
+    (s .pre .0, s .pre .1, room-started (c .before .before .before .before .before .before .before .put-start .ensures) (s .pre .2))
 
 loop-holds : tie.Need-loop-holds Inv-loop μ-loop
 loop-holds c = record { to = λ a. a }
@@ -43,7 +43,7 @@ append-next-requires c κs =
     let w : g .left * g .right < 2 ^ 64 = omega (arith, e, s .pre .2 .for-starts) in
     let h : l .s .n + 1 ≤ g .left * g .right = omega (arith, c .before .before .if1 .taken) in
     let p = one-piece all (l .s .n) (omega (arith, e, h)) in
-    (s .pre .0, to-more (g .left) (g .right) e w (l .s) a 1 h, to-room (g .left) (g .right) e w (l .s) a p (room-started (g .starts .now) z (s .pre .2)))
+    (s .pre .0, to-more (g .left) (g .right) e w (l .s) a 1 h, to-room (g .left) (g .right) e w (l .s) a p (room-started z (s .pre .2)))
 
 loop-less : tie.Need-loop-less Inv-loop μ-loop
 loop-less c =

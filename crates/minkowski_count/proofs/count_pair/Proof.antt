@@ -13,12 +13,12 @@ use Rattle.minkowski_count.proofs.count_pair.Tie as tie
 add-merge-walks : tie.Need-add-merge-walks
 add-merge-walks c =
     let s = c .before in
-    omega (arith, walks-enough _ _ (s .args .left + s .args .right) (s .pre .0), s .pre .2)
+    omega (arith, walks-enough (s .pre .0), s .pre .2)
 
 add-merge-walks-2 : tie.Need-add-merge-walks-2
 add-merge-walks-2 c =
     let s = c .before in
-    omega (arith, walks-enough _ _ (s .args .left + s .args .right) (s .pre .0), s .pre .2)
+    omega (arith, walks-enough (s .pre .0), s .pre .2)
 
 merge-walks-requires : tie.Need-merge-walks-requires
 merge-walks-requires c κs =

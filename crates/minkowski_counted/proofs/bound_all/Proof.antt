@@ -43,7 +43,7 @@ returns : tie.Need-returns
 returns c =
     let s = c .before .before .before .before .before .before in
     let g = s .args in
-    above-same (g .firsts .now) (g .points .now) (g .numbers .now) (g .left) (g .right) (s .pre .0) (c .before .before .before .first .ensures .0) (c .bound-used .ensures)
+    above-same (s .pre .0) (c .before .before .before .first .ensures .0) (c .bound-used .ensures)
 
 pub bound-all-spec : {M : Type 1} → statement M
 bound-all-spec =

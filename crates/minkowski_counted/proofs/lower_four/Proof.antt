@@ -99,7 +99,7 @@ returns c =
     let g = s .args in
     let u = s .pre .0 in
     let f = c .before .before .before .before .before .before .before .before .four-next .ensures in
-    lowered (g .left) (g .right) (place-with (g .left) (g .right) (f .place)) (off-all (g .s .k) (c .before .before .before .before .ties .result) (c .before .before .before .before .before .count-four .result .a) (c .before .before .before .ties2 .result) (c .before .before .before .before .before .count-four .result .b) (c .before .before .ties3 .result) (c .before .before .before .before .before .count-four .result .c) (c .before .ties4 .result) (c .before .before .before .before .before .count-four .result .d) (c .before .before .before .before .ties .ensures ∙ f .first .edges) (c .before .before .before .ties2 .ensures ∙ f .second .edges) (c .before .before .ties3 .ensures ∙ f .third .edges) (c .before .ties4 .ensures ∙ f .fourth .edges) (s .pre .2) (ap (λ v. v .a) (c .before .before .before .before .before .count-four .ensures) ∙ as-count (f .first)) (ap (λ v. v .b) (c .before .before .before .before .before .count-four .ensures) ∙ as-count (f .second)) (ap (λ v. v .c) (c .before .before .before .before .before .count-four .ensures) ∙ as-count (f .third)) (ap (λ v. v .d) (c .before .before .before .before .before .count-four .ensures) ∙ as-count (f .fourth)))
+    lowered (place-with (f .place)) (off-all (g .s .k) (c .before .before .before .before .ties .result) (c .before .before .before .before .before .count-four .result .a) (c .before .before .before .ties2 .result) (c .before .before .before .before .before .count-four .result .b) (c .before .before .ties3 .result) (c .before .before .before .before .before .count-four .result .c) (c .before .ties4 .result) (c .before .before .before .before .before .count-four .result .d) (c .before .before .before .before .ties .ensures ∙ f .first .edges) (c .before .before .before .ties2 .ensures ∙ f .second .edges) (c .before .before .ties3 .ensures ∙ f .third .edges) (c .before .ties4 .ensures ∙ f .fourth .edges) (s .pre .2) (ap (λ v. v .a) (c .before .before .before .before .before .count-four .ensures) ∙ as-count (f .first)) (ap (λ v. v .b) (c .before .before .before .before .before .count-four .ensures) ∙ as-count (f .second)) (ap (λ v. v .c) (c .before .before .before .before .before .count-four .ensures) ∙ as-count (f .third)) (ap (λ v. v .d) (c .before .before .before .before .before .count-four .ensures) ∙ as-count (f .fourth)))
 
 pub lower-four-spec : {M : Type 1} → statement M
 lower-four-spec =

@@ -23,7 +23,7 @@ loop-holds : tie.Need-loop-holds Inv-loop μ-loop
 loop-holds c =
     let s = c .before .before .before in
     let g = s .args in
-    bounds-start (g .firsts .now) (g .points .now) (g .numbers .now) (g .left) (g .right) (s .pre .0 .keyed) (c .most-of .result) (c .most-of .ensures)
+    bounds-start (g .firsts .now) (g .points .now) (g .numbers .now) (g .left) (g .right) (s .pre .0 .keyed) (c .most-of .ensures)
 
 add-if1 : tie.Need-add-if1 Inv-loop μ-loop
 add-if1 c =

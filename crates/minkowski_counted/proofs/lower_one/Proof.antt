@@ -30,7 +30,7 @@ returns c =
     let s = c .before .before .before .before .before .before .before in
     let g = s .args in
     let x = c .before .before .before .before .pair-next .ensures in
-    lowered (g .left) (g .right) (c .after .ensures) (omega (arith, s .pre .2, x .edges, c .before .before .ties .ensures, c .before .before .before .count-one .ensures, as-count x))
+    lowered (c .after .ensures) (omega (arith, s .pre .2, x .edges, c .before .before .ties .ensures, c .before .before .before .count-one .ensures, as-count x))
 
 pub lower-one-spec : {M : Type 1} → statement M
 lower-one-spec =

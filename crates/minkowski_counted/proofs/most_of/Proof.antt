@@ -63,14 +63,14 @@ loop-again c =
     let g = s .args in
     let l = c .before .before .before .before .before .before .loop in
     let h : l .s .n + 1 ≤ g .left * g .right = omega (arith, c .before .before .before .before .if1 .taken) in
-    summed-next (g .firsts .now) (g .points .now) (g .numbers .now) (g .left) (g .right) (s .pre .0 .keyed) (l .s) (l .inv) h (c .before .before .edges .ensures ∙ c .before .before .before .pair-next .ensures .edges) (omega (arith, c .before .before .edges .ensures, c .before .before .before .pair-next .ensures .edges, c .before .before .before .pair-next .ensures .short)) refl (c .after .ensures)
+    summed-next (g .firsts .now) (g .points .now) (g .numbers .now) (g .left) (g .right) (s .pre .0 .keyed) (l .inv) h (c .before .before .edges .ensures ∙ c .before .before .before .pair-next .ensures .edges) (omega (arith, c .before .before .edges .ensures, c .before .before .before .pair-next .ensures .edges, c .before .before .before .pair-next .ensures .short)) refl (c .after .ensures)
 
 returns : tie.Need-returns Inv-loop μ-loop
 returns c =
     let s = c .before .before .before .before .before in
     let g = s .args in
     let l = c .before .before .loop in
-    summed-end (g .firsts .now) (g .points .now) (g .numbers .now) (g .left) (g .right) (s .pre .0 .keyed) (l .s) (l .inv) (omega (arith, c .if1 .left))
+    summed-end (g .firsts .now) (g .points .now) (g .numbers .now) (g .left) (g .right) (s .pre .0 .keyed) (l .inv) (omega (arith, c .if1 .left))
 
 pub most-of-spec : {M : Type 1} → statement M
 most-of-spec =

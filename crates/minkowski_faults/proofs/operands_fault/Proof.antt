@@ -11,10 +11,10 @@ use Rattle.minkowski_faults.proofs.operands_fault.Tie as tie
 
 -- a test's answer r, as it came out
 this : (n : ℕ) (l : List Kind) {r t : Bool} → r ≡ t → r ≡ true → firstFault ((n, t) ∷ l) ≡ n
-this n l e h = first-this n _ l (sym e ∙ h)
+this n l e h = first-this n l (sym e ∙ h)
 
 next : (n : ℕ) (l : List Kind) {r t : Bool} → r ≡ t → r ≡ false → firstFault ((n, t) ∷ l) ≡ firstFault l
-next n l e h = first-next n _ l (sym e ∙ h)
+next n l e h = first-next n l (sym e ∙ h)
 
 rules-broken-requires : tie.Need-rules-broken-requires
 rules-broken-requires c κs = search needs

@@ -20,20 +20,20 @@ module _ (t : Bool) (l r : List ℕ) (e : t ≡ false) where
   kinds = (10, t) ∷ (20, eqb (partCount l) 0) ∷ (20, eqb (partCount r) 0) ∷ []
 
   left-empty : length l ≤ 1 → 20 ≡ firstFault kinds
-  left-empty h = sym (first-next 10 _ _ e ∙ first-this 20 _ _ (no-parts l h))
+  left-empty h = sym (first-next 10 _ e ∙ first-this 20 _ (no-parts l h))
 
   module _ (h : 1 < length l) where
     right-empty : length r ≤ 1 → 20 ≡ firstFault kinds
-    right-empty k = sym (first-next 10 _ _ e ∙ first-next 20 _ _ (some-parts l h) ∙ first-this 20 _ _ (no-parts r k))
+    right-empty k = sym (first-next 10 _ e ∙ first-next 20 _ (some-parts l h) ∙ first-this 20 _ (no-parts r k))
 
     accepted : 1 < length r → 0 ≡ firstFault kinds
-    accepted k = sym (first-next 10 _ _ e ∙ first-next 20 _ _ (some-parts l h) ∙ first-next 20 _ _ (some-parts r k) ∙ first-empty)
+    accepted k = sym (first-next 10 _ e ∙ first-next 20 _ (some-parts l h) ∙ first-next 20 _ (some-parts r k) ∙ first-empty)
 
 bounds-off-requires : tie.Need-bounds-off-requires
 bounds-off-requires c κs = search needs
 
 returns : tie.Need-returns
-returns c = sym (first-this 10 _ _ (sym (c .before .bounds-off .ensures) ∙ c .if1 .taken))
+returns c = sym (first-this 10 _ (sym (c .before .bounds-off .ensures) ∙ c .if1 .taken))
 
 returns-2 : tie.Need-returns-2
 returns-2 c =

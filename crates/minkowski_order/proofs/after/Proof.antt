@@ -6,10 +6,10 @@ use Rattle.minkowski_order.proofs.after.Statement.{statement}
 use Rattle.minkowski_order.proofs.after.Tie as tie
 
 add-q : tie.Need-add-q
-add-q c = omega (arith, next-of (c .before .args .left) (c .before .args .right) (c .before .args .s) (c .before .pre) .1)
+add-q c = omega (arith, next-of (c .before .pre) .1)
 
 add-t7 : tie.Need-add-t7
-add-t7 c = omega (arith, next-of (c .before .before .before .args .left) (c .before .before .before .args .right) (c .before .before .before .args .s) (c .before .before .before .pre) .0)
+add-t7 c = omega (arith, next-of (c .before .before .before .pre) .0)
 
 add-t8 : tie.Need-add-t8
 add-t8 c = search needs
@@ -18,7 +18,7 @@ returns : tie.Need-returns
 returns c =
     let s = c .before .before .before .before in
     let g = s .args in
-    row-next (g .left) (g .right) (g .k) (g .s) (s .pre) (c .before .before .if1 .taken)
+    row-next (g .k) (s .pre) (c .before .before .if1 .taken)
 
 add-t9 : tie.Need-add-t9
 add-t9 c = search needs
@@ -27,7 +27,7 @@ returns-2 : tie.Need-returns-2
 returns-2 c =
     let s = c .before .before .before in
     let g = s .args in
-    row-on (g .left) (g .right) (g .k) (g .s) (s .pre) (c .before .if1 .left)
+    row-on (g .k) (s .pre) (c .before .if1 .left)
 
 pub after-spec : {M : Type 1} → statement M
 after-spec =

@@ -37,7 +37,7 @@ append-row-requires c κs =
       s .pre .0,
       t,
       all-room (leftsIn (g .firsts .now) (g .points .now) (g .left) (g .right)) (rightsIn (g .firsts .now) (g .points .now) (g .left) (g .right)) (l .p) (omega (arith, t, h)) (left-walk (g .firsts .now) (g .points .now) (g .left) (g .right) (l .p) t)
-          (room-resized (g .starts .now) (c .before .before .before .before .before .before .put-start .ensures) (s .pre .1)) (l .inv .1),
+          (room-resized (c .before .before .before .before .before .before .put-start .ensures) (s .pre .1)) (l .inv .1),
     )
 
 add-n : tie.Need-add-n Inv-loop μ-loop
@@ -50,7 +50,7 @@ add-n c =
     let h = lefts-count (g .firsts .now) (g .points .now) (g .left) (g .right) (s .pre .0) in
     let room =
     all-room (leftsIn (g .firsts .now) (g .points .now) (g .left) (g .right)) (rightsIn (g .firsts .now) (g .points .now) (g .left) (g .right)) (l .p) (omega (arith, t, h)) (left-walk (g .firsts .now) (g .points .now) (g .left) (g .right) (l .p) t)
-    (room-resized (g .starts .now) e (s .pre .1)) (l .inv .1) in
+    (room-resized e (s .pre .1)) (l .inv .1) in
     omega (
       arith,
       room .for-starts,
@@ -89,7 +89,7 @@ returns c =
     let s = c .before .before .before .before .before .before .before .before in
     let g = s .args in
     let l = c .before .loop in
-    all-done (leftsIn (g .firsts .now) (g .points .now) (g .left) (g .right)) (rightsIn (g .firsts .now) (g .points .now) (g .left) (g .right)) (l .p) (g .starts .now) (g .out .now) (omega (arith, c .loop-test .left, lefts-count (g .firsts .now) (g .points .now) (g .left) (g .right) (s .pre .0))) (omega (arith, s .pre .1 .for-starts)) (c .before .before .before .before .put-start .ensures) (l .inv .1)
+    all-done (leftsIn (g .firsts .now) (g .points .now) (g .left) (g .right)) (rightsIn (g .firsts .now) (g .points .now) (g .left) (g .right)) (l .p) (g .starts .now) (omega (arith, c .loop-test .left, lefts-count (g .firsts .now) (g .points .now) (g .left) (g .right) (s .pre .0))) (omega (arith, s .pre .1 .for-starts)) (c .before .before .before .before .put-start .ensures) (l .inv .1)
 
 pub append-all-spec : {M : Type 1} → statement M
 append-all-spec =

@@ -29,7 +29,7 @@ returns : tie.Need-returns
 returns c =
     let s = c .before .before .before .before .before .before .before .before .before in
     let g = s .args in
-    pairs-one (mergedIn (g .firsts .now) (g .points .now) (g .count) (g .p) (g .q)) (g .starts .now) (g .n) (g .out .now) (g .at) (s .pre .3 .for-starts) (c .before .before .before .before .before .merge-walks .ensures) (c .before .before .put-start .ensures)
+    pairs-one (g .starts .now) (g .n) (s .pre .3 .for-starts) (c .before .before .before .before .before .merge-walks .ensures) (c .before .before .put-start .ensures)
 
 pub append-one-spec : {M : Type 1} → statement M
 append-one-spec = tie.close (tie.spec merge-walks-requires add-put-start put-start-requires same-length same-length-2 returns)

@@ -22,7 +22,7 @@ abbrev μ-loop : tie.MeasureT-loop
 add-count : tie.Need-add-count Inv-loop μ-loop
 add-count c =
     let s = c .before .before in
-    omega (arith, walks-enough _ _ (s .args .left + s .args .right) (s .pre .0))
+    omega (arith, walks-enough (s .pre .0))
 
 loop-holds : tie.Need-loop-holds Inv-loop μ-loop
 loop-holds c =
@@ -32,7 +32,7 @@ loop-holds c =
 add-append-one : tie.Need-add-append-one Inv-loop μ-loop
 add-append-one c =
     let s = c .before .before .before .before in
-    omega (arith, c .loop-test .taken, walks-enough _ _ (s .args .left + s .args .right) (s .pre .0))
+    omega (arith, c .loop-test .taken, walks-enough (s .pre .0))
 
 add-append-one-2 : tie.Need-add-append-one-2 Inv-loop μ-loop
 add-append-one-2 c =
@@ -82,7 +82,7 @@ returns c =
     let g = s .args in
     let l = c .before .loop in
     let e : l .q ≡ g .right = omega (arith, c .loop-test .left, l .inv .0) in
-    row-done (walkIn (g .firsts .now) (g .points .now) (g .left + g .right) (g .p)) (rightsIn (g .firsts .now) (g .points .now) (g .left) (g .right)) (l .q) e (sym (rights-count (g .firsts .now) (g .points .now) (g .left) (g .right) (s .pre .0))) (l .inv .1)
+    row-done (walkIn (g .firsts .now) (g .points .now) (g .left + g .right) (g .p)) (rightsIn (g .firsts .now) (g .points .now) (g .left) (g .right)) e (sym (rights-count (g .firsts .now) (g .points .now) (g .left) (g .right) (s .pre .0))) (l .inv .1)
 
 pub append-row-spec : {M : Type 1} → statement M
 append-row-spec =

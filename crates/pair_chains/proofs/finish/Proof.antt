@@ -30,7 +30,7 @@ step-requires c κs =
     let l = t .before .before .loop in
     let s = t .before .before .before .before in
     let h = ltb-true (l .a .i + l .a .j) (s .args .end) (sym (t .before .going .ensures) ∙ t .if1 .taken) in
-    let n = runs-next (s .args .numbers .now) (s .args .end) (length (s .args .points .now)) (l .a .i) (l .a .j) (l .inv .runs) h in
+    let n = runs-next (s .args .numbers .now) (s .args .end) (l .inv .runs) h in
     (s .pre .0, n .left, n .right, stands-room (s .args .points .now) (s .args .numbers .now) (s .args .end) (l .a) (l .inv) h (s .pre .2))
 
 loop-less : tie.Need-loop-less Inv-loop μ-loop

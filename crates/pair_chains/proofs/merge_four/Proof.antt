@@ -30,10 +30,10 @@ loop-holds : tie.Need-loop-holds Inv-loop μ-loop
 loop-holds c =
     let s = c .before .before .before .before .before .before .before .before .before in
     let g = s .args in (
-      of-start (g .points .now) (g .numbers .now) (g .x .a) (g .out .now) (g .at) (s .pre .1 .first) (c .before .before .before .start .ensures),
-      of-start (g .points .now) (g .numbers .now) (g .x .b) (g .wb .now) 0 (s .pre .1 .second) (c .before .before .start2 .ensures),
-      of-start (g .points .now) (g .numbers .now) (g .x .c) (g .wc .now) 0 (s .pre .1 .third) (c .before .start3 .ensures),
-      of-start (g .points .now) (g .numbers .now) (g .x .d) (g .wd .now) 0 (s .pre .1 .fourth) (c .start4 .ensures),
+      of-start (g .points .now) (g .numbers .now) (g .x .a) (s .pre .1 .first) (c .before .before .before .start .ensures),
+      of-start (g .points .now) (g .numbers .now) (g .x .b) (s .pre .1 .second) (c .before .before .start2 .ensures),
+      of-start (g .points .now) (g .numbers .now) (g .x .c) (s .pre .1 .third) (c .before .start3 .ensures),
+      of-start (g .points .now) (g .numbers .now) (g .x .d) (s .pre .1 .fourth) (c .start4 .ensures),
     )
 
 going-four-requires : tie.Need-going-four-requires Inv-loop μ-loop

@@ -11,7 +11,7 @@ finish-requires : tie.Need-finish-requires
 finish-requires c κs =
     let s = c .before .before .before in
     let g = s .args in
-    let l = of-start (g .points .now) (g .numbers .now) (g .x) (g .out .now) (g .at) (s .pre .1) (c .before .start .ensures) in
+    let l = of-start (g .points .now) (g .numbers .now) (g .x) (s .pre .1) (c .before .start .ensures) in
     of-rest (g .points .now) (g .numbers .now) (g .x) (c .before .start .result) l (s .pre .0) (s .pre .1)
 
 same-length : tie.Need-same-length
@@ -21,7 +21,7 @@ returns : tie.Need-returns
 returns c =
     let s = c .before .before .before .before .before in
     let g = s .args in
-    let l = of-start (g .points .now) (g .numbers .now) (g .x) (g .out .now) (g .at) (s .pre .1) (c .before .before .before .start .ensures) in
+    let l = of-start (g .points .now) (g .numbers .now) (g .x) (s .pre .1) (c .before .before .before .start .ensures) in
     of-done (g .points .now) (g .numbers .now) (g .x) (c .before .before .before .start .result) l (c .before .finish .ensures)
 
 pub merge-one-spec : {M : Type 1} → statement M

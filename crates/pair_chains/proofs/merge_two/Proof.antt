@@ -24,8 +24,8 @@ loop-holds : tie.Need-loop-holds Inv-loop μ-loop
 loop-holds c =
     let s = c .before .before .before in
     let g = s .args in (
-      of-start (g .points .now) (g .numbers .now) (g .x) (g .out .now) (g .at) (s .pre .1) (c .before .start .ensures),
-      of-start (g .points .now) (g .numbers .now) (g .y) (g .work .now) 0 (s .pre .2) (c .start2 .ensures),
+      of-start (g .points .now) (g .numbers .now) (g .x) (s .pre .1) (c .before .start .ensures),
+      of-start (g .points .now) (g .numbers .now) (g .y) (s .pre .2) (c .start2 .ensures),
     )
 
 going-two-requires : tie.Need-going-two-requires Inv-loop μ-loop

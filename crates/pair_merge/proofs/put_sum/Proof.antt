@@ -49,7 +49,7 @@ returns c =
     let q = u .point-at2 in
     let ex = summed (p .ensures .1 .x-small) (q .ensures .1 .x-small) (v .sum .ok) (v .sum .ensures) (ap (λ v. v .x) (p .ensures .0)) (ap (λ v. v .x) (q .ensures .0)) in
     let ey = summed (p .ensures .1 .y-small) (q .ensures .1 .y-small) (w .sum2 .ok) (w .sum2 .ensures) (ap (λ v. v .y) (p .ensures .0)) (ap (λ v. v .y) (q .ensures .0)) in
-    put-one (cornerIn (s .args .a .now) (s .args .i) +ᵖ cornerIn (s .args .b .now) (s .args .j)) (s .args .out .now) (s .args .k) (s .pre .4)
+    put-one (cornerIn (s .args .a .now) (s .args .i) +ᵖ cornerIn (s .args .b .now) (s .args .j)) (s .pre .4)
     (c .before .put-corner .ensures ∙ (λ i. withCorner (s .args .out .now) (s .args .k) (record { x = ex i; y = ey i })))
 
 same-length : tie.Need-same-length

@@ -19,7 +19,7 @@ edge-requires c κs = search needs
 key-of-requires : tie.Need-key-of-requires
 key-of-requires c κs =
     let s = c .before in
-    (c .edge .ensures .1, subst Nz (sym (c .edge .ensures .0)) (edge-nz (pointsIn (s .args .a .now)) (s .args .i) (s .pre .1 .turning) (omega (arith, s .pre .0, length-map (s .args .a .now) cornerOf))))
+    (c .edge .ensures .1, subst Nz (sym (c .edge .ensures .0)) (edge-nz (s .args .i) (s .pre .1 .turning) (omega (arith, s .pre .0, length-map (s .args .a .now) cornerOf))))
 
 mul-result : tie.Need-mul-result
 mul-result c = search needs

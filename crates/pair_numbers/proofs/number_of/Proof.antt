@@ -37,7 +37,7 @@ sub-result c =
     let s = c .before .before .before .before in
     let h : s .args .i + 1 < length (pointsIn (s .args .a .now)) = omega (arith, s .pre .0, c .before .before .before .if1 .left, length-map (s .args .a .now) cornerOf) in
     let e = c .before .before .edge-number .ensures in
-    omega (arith, c .mark .ensures, e .0, right-is (pointsIn (s .args .a .now)) (s .args .i) h, mark-most (pointsIn (s .args .a .now)) (s .args .i) (s .pre .1 .turning) (e .1) h)
+    omega (arith, c .mark .ensures, e .0, right-is (pointsIn (s .args .a .now)) (s .args .i) h, mark-most (s .args .i) (s .pre .1 .turning) (e .1) h)
 
 returns-2 : tie.Need-returns-2
 returns-2 c =

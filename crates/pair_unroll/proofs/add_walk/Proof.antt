@@ -38,7 +38,7 @@ loop-holds : tie.Need-loop-holds Inv-loop μ-loop
 loop-holds c =
     let s = c .before .before .before .before .before in
     let a = s .args in
-    walking-start (pointsOf (a .contour .now)) (a .start) (a .from) _ (a .points .now) (s .pre .placed) (c .before .before .point-of .ensures) (omega (arith, s .pre .room)) (c .before .put-point .ensures)
+    walking-start (pointsOf (a .contour .now)) (a .start) (a .from) (a .points .now) (s .pre .placed) (c .before .before .point-of .ensures) (omega (arith, s .pre .room)) (c .before .put-point .ensures)
 
 advance-of-requires : tie.Need-advance-of-requires Inv-loop μ-loop
 advance-of-requires c κs =
@@ -51,7 +51,7 @@ point-of-requires-2 : tie.Need-point-of-requires-2 Inv-loop μ-loop
 point-of-requires-2 c κs =
     let s = c .before .before .before .before .before .before .before .before .before .before in
     let l = s .args .contour .now in
-    let p = walking-placed (pointsOf l) (s .args .start) (s .args .from) (c .before .before .before .before .loop .inv) _ (c .before .before .before .before .before .before .before .before .before .corner-count .ensures) (c .before .advance-of .ensures) in
+    let p = walking-placed (pointsOf l) (s .args .start) (s .args .from) (c .before .before .before .before .loop .inv) (c .before .before .before .before .before .before .before .before .before .corner-count .ensures) (c .before .advance-of .ensures) in
     (p, off-nowhere l _ (s .pre .ranged) (index-inside _ _ p))
 
 add-point-requires : tie.Need-add-point-requires Inv-loop μ-loop
@@ -80,7 +80,7 @@ loop-again c =
     let p1 = at-loop .before .before .before .before .before in
     let s = p1 .before in
     let l = pointsOf (s .args .contour .now) in
-    walking-step l (s .args .start) (s .args .from) (at-loop .loop .inv) _ (omega (arith, p2 .before .if1 .taken))
+    walking-step l (s .args .start) (s .args .from) (at-loop .loop .inv) (omega (arith, p2 .before .if1 .taken))
     (p2 .advance-of .ensures ∙ ap (λ n. advance n (at-loop .loop .w)) (p1 .corner-count .ensures)) (p3 .point-of2 .ensures)
     (c .before .add-point .ensures)
 

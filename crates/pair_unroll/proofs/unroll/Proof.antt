@@ -29,8 +29,8 @@ add-walk-requires : tie.Need-add-walk-requires
 add-walk-requires c κs =
     let s = c .before .before .before .before .before .before in
     let l = s .args .contour .now in
-    let q = begun-at (s .args .reflected) l (s .pre .short) (s .pre .ranged) (c .before .before .before .before .before .if1 .left) _ (sym (c .before .before .before .before .begin-checked .ensures) ∙ c .before .before .begun .given .1) in
-    walkable (s .args .reflected) l (c .before .before .before .before .before .if1 .left) (q .1) (s .pre)
+    let q = begun-at (s .args .reflected) l (s .pre .short) (s .pre .ranged) (c .before .before .before .before .before .if1 .left) (sym (c .before .before .before .before .begin-checked .ensures) ∙ c .before .before .begun .given .1) in
+    walkable (s .args .reflected) (c .before .before .before .before .before .if1 .left) (q .1) (s .pre)
 
 same-length : tie.Need-same-length
 same-length c = search needs
@@ -40,7 +40,7 @@ returns-3 c =
     let s = c .before .before .before .before .before .before .before .before in
     let a = s .args in
     let l = a .contour .now in
-    let q = begun-at (a .reflected) l (s .pre .short) (s .pre .ranged) (c .before .before .before .before .before .before .before .if1 .left) _ (sym (c .before .before .before .before .before .before .begin-checked .ensures) ∙ c .before .before .before .before .begun .given .1) in
+    let q = begun-at (a .reflected) l (s .pre .short) (s .pre .ranged) (c .before .before .before .before .before .before .before .if1 .left) (sym (c .before .before .before .before .before .before .begin-checked .ensures) ∙ c .before .before .before .before .begun .given .1) in
     told-to (record { stays = q .0; appended = walk-unrolled (a .reflected) (pointsOf l) (some-corner l (s .pre .short) (c .before .before .before .before .before .before .before .if1 .left)) (q .1) (c .before .add-walk .ensures) })
 
 pub unroll-spec : {M : Type 1} → statement M

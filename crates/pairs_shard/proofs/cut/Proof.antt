@@ -50,7 +50,7 @@ put-rest-requires c κs =
     let q = c .before .before .before .least-of2 .ensures ∙ ap (leastOf (s .args .from)) p in
     let u = asked-as (s .args .from) (s .args .to) B (sym (c .before .before .before .before .before .before .before .shard-fault .ensures) ∙ c .before .before .before .before .before .before .if1 .left) q p in
     let k = known _ _ _ u in
-    let n = length-counts _ _ B k in
+    let n = length-counts k in
     (u, search needs, omega (arith, n, c .before .put-counts .ensures .after))
 
 returns-2 : tie.Need-returns-2

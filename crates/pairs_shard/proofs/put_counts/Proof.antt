@@ -128,7 +128,7 @@ returns c =
     let n = s .args .past - s .args .first + 1 in
     let k = known _ _ _ (s .pre .0) in
     let m = length-less (startAt B f) (7 + f) n B (omega arith) in
-    counts-put (lessWords (startAt B f) (7 + f) n B) (s .args .out .now) (length-take-le 20 B (omega arith)) (omega (arith, m, s .pre .1)) (t .put-bytes .ensures) refl
+    counts-put (length-take-le 20 B (omega arith)) (omega (arith, m, s .pre .1)) (t .put-bytes .ensures) refl
     (λ i. (e .word-at2 .ensures) i - (b .word-at .ensures) i) (ap (λ a. lessWords a (7 + f) n B) (b .word-at .ensures)) (p₁ .put-word .ensures) (p₂ .put-word2 .ensures)
     (l .put-less .ensures) (omega (arith, m))
 

@@ -20,7 +20,7 @@ shared-slice-read-from : tie.Need-shared-slice-read-from
 shared-slice-read-from c = search needs
 
 cast-from : tie.Need-cast-from
-cast-from c = let p = lies _ _ _ (c .before .before .pre .0) (c .before .before .pre .1) in omega arith
+cast-from c = let p = lies (c .before .before .pre .0) (c .before .before .pre .1) in omega arith
 
 add-to : tie.Need-add-to
 add-to c = search needs
@@ -32,12 +32,12 @@ shared-slice-read-to : tie.Need-shared-slice-read-to
 shared-slice-read-to c = search needs
 
 cast-to : tie.Need-cast-to
-cast-to c = let p = lies _ _ _ (c .before .before .before .pre .0) (c .before .before .before .pre .1) in omega arith
+cast-to c = let p = lies (c .before .before .before .pre .0) (c .before .before .before .pre .1) in omega arith
 
 part-requires : tie.Need-part-requires
 part-requires c κs =
     let s = c .before .before .before in
-    let p = lies _ _ _ (s .pre .0) (s .pre .1) in
+    let p = lies (s .pre .0) (s .pre .1) in
     (p .rises, omega (arith, p .within, length-points (s .args .corners .now)))
 
 placed-in-requires : tie.Need-placed-in-requires
@@ -49,7 +49,7 @@ placed-in-requires c κs =
 returns : tie.Need-returns
 returns c =
     let s = c .before .before .before .before .before in
-    c .placed-in .ensures ∙ ap (contactIn (point (s .args .z))) (ap pointsOf (c .before .part .ensures .0) ∙ contour-at _ _ _ (s .pre .1))
+    c .placed-in .ensures ∙ ap (contactIn (point (s .args .z))) (ap pointsOf (c .before .part .ensures .0) ∙ contour-at _ _ (s .pre .1))
 
 pub placed-at-spec : {M : Type 1} → statement M
 placed-at-spec =

@@ -28,7 +28,7 @@ by-flag : {t : Bool} {r : Contact} → cond t Touching Apart ≡ r → (t ≡ tr
 by-flag e = (λ h. rw h at e, λ h. rw h at e)
 
 sub-parts : tie.Need-sub-parts Inv-loop μ-loop
-sub-parts c = omega (arith, count-contours _ _ (c .before .pre .0) .1)
+sub-parts c = omega (arith, count-contours (c .before .pre .0) .1)
 
 loop-holds : tie.Need-loop-holds Inv-loop μ-loop
 loop-holds c = by-start _ _
@@ -52,7 +52,7 @@ returns c =
     let a = c .before .before in
     let l = a .before .before in
     let s = l .before .before in
-    overlapped _ _ (l .loop .inv) (omega (arith, a .before .loop-test .taken, count-contours _ _ (s .pre .0) .0)) (sym (a .placed-at .ensures) ∙ c .enum-told3 .given .1)
+    overlapped _ _ (l .loop .inv) (omega (arith, a .before .loop-test .taken, count-contours (s .pre .0) .0)) (sym (a .placed-at .ensures) ∙ c .enum-told3 .given .1)
 
 add-k : tie.Need-add-k Inv-loop μ-loop
 add-k c = search needs
@@ -66,7 +66,7 @@ loop-again c =
     let l = a .before .before in
     let s = l .before .before in
     let ps = tableParts (s .args .starts .now) (s .args .corners .now) in
-    let inside : l .loop .k < length ps = omega (arith, a .before .loop-test .taken, count-contours _ _ (s .pre .0) .0) in
+    let inside : l .loop .k < length ps = omega (arith, a .before .loop-test .taken, count-contours (s .pre .0) .0) in
     ⊎-elim
     (λ w. subst (ByTurn _ ps _) (sym (w .2)) (passed _ ps (l .loop .inv) inside (sym (a .placed-at .ensures) ∙ w .1 .given .1)))
     (λ w. subst (ByTurn _ ps _) (sym (w .2)) (touched _ ps (l .loop .inv) inside (sym (a .placed-at .ensures) ∙ w .1 .given .1)))
@@ -76,13 +76,13 @@ returns-2 : tie.Need-returns-2 Inv-loop μ-loop
 returns-2 c =
     let l = c .before .before in
     let s = l .before .before in
-    by-flag (by-end _ _ (l .loop .inv) (omega (arith, c .before .loop-test .left, count-contours _ _ (s .pre .0) .0))) .0 (c .if1 .taken)
+    by-flag (by-end _ _ (l .loop .inv) (omega (arith, c .before .loop-test .left, count-contours (s .pre .0) .0))) .0 (c .if1 .taken)
 
 returns-3 : tie.Need-returns-3 Inv-loop μ-loop
 returns-3 c =
     let l = c .before .before in
     let s = l .before .before in
-    by-flag (by-end _ _ (l .loop .inv) (omega (arith, c .before .loop-test .left, count-contours _ _ (s .pre .0) .0))) .1 (c .if1 .left)
+    by-flag (by-end _ _ (l .loop .inv) (omega (arith, c .before .loop-test .left, count-contours (s .pre .0) .0))) .1 (c .if1 .left)
 
 pub placed-by-spec : {M : Type 1} → statement M
 placed-by-spec =

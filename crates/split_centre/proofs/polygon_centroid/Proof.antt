@@ -69,10 +69,10 @@ module _ (cs : List (List ℤ)) (h : Summable (map cornerOf cs)) (n : 3 ≤ leng
     some = omega (arith, n, length-map cs cornerOf)
 
     place-x : Placed (toZ w32 (ofZ w32 (o .x))) (s .x) d
-    place-x = rw (x-kept, d-is) (placed-x l some h g)
+    place-x = rw (x-kept, d-is) (placed-x some h g)
 
     place-y : Placed (toZ w32 (ofZ w32 (o .y))) (s .y) d
-    place-y = rw (y-kept, d-is) (placed-y l some h g)
+    place-y = rw (y-kept, d-is) (placed-y some h g)
 
     found : {x y : ℤ} → ltZ threshold area ≡ false → x ≡ toZ w32 (ofZ w32 (o .x)) +ℤ rounded (value (s .x)) d → y ≡ toZ w32 (ofZ w32 (o .y)) +ℤ rounded (value (s .y)) d → At (record { x = x; y = y }) ≡ centroidFound l
     unfolding centroidFound centreOf

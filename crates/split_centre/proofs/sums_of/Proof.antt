@@ -37,7 +37,7 @@ module _ (cs : List (List ℤ)) where
     in-list = omega (arith, k, length-map cs cornerOf)
 
     room : Summable l → Roomy s (cross (vector a) (vector b))
-    room h = rw (g .here, e) (sofar-room l h i (g .from) in-list (g .sums))
+    room h = rw (g .here, e) (sofar-room h i (g .from) in-list (g .sums))
 
     turns : {r : Sums} → Short b → Added s (vector a) (vector b) r → Going cs r b (i + 1)
     turns {r} f q = record {
@@ -50,7 +50,7 @@ module _ (cs : List (List ℤ)) where
 
   ends : {s : Sums} {a : IntVector} {i : ℕ} → length cs ≤ i → Going cs s a i → Summed l s
   ends {s} {a} {i} k g =
-      sofar-end l (omega (arith, length-map cs cornerOf, g .from, g .upto)) (subst (λ n. Sofar (getD l 0 O) l n s) (omega (arith, length-map cs cornerOf, g .upto)) (g .sums))
+      sofar-end (omega (arith, length-map cs cornerOf, g .from, g .upto)) (subst (λ n. Sofar (getD l 0 O) l n s) (omega (arith, length-map cs cornerOf, g .upto)) (g .sums))
 
 abbrev Inv-loop : tie.InvT-loop
 Inv-loop contour origin s₀ a₀ i₀ s a i = Going contour s a i

@@ -32,8 +32,8 @@ end-part-requires : tie.Need-end-part-requires
 end-part-requires c κs =
     let s = c .before .before .before .before .before .before .before .before in
     let g = s .args in
-    let a = appended-more (cornerIn (g .contour .now) 0 ∷ []) (runOf (g .contour .now) (g .start) (g .size + 1)) (c .before .before .before .before .before .append-point .ensures) (c .before .before .append-run .ensures) in
-    (s .pre .1 .for-starts, room-end (g .starts .now) (g .points .now) (g .t) (cornerIn (g .contour .now) 0 ∷ runOf (g .contour .now) (g .start) (g .size + 1)) (s .pre .1) a)
+    let a = appended-more (c .before .before .before .before .before .append-point .ensures) (c .before .before .append-run .ensures) in
+    (s .pre .1 .for-starts, room-end (g .starts .now) (g .points .now) (g .t) (s .pre .1) a)
 
 same-length : tie.Need-same-length
 same-length c = search needs
@@ -45,8 +45,8 @@ returns : tie.Need-returns
 returns c =
     let s = c .before .before .before .before .before .before .before .before .before .before .before in
     let g = s .args in
-    let a = appended-more (cornerIn (g .contour .now) 0 ∷ []) (runOf (g .contour .now) (g .start) (g .size + 1)) (c .before .before .before .before .before .before .before .before .append-point .ensures) (c .before .before .before .before .before .append-run .ensures) in
-    part-ended (cornerIn (g .contour .now) 0 ∷ runOf (g .contour .now) (g .start) (g .size + 1)) (g .starts .now) (g .points .now) (g .t) (s .pre .1) a (c .before .before .end-part .ensures)
+    let a = appended-more (c .before .before .before .before .before .before .before .before .append-point .ensures) (c .before .before .before .before .before .append-run .ensures) in
+    part-ended (s .pre .1) a (c .before .before .end-part .ensures)
 
 pub append-fan-part-spec : {M : Type 1} → statement M
 append-fan-part-spec =

@@ -23,7 +23,7 @@ end-part-requires c κs =
     let g = s .args in
     let k = g .contour .now in
     let a = whole-run k (c .before .before .append-run .ensures) in
-    (s .pre .for-starts, room-end (g .starts .now) (g .points .now) (g .t) (cornersIn k) (s .pre) a)
+    (s .pre .for-starts, room-end (g .starts .now) (g .points .now) (g .t) (s .pre) a)
 
 same-length : tie.Need-same-length
 same-length c = search needs
@@ -37,7 +37,7 @@ returns c =
     let g = s .args in
     let k = g .contour .now in
     let a = whole-run k (c .before .before .before .before .before .append-run .ensures) in
-    part-ended (cornersIn k) (g .starts .now) (g .points .now) (g .t) (s .pre) a (c .before .before .end-part .ensures)
+    part-ended (s .pre) a (c .before .before .end-part .ensures)
 
 pub append-whole-spec : {M : Type 1} → statement M
 append-whole-spec =

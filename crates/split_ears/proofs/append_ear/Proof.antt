@@ -51,8 +51,8 @@ end-part-requires : tie.Need-end-part-requires
 end-part-requires c κs =
     let s = c .before .before .before .before .before .before .before .before .before .before .before .before .before .before in
     let g = s .args in
-    let a = appended-more (cornerIn (g .contour .now) (g .start) ∷ []) (cornersAfter (g .contour .now) (g .ring .now) (g .start) (g .size + 1)) (c .before .before .before .before .before .before .before .before .before .before .append-point .ensures) (c .before .before .before .before .before .before .append-after .ensures .2) in
-    (s .pre .3 .for-starts, room-end (g .starts .now) (g .points .now) (g .t) (cornerIn (g .contour .now) (g .start) ∷ cornersAfter (g .contour .now) (g .ring .now) (g .start) (g .size + 1)) (s .pre .3) a)
+    let a = appended-more (c .before .before .before .before .before .before .before .before .before .before .append-point .ensures) (c .before .before .before .before .before .before .append-after .ensures .2) in
+    (s .pre .3 .for-starts, room-end (g .starts .now) (g .points .now) (g .t) (s .pre .3) a)
 
 same-length : tie.Need-same-length
 same-length c = search needs
@@ -72,11 +72,11 @@ returns c =
     let s = p1 .before .before .before .before in
     let g = s .args in
     let a =
-    appended-more (cornerIn (g .contour .now) (g .start) ∷ []) (cornersAfter (g .contour .now) (g .ring .now) (g .start) (g .size + 1))
+    appended-more
     (p1 .append-point .ensures) (p2 .append-after .ensures .2) in (
       passed-over (g .ring .now) (g .start) (g .size + 1) (p3 .set-next .ensures) (p2 .append-after .ensures .0),
-      part-ended (cornerIn (g .contour .now) (g .start) ∷ cornersAfter (g .contour .now) (g .ring .now) (g .start) (g .size + 1)) (g .starts .now)
-          (g .points .now) (g .t) (s .pre .3) a (p4 .end-part .ensures),
+      part-ended
+          {p = g .points .now} (s .pre .3) a (p4 .end-part .ensures),
     )
 
 pub append-ear-spec : {M : Type 1} → statement M

@@ -39,7 +39,7 @@ loop-holds c =
     let s = c .before .before .before in
     let g = s .args in
     let e = c .ceil-div .ensures in
-    (omega arith, refl, clipping-start (g .contour .now) (g .starts .now) (g .points .now) (g .t) (g .limit) (g .ring .now) (omega (arith, s .pre .0, s .pre .1)) (e .1) (e .0) (s .pre .3))
+    (omega arith, refl, clipping-start (g .contour .now) (g .starts .now) (g .points .now) (g .t) (g .limit) (omega (arith, s .pre .0, s .pre .1)) (e .1) (e .0) (s .pre .3))
 
 share-requires : tie.Need-share-requires Inv-loop μ-loop
 share-requires c κs =

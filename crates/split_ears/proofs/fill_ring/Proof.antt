@@ -38,7 +38,7 @@ loop-again c =
     let s = c .before .before .before .before .before .before .before in
     let h = c .before .before .before .before .loop-test .taken in
     let e = c .before .before .set-next .ensures in
-    (omega (arith, h), ap length e ∙ length-set (l .ring) (l .i) (l .i + 1) ∙ l .inv .1, filled-turn (l .ring) (l .i) (omega (arith, h, s .pre .2, l .inv .1)) (l .inv .2) e)
+    (omega (arith, h), ap length e ∙ length-set (l .ring) (l .i) (l .i + 1) ∙ l .inv .1, filled-turn (l .ring) (omega (arith, h, s .pre .2, l .inv .1)) (l .inv .2) e)
 
 set-next-requires-2 : tie.Need-set-next-requires-2 Inv-loop μ-loop
 set-next-requires-2 c κs = search needs

@@ -63,7 +63,7 @@ loop-again c =
     let e = p1 .sector-end .ensures in (
       sector-within (g .contour .now) (point (g .centre)) (g .target) (l .at) h e,
       partway-turn (groupFrom (g .contour .now) (point (g .centre)) (g .target) (g .start)) (g .starts .now) (g .points .now) (g .t)
-          ((point (g .centre) ∷ arcOf (g .contour .now) (l .at) (p1 .sector-end .result - l .at + 1)) ∷ []) (l .inv .1)
+          (l .inv .1)
           (group-turn (g .contour .now) (point (g .centre)) (g .target) (l .at) h e) (p2 .append-sector .ensures),
     )
 

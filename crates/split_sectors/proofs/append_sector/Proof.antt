@@ -41,8 +41,8 @@ end-part-requires c κs =
     let g = s .args in
     let l = arcOf (g .contour .now) (g .start) (g .n + 1) in
     let h = room-point (g .starts .now) (g .points .now) (g .t) (point (g .centre)) l (s .pre .2) in
-    let a = appended-more (point (g .centre) ∷ []) l (kept-yes (g .points .now) (g .t .corners) (point (g .centre)) refl h (c .before .before .before .before .before .put-point .ensures)) (c .before .before .append-arc .ensures) in
-    (s .pre .2 .for-starts, room-end (g .starts .now) (g .points .now) (g .t) (point (g .centre) ∷ l) (s .pre .2) a)
+    let a = appended-more (kept-yes (g .points .now) (g .t .corners) (point (g .centre)) refl h (c .before .before .before .before .before .put-point .ensures)) (c .before .before .append-arc .ensures) in
+    (s .pre .2 .for-starts, room-end (g .starts .now) (g .points .now) (g .t) (s .pre .2) a)
 
 same-length : tie.Need-same-length
 same-length c = search needs
@@ -56,8 +56,8 @@ returns c =
     let g = s .args in
     let l = arcOf (g .contour .now) (g .start) (g .n + 1) in
     let h = room-point (g .starts .now) (g .points .now) (g .t) (point (g .centre)) l (s .pre .2) in
-    let a = appended-more (point (g .centre) ∷ []) l (kept-yes (g .points .now) (g .t .corners) (point (g .centre)) refl h (c .before .before .before .before .before .before .before .before .put-point .ensures)) (c .before .before .before .before .before .append-arc .ensures) in
-    part-ended (point (g .centre) ∷ l) (g .starts .now) (g .points .now) (g .t) (s .pre .2) a (c .before .before .end-part .ensures)
+    let a = appended-more (kept-yes (g .points .now) (g .t .corners) (point (g .centre)) refl h (c .before .before .before .before .before .before .before .before .put-point .ensures)) (c .before .before .before .before .before .append-arc .ensures) in
+    part-ended (s .pre .2) a (c .before .before .end-part .ensures)
 
 pub append-sector-spec : {M : Type 1} → statement M
 append-sector-spec =

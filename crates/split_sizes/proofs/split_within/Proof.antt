@@ -70,7 +70,7 @@ returns c =
     let m = rowsMesh (g .mesh .now) in
     let ps = splitParts (g .strategy) (g .limit) m in
     let t = gathered-in _ _ _ (g .mesh .now) (s .pre .0) (h .gather .ensures .0) (g .strategy) (g .limit) (q .raised .ensures) (a .split-all .ensures) in
-    mesh-answered m ps (g .starts .now) (g .corners .now) (s .pre .0) (o .hand-out .ensures .answer ps t)
+    mesh-answered m (s .pre .0) (o .hand-out .ensures .answer ps t)
 
 pub split-within-spec : {M : Type 1} → statement M
 split-within-spec =

@@ -18,7 +18,7 @@ abbrev μ-loop : tie.MeasureT-loop
 μ-loop starts corners parts total₀ k₀ total k = parts - k
 
 sub-parts : tie.Need-sub-parts Inv-loop μ-loop
-sub-parts c = omega (arith, count-contours _ _ (c .before .pre) .1)
+sub-parts c = omega (arith, count-contours (c .before .pre) .1)
 
 loop-holds : tie.Need-loop-holds Inv-loop μ-loop
 loop-holds c = (omega arith, totals-start _)
@@ -30,7 +30,7 @@ add-requires : tie.Need-add-requires Inv-loop μ-loop
 add-requires c κs =
     let l = c .before .before in
     let s = l .before .before in
-    let p = lies _ _ _ (s .pre) (c .before .loop-test .taken) in
+    let p = lies (s .pre) (c .before .loop-test .taken) in
     omega (arith, high-of-terms (l .loop .total) (l .loop .inv .1 .size) (omega (arith, p .rises, p .within)), high-of-terms (c .area-at .result) (c .area-at .ensures .1) (omega (arith, p .rises, p .within)))
 
 add-k : tie.Need-add-k Inv-loop μ-loop
@@ -44,15 +44,15 @@ loop-again c =
     let a = c .before in
     let l = a .before .before in
     let s = l .before .before in
-    let p = lies _ _ _ (s .pre) (a .before .loop-test .taken) in
-    let inside : l .loop .k < length (tableParts (s .args .starts .now) (s .args .corners .now)) = omega (arith, a .before .loop-test .taken, count-contours _ _ (s .pre) .0) in
+    let p = lies (s .pre) (a .before .loop-test .taken) in
+    let inside : l .loop .k < length (tableParts (s .args .starts .now) (s .args .corners .now)) = omega (arith, a .before .loop-test .taken, count-contours (s .pre) .0) in
     (omega (arith, a .before .loop-test .taken), totals-turn _ (l .loop .inv .1) inside (a .area-at .ensures .0) (a .area-at .ensures .1) (p .rises) (c .add .ensures))
 
 returns : tie.Need-returns Inv-loop μ-loop
 returns c =
     let l = c .before in
     let s = l .before .before in
-    totals-end _ (l .loop .inv .1) (omega (arith, c .loop-test .left, count-contours _ _ (s .pre) .0))
+    totals-end _ (l .loop .inv .1) (omega (arith, c .loop-test .left, count-contours (s .pre) .0))
 
 pub total-area-spec : {M : Type 1} → statement M
 total-area-spec =

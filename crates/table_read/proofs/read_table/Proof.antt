@@ -37,7 +37,7 @@ read-words-requires c κs =
     let n = c .before in
     let p = n .before in
     let f = p .before in
-    let r = room _ _ _ _ _ (sym (f .before .read-fault .ensures) ∙ f .if1 .left) (p .word-at .ensures) (n .word-at2 .ensures) in
+    let r = room (sym (f .before .read-fault .ensures) ∙ f .if1 .left) (p .word-at .ensures) (n .word-at2 .ensures) in
     (r .starts-lie, r .starts-fit)
 
 add-read-numbers : tie.Need-add-read-numbers
@@ -54,7 +54,7 @@ read-numbers-requires c κs =
     let n = c .before .before .before .before .before in
     let p = n .before in
     let f = p .before in
-    let r = room _ _ _ _ _ (sym (f .before .read-fault .ensures) ∙ f .if1 .left) (p .word-at .ensures) (n .word-at2 .ensures) in
+    let r = room (sym (f .before .read-fault .ensures) ∙ f .if1 .left) (p .word-at .ensures) (n .word-at2 .ensures) in
     (r .corners-lie, r .corners-fit)
 
 same-length-2 : tie.Need-same-length-2

@@ -52,7 +52,7 @@ loop-again c =
     l .loop .inv ∙ passed _ _ (z .before .before .loop-test .taken) (got w32 _ (z .signed-word .ok) ∙ z .signed-word .ensures ∙ ap signed (z .before .word-at .ensures)) (c .before .in-range .ensures) (not-false _ (c .if1 .left))
 
 returns-2 : tie.Need-returns-2 Inv-loop μ-loop
-returns-2 c = sym (c .before .loop .inv ∙ none-found _ _ (c .loop-test .left))
+returns-2 c = sym (c .before .loop .inv ∙ none-found _ (c .loop-test .left))
 
 pub stored-off-range-spec : {M : Type 1} → statement M
 stored-off-range-spec =

@@ -55,7 +55,7 @@ loop-again c =
       simp length-set (l .loop .inv .1),
       copy-map-turn signed (drop (s .from) (wordsOf (s .bytes .now))) (s .to .now) (l .loop .i) 0 n (omega arith) (l .loop .inv .2)
           (got w32 _ (c .signed-word .ok) ∙ c .signed-word .ensures
-          ∙ ap signed (c .before .word-at .ensures ∙ word-from (s .bytes .now) (s .from) (l .loop .i) (s .from + l .loop .i) refl)),
+          ∙ ap signed (c .before .word-at .ensures ∙ word-from (s .bytes .now) (s .from) (l .loop .i) refl)),
     )
 
 same-length : tie.Need-same-length Inv-loop μ-loop

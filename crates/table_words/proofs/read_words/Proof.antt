@@ -48,7 +48,7 @@ loop-again c =
       omega arith,
       simp length-set (l .loop .inv .1),
       copy-turn (drop (s .from) (wordsOf (s .bytes .now))) (s .to .now) (l .loop .i) 0 n (omega arith) (l .loop .inv .2)
-          (c .word-at .ensures ∙ word-from (s .bytes .now) (s .from) (l .loop .i) (s .from + l .loop .i) refl),
+          (c .word-at .ensures ∙ word-from (s .bytes .now) (s .from) (l .loop .i) refl),
     )
 
 same-length : tie.Need-same-length Inv-loop μ-loop

@@ -26,7 +26,7 @@ sub-result-2 : tie.Need-sub-result-2
 sub-result-2 c = down-fits w32 (4294967295 - c .before .args .n) (omega arith)
 
 returns-2 : tie.Need-returns-2
-returns-2 c = down-is w32 (4294967295 - c .before .args .n) (omega arith) ∙ signed-high w32 _ (c .if1 .left) (omega arith)
+returns-2 c = down-is w32 (4294967295 - c .before .args .n) (omega arith) ∙ signed-high w32 (c .if1 .left) (omega arith)
 
 pub signed-word-spec : {M : Type 1} → statement M
 signed-word-spec =

@@ -23,7 +23,7 @@ abbrev μ-loop : tie.MeasureT-loop
 μ-loop corners from bytes₀ i₀ bytes i = length corners - i
 
 loop-holds : tie.Need-loop-holds Inv-loop μ-loop
-loop-holds c = (omega arith, refl, sym (put-none _ _))
+loop-holds c = (omega arith, refl, sym (put-none _))
 
 mul-z : tie.Need-mul-z Inv-loop μ-loop
 mul-z c = search needs

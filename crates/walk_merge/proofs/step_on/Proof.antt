@@ -43,7 +43,7 @@ returns c =
     let l = s .args .left .now in
     let r = s .args .right .now in
     let g = s .args .g in
-    took-first l r g (s .pre .0) (s .pre .1) _ (ap pickOf (sym (p2 .step .given .1)) ∙ p1 .next-step .ensures .0)
+    took-first l r g (s .pre .0) (s .pre .1) (ap pickOf (sym (p2 .step .given .1)) ∙ p1 .next-step .ensures .0)
     (sym (p3 .before .belongs .ensures) ∙ p3 .if1 .taken) (c .before .step-first .ensures) (c .take .ensures)
 
 stop-requires-2 : tie.Need-stop-requires-2
@@ -73,7 +73,7 @@ returns-2 c =
     let l = s .args .left .now in
     let r = s .args .right .now in
     let g = s .args .g in
-    took-second l r g (s .pre .0) (s .pre .1) _ (ap pickOf (sym (p2 .step2 .given .1)) ∙ p1 .next-step .ensures .0)
+    took-second l r g (s .pre .0) (s .pre .1) (ap pickOf (sym (p2 .step2 .given .1)) ∙ p1 .next-step .ensures .0)
     (sym (p3 .before .belongs2 .ensures) ∙ p3 .if2 .taken) (c .before .step-second .ensures) (c .take2 .ensures)
 
 stop-requires-3 : tie.Need-stop-requires-3
@@ -96,7 +96,7 @@ returns-4 c =
     let l = s .args .left .now in
     let r = s .args .right .now in
     let g = s .args .g in
-    left-first l r g (s .pre .0) (s .pre .1) _ (ap pickOf (sym (p2 .step .given .1)) ∙ p1 .next-step .ensures .0)
+    left-first l r g (s .pre .0) (s .pre .1) (ap pickOf (sym (p2 .step .given .1)) ∙ p1 .next-step .ensures .0)
     (sym (p3 .belongs .ensures) ∙ c .before .if1 .left) (c .stop2 .ensures)
 
 returns-5 : tie.Need-returns-5
@@ -108,7 +108,7 @@ returns-5 c =
     let l = s .args .left .now in
     let r = s .args .right .now in
     let g = s .args .g in
-    left-second l r g (s .pre .0) (s .pre .1) _ (ap pickOf (sym (p2 .step2 .given .1)) ∙ p1 .next-step .ensures .0)
+    left-second l r g (s .pre .0) (s .pre .1) (ap pickOf (sym (p2 .step2 .given .1)) ∙ p1 .next-step .ensures .0)
     (sym (p3 .belongs2 .ensures) ∙ c .before .if2 .left) (c .stop3 .ensures)
 
 pub step-on-spec : {M : Type 1} → statement M

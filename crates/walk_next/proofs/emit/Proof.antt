@@ -32,7 +32,7 @@ returns c =
     let p1 = p2 .before .before in
     let start = p1 .before .before .before .before in
     corner-given (pointsOf (start .args .left .now)) (pointsOf (start .args .right .now)) (start .args .s) (p2 .run .result) (p2 .run .ensures)
-    (c .if1 .taken) _ (p2 .before .add-points .ensures ∙ (λ i. p1 .before .point-of .ensures .0 i +ᵖ p1 .point-of2 .ensures .0 i))
+    (c .if1 .taken) (p2 .before .add-points .ensures ∙ (λ i. p1 .before .point-of .ensures .0 i +ᵖ p1 .point-of2 .ensures .0 i))
 
 returns-2 : tie.Need-returns-2
 returns-2 c =

@@ -31,7 +31,7 @@ returns-2 : tie.Need-returns-2
 returns-2 c =
     let l = c .before .before .before .before .args .contour .now in
     let w = c .before .before .before .before .args .w in
-    subst (AdvancedBy l w) (sym (advance-given l w (c .before .before .before .step-fault .ensures) (c .before .before .if1 .left) _ (c .advance-of .ensures ∙ ap (λ n. advance n w) (c .before .corner-count .ensures)))) (advanced-by l w)
+    subst (AdvancedBy l w) (sym (advance-given l w (c .before .before .before .step-fault .ensures) (c .before .before .if1 .left) (c .advance-of .ensures ∙ ap (λ n. advance n w) (c .before .corner-count .ensures)))) (advanced-by l w)
 
 pub advance-spec : {M : Type 1} → statement M
 advance-spec =

@@ -26,7 +26,7 @@ returns-2 : tie.Need-returns-2
 returns-2 c =
     let l = c .before .before .before .args .contour .now in
     let w = c .before .before .before .args .w in
-    subst (EdgedBy l w) (sym (edge-given l w (c .before .before .step-fault .ensures) (c .before .if1 .left) _ (c .edge-of .ensures .0))) (edged-by l w)
+    subst (EdgedBy l w) (sym (edge-given l w (c .before .before .step-fault .ensures) (c .before .if1 .left) (c .edge-of .ensures .0))) (edged-by l w)
 
 pub edge-spec : {M : Type 1} → statement M
 edge-spec = tie.close (tie.spec step-fault-requires returns edge-of-requires returns-2)

@@ -37,7 +37,7 @@ returns-2 : tie.Need-returns-2
 returns-2 c =
     let l = c .before .before .before .before .before .args .contour .now in
     let w = c .before .before .before .before .before .args .w in
-    subst (SteppedBy l w) (sym (step-given l w (c .before .before .before .before .step-fault .ensures) (c .before .before .before .if1 .left) _ _ (c .before .before .edge-of .ensures .0) (c .advance-of .ensures ∙ ap (λ n. advance n w) (c .before .corner-count .ensures)))) (stepped-by l w)
+    subst (SteppedBy l w) (sym (step-given l w (c .before .before .before .before .step-fault .ensures) (c .before .before .before .if1 .left) (c .before .before .edge-of .ensures .0) (c .advance-of .ensures ∙ ap (λ n. advance n w) (c .before .corner-count .ensures)))) (stepped-by l w)
 
 pub next-spec : {M : Type 1} → statement M
 next-spec =

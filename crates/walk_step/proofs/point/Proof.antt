@@ -23,7 +23,7 @@ returns-2 : tie.Need-returns-2
 returns-2 c =
     let l = c .before .before .before .args .contour .now in
     let w = c .before .before .before .args .w in
-    subst (PointedBy l w) (sym (point-given l w (c .before .before .point-fault .ensures) (c .before .if1 .left) _ (c .point-of .ensures .0))) (pointed-by l w)
+    subst (PointedBy l w) (sym (point-given l w (c .before .before .point-fault .ensures) (c .before .if1 .left) (c .point-of .ensures .0))) (pointed-by l w)
 
 pub point-spec : {M : Type 1} → statement M
 point-spec = tie.close (tie.spec point-fault-requires returns point-of-requires returns-2)

@@ -16,10 +16,10 @@ use Rattle.wide.proofs.multiply.Tie as tie
 -- u and v are a and b read back, m and n their sizes
 module _ {a b u v : ℤ} (eu : u ≡ a) (ev : v ≡ b) {k m n : ℕ} (em : m ≡ natAbs u) (en : n ≡ natAbs v) (e : k ≡ m * n) where
   below : ltZ u (pos 0) ≡ true → signed (leZ (pos 0) v) k ≡ a *ℤ b
-  below h = product-below u v k (e ∙ ap₂ (λ x y. x * y) em en) h ∙ ap₂ _*ℤ_ eu ev
+  below h = product-below u v (e ∙ ap₂ (λ x y. x * y) em en) h ∙ ap₂ _*ℤ_ eu ev
 
   above : ltZ u (pos 0) ≡ false → signed (ltZ v (pos 0)) k ≡ a *ℤ b
-  above h = product-above u v k (e ∙ ap₂ (λ x y. x * y) em en) h ∙ ap₂ _*ℤ_ eu ev
+  above h = product-above u v (e ∙ ap₂ (λ x y. x * y) em en) h ∙ ap₂ _*ℤ_ eu ev
 
 small : {b v : ℤ} → v ≡ b → natAbs b < 2 ^ 32 → natAbs v < 2 ^ 32
 small e h = rw e h

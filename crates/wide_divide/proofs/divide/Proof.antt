@@ -79,7 +79,7 @@ returns-2 : tie.Need-returns-2
 returns-2 c =
     let s = c .before .before .before .before in
     let k = c .before .before .doublings in
-    unscaled (s .args .high) (s .args .low) (s .args .d) (k .result) (s .pre) (s .fits .low .fits) (k .ensures) (c .before .divide-normal .result) (c .before .divide-normal .ensures)
+    unscaled (s .args .high) (s .args .low) (s .args .d) (k .result) (s .pre) (s .fits .low .fits) (k .ensures) (c .before .divide-normal .ensures)
 
 pub divide-spec : {M : Type 1} → statement M
 divide-spec =

@@ -52,7 +52,7 @@ loop-less : tie.Need-loop-less Inv-loop μ-loop
 loop-less c = let s = c .before .before .before in omega (arith, guess-some (s .args .u) (s .args .x) (s .args .v) (s .pre .0) (s .pre .1) (s .pre .2) (c .before .before .loop .q) (c .before .before .loop .rest) (c .if1 .left))
 
 loop-again : tie.Need-loop-again Inv-loop μ-loop
-loop-again c = let s = c .before .before .before in guess-turn (s .args .u) (s .args .x) (s .args .v) (s .pre .0) (s .pre .1) (s .pre .2) (c .before .before .loop .q) (c .before .before .loop .rest) (c .before .before .loop .inv) (c .before .loop-test .taken) (c .if1 .left)
+loop-again c = let s = c .before .before .before in guess-turn (s .args .u) (s .args .x) (s .args .v) (s .pre .0) (s .pre .1) (s .pre .2) (c .before .before .loop .inv) (c .before .loop-test .taken) (c .if1 .left)
 
 mul-product-2 : tie.Need-mul-product-2 Inv-loop μ-loop
 mul-product-2 c = let s = c .before .before in record { fits = product-fits (s .args .u) (s .args .x) (s .args .v) (s .pre .0) (s .pre .1) (s .pre .2) (c .before .loop .q) (c .before .loop .rest) (c .before .loop .inv) (s .fits .v .fits) }
