@@ -46,13 +46,13 @@ module _ (how : ConvexSplitStrategy) (m : ℕ) (mesh : Mesh) where
   kinds-positive : All (λ k. 0 < k .0) (meshKinds mesh)
   kinds-positive = (lit< tt, (lit< tt, (lit< tt, (lit< tt, (lit< tt, (lit< tt, (lit< tt, tt)))))))
 
-  with-room : (f : ℕ) → f ≡ firstFault (meshKinds mesh) → firstFault (meshKinds mesh ++ roomKinds (splitParts how m mesh) 2049 12288) ≡ firstFault (meshKinds mesh)
-  with-room zero e = append-none (meshKinds mesh) _ kinds-positive (sym e) ∙ room-enough (sym e) ∙ e
-  with-room (suc f) e = append-some (meshKinds mesh) _ (λ z. omega (arith, e, z))
+  with-room : {f : ℕ} → f ≡ firstFault (meshKinds mesh) → firstFault (meshKinds mesh ++ roomKinds (splitParts how m mesh) 2049 12288) ≡ firstFault (meshKinds mesh)
+  with-room {f = zero} e = append-none (meshKinds mesh) _ kinds-positive (sym e) ∙ room-enough (sym e) ∙ e
+  with-room {f = suc f} e = append-some (meshKinds mesh) _ (λ z. omega (arith, e, z))
 
   split-fault : splitFault how m mesh 2049 12288 ≡ firstFault (meshKinds mesh)
   unfolding splitFault
-  split-fault = with-room (firstFault (meshKinds mesh)) refl
+  split-fault = with-room refl
 
 -- ---- a file whose header is sound
 

@@ -28,15 +28,15 @@ not-accepted false e = omega arith
 
 -- 1 or 13, by the count alone: 20 + 36 · 1,024 < 36,885
 module _ (l : List ℕ) (h : 20 + rowBytes * maxTriangles + 1 ≤ length l) where
-  by-count : (t : Bool) → t ≡ ltb maxTriangles (triangleCount l) → firstFault (headerKinds l) ≡ cond t 1 13
-  by-count true e = first-next 13 _ (le-ltb (length l) 20 (omega arith)) ∙ first-this 1 _ (sym e)
-  by-count false e =
+  by-count : {t : Bool} → t ≡ ltb maxTriangles (triangleCount l) → firstFault (headerKinds l) ≡ cond t 1 13
+  by-count {t = true} e = first-next 13 _ (le-ltb (length l) 20 (omega arith)) ∙ first-this 1 _ (sym e)
+  by-count {t = false} e =
       first-next 13 _ (le-ltb (length l) 20 (omega arith)) ∙ first-next 1 _ (sym e)
       ∙ first-this 13 _ (holds (headerBroken l) (λ f. omega (arith, unbroken l f, ltb-false maxTriangles (triangleCount l) (sym e))))
 
   pub too-long : fileFault l ≡ cond (ltb maxTriangles (triangleCount l)) 1 13
   too-long =
-      let e : firstFault (headerKinds l) ≡ cond (ltb maxTriangles (triangleCount l)) 1 13 = by-count (ltb maxTriangles (triangleCount l)) refl in
+      let e : firstFault (headerKinds l) ≡ cond (ltb maxTriangles (triangleCount l)) 1 13 = by-count refl in
       header-told l (λ z. not-accepted (ltb maxTriangles (triangleCount l)) (sym e ∙ z)) ∙ e
 
   pub too-long-refused : fileFault l ≡ 0 → ⊥

@@ -56,8 +56,8 @@ area-some ps h k l = of (contourArea (getD ps k [])) (all-getD (λ p. ltZ (pos 0
 -- ---- part k
 
 -- an area above 0 and at most the total is measured
-pub part-measurable : (starts : List ℕ) (corners : List ℤ) → Listable starts corners → (k : ℕ) → k < partCount starts → Measurable (partNumbers starts corners k)
-part-measurable s c h k l =
+pub part-measurable : {starts : List ℕ} {corners : List ℤ} → Listable starts corners → (k : ℕ) → k < partCount starts → Measurable (partNumbers starts corners k)
+part-measurable {starts = s} {corners = c} h k l =
     let ps : List (List Pt) = tableParts s c in
     let inside : k < length ps = omega (arith, count-parts s c (h .whole)) in
     let e : getD ps k [] ≡ pointsOf (partNumbers s c k) = sym (part-is s c k l) in
@@ -73,8 +73,8 @@ part-measurable s c h k l =
 -- ---- a share
 
 -- the product's high word is below the total
-pub high-below : (a t high low : ℕ) → high * 2 ^ 64 + low ≡ a * 10000 → a ≤ t → 0 < t → high < t
-high-below a t high low e h k = omega arith
+pub high-below : (a t : ℕ) {high : ℕ} (low : ℕ) → high * 2 ^ 64 + low ≡ a * 10000 → a ≤ t → 0 < t → high < t
+high-below a t low e h k = omega arith
 
-pub share-is : (a t : ℕ) (q : Quotient) {n : ℕ} → n ≡ a * 10000 → Divided n t q → q .quotient ≡ shareOf t a
-share-is a t q {n} e g = sym (div-eq-of-lt-le {k = q .quotient} t {m = a * 10000} (omega (arith, e, g .whole, g .rest)) (omega (arith, e, g .whole, g .rest)))
+pub share-is : (a : ℕ) {t : ℕ} {q : Quotient} {n : ℕ} → n ≡ a * 10000 → Divided n t q → q .quotient ≡ shareOf t a
+share-is a {t} {q} {n} e g = sym (div-eq-of-lt-le {k = q .quotient} t {m = a * 10000} (omega (arith, e, g .whole, g .rest)) (omega (arith, e, g .whole, g .rest)))

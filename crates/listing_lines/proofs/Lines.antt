@@ -31,31 +31,31 @@ use Rattle.listing_lines.proofs.Putting.{joined, Putting, putting-start
 abbrev pub headPieces : ℕ → ℕ → ℕ → List (List ℕ)
 headPieces parts corners area = (partsWord ++ decimal parts) ∷ (cornersWord ++ decimal corners) ∷ (areaWord ++ decimal area) ∷ newline ∷ []
 
-head-makes : (s : List ℕ) (c : List ℤ) (total n : ℕ) → tableBroken s c ≡ false → total ≡ totalArea (tableParts s c) → n ≡ length (pointsOf c) → flatten (headPieces (length s - 1) n total) ≡ headLine (tableParts s c)
+head-makes : (s : List ℕ) (c : List ℤ) {total n : ℕ} → tableBroken s c ≡ false → total ≡ totalArea (tableParts s c) → n ≡ length (pointsOf c) → flatten (headPieces (length s - 1) n total) ≡ headLine (tableParts s c)
 unfolding headLine
-head-makes s c total n h e f = (λ i. flatten (headPieces (sym (count-parts s c h) i) ((f ∙ length-points c ∙ sym (count-corners s c h)) i) (e i))) ∙ joined _ _
+head-makes s c h e f = (λ i. flatten (headPieces (sym (count-parts s c h) i) ((f ∙ length-points c ∙ sym (count-corners s c h)) i) (e i))) ∙ joined _ _
 
 pub head-start : {s : List ℕ} {c : List ℤ} {total n : ℕ} {out : List ℕ} → HeadRoom s c total out → n ≡ length (pointsOf c) → Putting (headLine (tableParts s c)) 0 out (headPieces (length s - 1) n total) out 0
-head-start {s} {c} {total} {n} h f = putting-start (head-makes s c total n (h .whole) (h .sum) f) (omega (arith, h .room))
+head-start {s} {c} {total} {n} h f = putting-start (head-makes s c (h .whole) (h .sum) f) (omega (arith, h .room))
 
 -- ---- a part's line
 
 abbrev pub partPieces : ℕ → ℕ → ℕ → ℕ → List Pt → List (List ℕ)
 partPieces k corners area share p = decimal k ∷ (space ++ decimal corners) ∷ (space ++ decimal area) ∷ (space ++ decimal share) ∷ cornersText p ∷ newline ∷ []
 
-part-makes : (k : ℕ) (part : List ℤ) (total n area share : ℕ) → n ≡ length (pointsOf part) → area ≡ areaOf (pointsOf part) → share ≡ shareOf total area → flatten (partPieces k n area share (pointsOf part)) ≡ partLine total k (pointsOf part)
+part-makes : (k : ℕ) (part : List ℤ) (total : ℕ) {n area share : ℕ} → n ≡ length (pointsOf part) → area ≡ areaOf (pointsOf part) → share ≡ shareOf total area → flatten (partPieces k n area share (pointsOf part)) ≡ partLine total k (pointsOf part)
 unfolding partLine
-part-makes k part total n area share g e f = (λ i. flatten (partPieces k (g i) (e i) ((f ∙ ap (shareOf total) e) i) (pointsOf part))) ∙ joined _ _
+part-makes k part total g e f = (λ i. flatten (partPieces k (g i) (e i) ((f ∙ ap (shareOf total) e) i) (pointsOf part))) ∙ joined _ _
 
 pub part-start : {k : ℕ} {part : List ℤ} {total : ℕ} {out : List ℕ} {at n area share : ℕ} → PartRoom k part total out at → n ≡ length (pointsOf part) → area ≡ areaOf (pointsOf part) → share ≡ shareOf total area
     → Putting (partLine total k (pointsOf part)) at out (partPieces k n area share (pointsOf part)) out at
-part-start {k} {part} {total} {n = n} {area = area} {share = share} h g e f = putting-start (part-makes k part total n area share g e f) (h .room)
+part-start {k} {part} {total} {n = n} {area = area} {share = share} h g e f = putting-start (part-makes k part total g e f) (h .room)
 
 -- ---- room for the line of part k
 
 pub part-room : {s : List ℕ} {c : List ℤ} {k total : ℕ} {out : List ℕ} {at : ℕ} {part : List ℤ} → part ≡ partNumbers s c k → LineRoom s c k total out at → PartRoom k part total out at
 part-room {s} {c} {k} {total} {out} {at} {part} e h = subst (λ l. PartRoom k l total out at) (sym e) (record {
-  measurable = part-measurable s c (h .listable) k (h .inside);
+  measurable = part-measurable (h .listable) k (h .inside);
   within = omega (arith, ap areaOf here, area-most ps k inside, h .sum);
   some = omega (arith, area-some ps (h .listable .above) k inside, area-most ps k inside, h .sum);
   room = subst (λ p. at + length (partLine total k p) ≤ length out) (sym here) (h .room);
@@ -71,8 +71,8 @@ part-room {s} {c} {k} {total} {out} {at} {part} e h = subst (λ l. PartRoom k l 
     inside = omega (arith, count-parts s c (h .listable .whole), h .inside)
 
 -- and what was put is that line
-pub part-put : (s : List ℕ) (c : List ℤ) (k total : ℕ) {out out′ : List ℕ} {at r : ℕ} {part : List ℤ} → part ≡ partNumbers s c k → k < partCount s → PutText (partLine total k (pointsOf part)) at out out′ r → PutText (partLine total k (getD (tableParts s c) k [])) at out out′ r
-part-put s c k total {out} {out′} {at} {r} e h p = subst (λ l. PutText (partLine total k l) at out out′ r) (ap pointsOf e ∙ part-is s c k h) p
+pub part-put : (s : List ℕ) (c : List ℤ) {k : ℕ} (total : ℕ) {out out′ : List ℕ} {at r : ℕ} {part : List ℤ} → part ≡ partNumbers s c k → k < partCount s → PutText (partLine total k (pointsOf part)) at out out′ r → PutText (partLine total k (getD (tableParts s c) k [])) at out out′ r
+part-put s c {k} total {out} {out′} {at} {r} e h p = subst (λ l. PutText (partLine total k l) at out out′ r) (ap pointsOf e ∙ part-is s c k h) p
 
 -- ---- all part lines
 

@@ -17,8 +17,8 @@ use Rattle.table.specs.Stored.{wordsOf, wordAt, signed}
 use Rattle.listing.specs.File.{triangleCount, recordOf, recordsOf, meshOf}
 
 -- the bits of a word read with a sign are the word
-pub word-back : (w : ℕ) {v : ℕ} → v < 2 ^ 32 → v ≡ w → {z : ℤ} → z ≡ signed w → unsigned z ≡ w
-word-back w h f e = ap unsigned e ∙ ofZ-toZ w32 w (record { fits = omega arith })
+pub word-back : {w : ℕ} {v : ℕ} → v < 2 ^ 32 → v ≡ w → {z : ℤ} → z ≡ signed w → unsigned z ≡ w
+word-back {w} h f e = ap unsigned e ∙ ofZ-toZ w32 w (record { fits = omega arith })
 
 -- six coordinates and three neighbours, from word k on
 pub row-record : (ws : List ℕ) (k : ℕ) {a b c d e f g h i g′ h′ i′ : ℤ}
@@ -70,8 +70,8 @@ module _ (ws : List ℕ) (rows : List (List ℤ)) where
   row-more k h p v q =
       rw (add-one, take-suc-set rows k v h, map-append, q, records-more k ws) (ap (λ l. l ++ (recordOf (drop (rowWidth * k) ws) ∷ [])) p)
 
-  pub rows-all : (n k : ℕ) → k ≡ n → length rows ≡ n → rowsMesh (take k rows) ≡ recordsOf k ws → rowsMesh rows ≡ recordsOf n ws
-  rows-all n k e l p = sym (ap (λ m. rowsMesh (take m rows)) (e ∙ sym l) ∙ ap rowsMesh (take-length rows)) ∙ p ∙ ap (λ m. recordsOf m ws) e
+  pub rows-all : {n k : ℕ} → k ≡ n → length rows ≡ n → rowsMesh (take k rows) ≡ recordsOf k ws → rowsMesh rows ≡ recordsOf n ws
+  rows-all e l p = sym (ap (λ m. rowsMesh (take m rows)) (e ∙ sym l) ∙ ap rowsMesh (take-length rows)) ∙ p ∙ ap (λ m. recordsOf m ws) e
 
 -- ---- the file's mesh: the records of the bytes past the header
 

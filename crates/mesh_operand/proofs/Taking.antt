@@ -14,11 +14,11 @@ use Rattle.mesh_operand.specs.declared.Taken.{Taken}
 use Rattle.mesh_operand.specs.Operand.{Held, TakenFrom}
 
 module _ (file s : List ℕ) (c : List ℤ) {told : Counts} {s′ : List ℕ} {c′ : List ℤ} (left : Left file s c told s′ c′) where
-  pub taken-refused : (told .fault ≡ 0 → ⊥) → (b : IntRect) → TakenFrom file (record { fault = told .fault; parts = 0; corners = 0; bounds = b }) s′ c′
-  taken-refused h b = record { fault = fault-is file s c left; held = λ z. absurd (h z) }
+  pub taken-refused : (told .fault ≡ 0 → ⊥) → {b : IntRect} → TakenFrom file (record { fault = told .fault; parts = 0; corners = 0; bounds = b }) s′ c′
+  taken-refused h = record { fault = fault-is file s c left; held = λ z. absurd (h z) }
 
-  pub taken-held : told .fault ≡ 0 → (b : IntRect) → b ≡ meshBounds (meshOf file) → TakenFrom file (record { fault = told .fault; parts = told .parts; corners = told .corners; bounds = b }) s′ c′
-  taken-held z b eb = record {
+  pub taken-held : told .fault ≡ 0 → {b : IntRect} → b ≡ meshBounds (meshOf file) → TakenFrom file (record { fault = told .fault; parts = told .parts; corners = told .corners; bounds = b }) s′ c′
+  taken-held z eb = record {
     fault = fault-is file s c left;
     held = λ _. record {
       accepted = sym (fault-is file s c left) ∙ z;

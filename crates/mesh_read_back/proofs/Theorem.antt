@@ -28,8 +28,8 @@ use Rattle.mesh_read_back.proofs.Fits.{PointFits, TriangleFits, unsigne
 
 -- ---- records
 
-point-back : (p : Pt) → PointFits p → record { x = signed (unsigned (p .x)); y = signed (unsigned (p .y)) } ≡ p
-point-back p h = λ i. record { x = kept (h .x-fits) i; y = kept (h .y-fits) i }
+point-back : {p : Pt} → PointFits p → record { x = signed (unsigned (p .x)); y = signed (unsigned (p .y)) } ≡ p
+point-back h = λ i. record { x = kept (h .x-fits) i; y = kept (h .y-fits) i }
 
 rows-back : (m : Mesh) → All TriangleFits m → recordsOf (length m) (flatten (map triangleWords m)) ≡ m
 unfolding recordsOf flatten
@@ -37,9 +37,9 @@ rows-back [] h = refl
 rows-back (t ∷ m) h =
     λ i.
     record {
-      v0 = point-back (t .v0) (h .0 .first) i;
-      v1 = point-back (t .v1) (h .0 .next) i;
-      v2 = point-back (t .v2) (h .0 .last) i;
+      v0 = point-back (h .0 .first) i;
+      v1 = point-back (h .0 .next) i;
+      v2 = point-back (h .0 .last) i;
       n0 = t .n0;
       n1 = t .n1;
       n2 = t .n2;

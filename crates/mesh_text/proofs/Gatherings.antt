@@ -67,9 +67,9 @@ fits-few k l e =
     (λ z. omega (arith, eqb-true k 0 z))
     (λ z. by-test (ltb maxWritten k) (λ g. absurd (true-false (sym e ∙ fits-many k l (eqb-false k 0 z) (ltb-true maxWritten k g)))) (λ g. ltb-false maxWritten k g))
 
-pub put-first : (k : ℕ) (l : List ℕ) {old new : List ℕ} {r : Bool} → k ≡ 0 → Put (isHead l) (headWords l) 0 old new r → Put (fits k l) (lineWords k l) (rowWidth * k - fewer) old new r
+pub put-first : {k : ℕ} (l : List ℕ) {old new : List ℕ} {r : Bool} → k ≡ 0 → Put (isHead l) (headWords l) 0 old new r → Put (fits k l) (lineWords k l) (rowWidth * k - fewer) old new r
 unfolding fits lineWords
-put-first k l {old} {new} {r} e p = subst (λ j. Put (fits j l) (lineWords j l) (rowWidth * j - fewer) old new r) (sym e) p
+put-first l {old} {new} {r} e p = subst (λ j. Put (fits j l) (lineWords j l) (rowWidth * j - fewer) old new r) (sym e) p
 
 pub put-next : (k : ℕ) (l : List ℕ) {old new : List ℕ} {r : Bool} → (k ≡ 0 → ⊥) → k ≤ maxWritten → Put (isTriangle l) (triangleWords (triangleOf l)) (rowWidth * k - fewer) old new r
     → Put (fits k l) (lineWords k l) (rowWidth * k - fewer) old new r
@@ -155,8 +155,8 @@ pub record Going (text old : List ℕ) (at line count : ℕ) (words : List ℕ) 
   pub within : at ≤ length text + 1
   pub as-many : length words ≡ length old
 
-pub going-begins : (text old : List ℕ) {at : ℕ} → at ≡ markEnd text → at ≤ length text → Going text old at 0 0 old
-going-begins text old {at} e h =
+pub going-begins : {text old : List ℕ} {at : ℕ} → at ≡ markEnd text → at ≤ length text → Going text old at 0 0 old
+going-begins {text} {at} e h =
     let q : length (telling (linesIn text)) ≡ length (telling (linesOf (drop at text))) = ap (λ m. length (telling (linesOf (drop m text)))) (sym e) in
     record {
       judged = ap (λ m. wrongFrom 0 0 (linesOf (drop m text))) (sym e);

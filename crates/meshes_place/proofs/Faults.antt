@@ -40,8 +40,8 @@ module _ (bytes : List ℕ) where
       (ltb-false (length bytes) 8 (a .0), not-false (onGrid (placeOf bytes)) (b .0))
 
   -- as the machine holds it
-  pub grid-point : pointFault bytes ≡ 0 → (z : IntPoint) → point z ≡ placeOf bytes → OnGrid z
-  grid-point e z q =
+  pub grid-point : pointFault bytes ≡ 0 → {z : IntPoint} → point z ≡ placeOf bytes → OnGrid z
+  grid-point e {z} q =
       let g = on-grid-both (point z) (ap onGrid q ∙ point-good e .1) in
       record { x-small = g .0; y-small = g .1 }
 

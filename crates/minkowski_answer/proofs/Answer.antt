@@ -23,8 +23,8 @@ use Rattle.minkowski_answer.specs.Answer.{refusalOf, PairsAnswered}
 refused-counts : (f : ℕ) → (f ≡ 0 → ⊥) → (ps : List (List Pt)) (b : IntRect) → pairCountsOf f ps b ≡ refusalOf f
 refused-counts f h ps b = rw (ne-eqb f 0 h)
 
-accepted-counts : (f : ℕ) → f ≡ 0 → (ps : List (List Pt)) (b : IntRect) → pairCountsOf f ps b ≡ record { fault = 0; contours = length ps; corners = length (flatten ps); bounds = b }
-accepted-counts f e ps b = rw (eq-eqb f 0 e)
+accepted-counts : {f : ℕ} → f ≡ 0 → (ps : List (List Pt)) (b : IntRect) → pairCountsOf f ps b ≡ record { fault = 0; contours = length ps; corners = length (flatten ps); bounds = b }
+accepted-counts {f} e ps b = rw (eq-eqb f 0 e)
 
 module _ (ps : List (List Pt)) (b : IntRect) (s : List ℕ) (c : List ℤ) where
   -- a refusal: F is the fault number, which the code found to be f
@@ -55,7 +55,7 @@ module _ (ps : List (List Pt)) (b : IntRect) (s : List ℕ) (c : List ℤ) where
     handed k p q u v =
         let e : F ≡ 0 = starts-fit ∙ first-next 21 _ (le-ltb (length c / 2) (length (flatten ps)) k) ∙ first-empty in
         record {
-          counts = (λ i. record { fault = 0; contours = p i; corners = q i; bounds = b }) ∙ sym (accepted-counts F e ps b);
+          counts = (λ i. record { fault = 0; contours = p i; corners = q i; bounds = b }) ∙ sym (accepted-counts e ps b);
           starts = u ∙ sym (accepted-buffer F e (startsOf ps) s);
           corners = v ∙ sym (accepted-buffer F e (cornersOf ps) c);
         }

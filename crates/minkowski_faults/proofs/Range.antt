@@ -43,9 +43,9 @@ module _ (z : ℤ) (l : List ℤ) (f : SFits w32 z) {r : Bool} (e : r ≡ inRang
   unfolding offRange
   off-out h = rw (← test, h)
 
-pub off-last : (z : ℤ) → SFits w32 z → {r : Bool} → r ≡ inRange (held z) → offRange (z ∷ []) ≡ not r
+pub off-last : {z : ℤ} → SFits w32 z → {r : Bool} → r ≡ inRange (held z) → offRange (z ∷ []) ≡ not r
 unfolding offRange
-off-last z f {r} e = rw (← test z [] f e) (last r)
+off-last {z} f {r} e = rw (← test z [] f e) (last r)
   where
     last : (t : Bool) → cond t false true ≡ not t
     last true = refl

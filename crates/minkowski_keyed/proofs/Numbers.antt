@@ -48,4 +48,4 @@ module _ (x : Call) (e : Accepted x) {points : List (List ℤ)} {firsts : List �
       {numbers : List ℕ} → firstFault (walkKinds (x .reflected) (x .left) (x .right)) ≡ 0 → length points ≤ length numbers → NumberedTo (left + right) (walksIn firsts points (left + right)) firsts numbers left →
       Keyed firsts points numbers left right
   keyed {numbers} h room n =
-      operands-keyed (x .reflected) (x .left) (x .right) firsts points left right (w .lefts) (w .rights) numbers (unrefused-call x e h) (w .walks) few room n
+      operands-keyed (x .reflected) (x .left) (x .right) firsts points left right (w .lefts) (w .rights) (unrefused-call x e h) (w .walks) few room n

@@ -37,8 +37,8 @@ use Rattle.minkowski_work.proofs.Counted.{few-pairs, few-contours, few-
 
 -- ---- buffers that hold any two operands: 20,480 = 2 · (8,192 + 2,048) points
 
-pub large : (x : Call) {points : List (List ℤ)} {firsts : List ℕ} → Accepted x → length points ≡ 20480 → length firsts ≡ 4098 → AcceptedWithRoom x points firsts
-large x e h k =
+pub large : {x : Call} {points : List (List ℤ)} {firsts : List ℕ} → Accepted x → length points ≡ 20480 → length firsts ≡ 4098 → AcceptedWithRoom x points firsts
+large {x} e h k =
     let j = judged (x .left) (x .right) e in
     let s = sound (x .left .starts) (x .left .corners) (j .0 .sound) in
     let t = sound (x .right .starts) (x .right .corners) (j .1 .sound) in
@@ -74,9 +74,9 @@ none-gathered firsts points h e = record { parts = refl; corners = refl; begins 
 
 -- parts unrolled after those gathered
 then-gathered :
-    (reflected : Bool) (us qs : List (List Pt)) {done : ℕ} {points : List (List ℤ)} {firsts : List ℕ} {points′ : List (List ℤ)} {firsts′ : List ℕ} → done ≡ length us → Gathered firsts points (tallyOf us) us →
+    {reflected : Bool} {us qs : List (List Pt)} {done : ℕ} {points : List (List ℤ)} {firsts : List ℕ} {points′ : List (List ℤ)} {firsts′ : List ℕ} → done ≡ length us → Gathered firsts points (tallyOf us) us →
     AllUnrolled reflected qs done points firsts points′ firsts′ false → Gathered firsts′ points′ (tallyOf (us ++ unrolledParts reflected qs)) (us ++ unrolledParts reflected qs)
-then-gathered reflected us qs {done} {points} {firsts} n g u =
+then-gathered {us} {done} {points} {firsts} n g u =
     let last : getD firsts done 0 ≡ length (flatten us) = ap (λ k. getD firsts k 0) n ∙ last-place firsts points us g in
     retally (u .appended refl .gathered us (subst (λ t. Gathered firsts points t us) (λ i. record { parts = sym n i; corners = sym last i }) g))
 
@@ -148,7 +148,7 @@ module _ (x : Call) (e : Accepted x) where
 
       module _ {points₂ : List (List ℤ)} {firsts₂ : List ℕ} (u : AllUnrolled false (operandParts l) 0 points₀ firsts₁ points₂ firsts₂ false) where
         lefts-gathered : Gathered firsts₂ points₂ (tallyOf us) us
-        lefts-gathered = then-gathered false [] (operandParts l) refl none u
+        lefts-gathered = then-gathered refl none u
 
         -- and the right one after it
         pub right-unrollable : Unrollables (r .starts) (r .corners) (partCount (l .starts)) points₂ firsts₂
@@ -168,7 +168,7 @@ module _ (x : Call) (e : Accepted x) where
 
         module _ {points₃ : List (List ℤ)} {firsts₃ : List ℕ} (v : AllUnrolled (x .reflected) (operandParts r) (partCount (l .starts)) points₂ firsts₂ points₃ firsts₃ false) where
           both-gathered : Gathered firsts₃ points₃ (tallyOf (us ++ vs)) (us ++ vs)
-          both-gathered = then-gathered (x .reflected) us (operandParts r) (sym count-lefts) lefts-gathered v
+          both-gathered = then-gathered (sym count-lefts) lefts-gathered v
 
           both-count : length (us ++ vs) ≡ partCount (l .starts) + partCount (r .starts)
           both-count = length-append us vs ∙ ap₂ _+_ count-lefts count-rights
@@ -216,9 +216,9 @@ module _ (x : Call) {points : List (List ℤ)} {firsts : List ℕ} (w : BothWalk
 
   -- the answer for the walks is that for the operands
   pub answered :
-      {b b′ : IntRect} (s : List ℕ) (c : List ℤ) {F : ℕ} {y : PairCounts} {s′ : List ℕ} {c′ : List ℤ} → F ≡ firstFault (roomKinds (pairContours (x .reflected) (x .left) (x .right)) (length s) (length c)) → b ≡ b′ →
+      {b b′ : IntRect} {s : List ℕ} {c : List ℤ} {F : ℕ} {y : PairCounts} {s′ : List ℕ} {c′ : List ℤ} → F ≡ firstFault (roomKinds (pairContours (x .reflected) (x .left) (x .right)) (length s) (length c)) → b ≡ b′ →
       WalksAnswered firsts points left right b s c y s′ c′ → PairsAnswered F (pairContours (x .reflected) (x .left) (x .right)) b′ s c y s′ c′
-  answered {b} {b′} s c {F} {y} {s′} {c′} e d a =
+  answered {b} {b′} {s} {c} {F} {y} {s′} {c′} e d a =
       let ps = pairContours (x .reflected) (x .left) (x .right) in
       subst (λ f. PairsAnswered f ps b′ s c y s′ c′) (sym e)
       (subst (λ z. PairsAnswered (firstFault (roomKinds ps (length s) (length c))) ps z s c y s′ c′) d

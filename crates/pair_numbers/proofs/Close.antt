@@ -65,9 +65,9 @@ record Ranges (b : IntRect) : Type 0 where
   least-y : Coordinate (b .«min_y»)
   greatest-y : Coordinate (b .«max_y»)
 
-ranges : (b : IntRect) → offRange (boundsList b) ≡ false → Ranges b
+ranges : {b : IntRect} → offRange (boundsList b) ≡ false → Ranges b
 unfolding offRange
-ranges b h =
+ranges {b} h =
     let t = was-taken (inRange (b .«min_x»)) _ h in
     let u = was-taken (inRange (b .«max_x»)) _ (t .1) in
     let v = was-taken (inRange (b .«min_y»)) _ (u .1) in
@@ -112,9 +112,9 @@ module _ (b c : IntRect) (ub : Upright b) (uc : Upright c) (s : Ranges (sumBound
 abbrev walkBounds : Bool → IntRect → IntRect
 walkBounds reflected b = cond reflected (turnedBounds b) b
 
-upright-walk : (reflected : Bool) (b : IntRect) → Upright b → Upright (walkBounds reflected b)
-upright-walk true b u = record { across = neg-mono (u .across); along = neg-mono (u .along) }
-upright-walk false b u = u
+upright-walk : (reflected : Bool) {b : IntRect} → Upright b → Upright (walkBounds reflected b)
+upright-walk true u = record { across = neg-mono (u .across); along = neg-mono (u .along) }
+upright-walk false u = u
 
 result-walk : (reflected : Bool) (b c : IntRect) → Ranges (resultBounds reflected b c) → Ranges (sumBounds b (walkBounds reflected c))
 unfolding resultBounds
@@ -134,11 +134,11 @@ walks-within reflected o h k =
     (all-map (operandParts o) (λ a i. walk-within reflected (o .bounds) a i) (parts-inside o h k))
 
 pub walks-close :
-    (reflected : Bool) (l r : Operand) → Unrefused reflected l r → (p q : ℕ) → p < length (map (unrolled false) (operandParts l)) → q < length (map (unrolled reflected) (operandParts r)) →
+    {reflected : Bool} {l r : Operand} → Unrefused reflected l r → (p q : ℕ) → p < length (map (unrolled false) (operandParts l)) → q < length (map (unrolled reflected) (operandParts r)) →
     Close (getD (map (unrolled false) (operandParts l)) p []) (getD (map (unrolled reflected) (operandParts r)) q [])
-walks-close reflected l r u p q h k =
-    close-within (l .bounds) (walkBounds reflected (r .bounds)) (upright (l .bounds) _ (u .left-bounds)) (upright-walk reflected (r .bounds) (upright (r .bounds) _ (u .right-bounds)))
-    (result-walk reflected (l .bounds) (r .bounds) (ranges _ (u .result-bounds))) _ _
+walks-close {reflected} {l} {r} u p q h k =
+    close-within (l .bounds) (walkBounds reflected (r .bounds)) (upright (l .bounds) _ (u .left-bounds)) (upright-walk reflected (upright (r .bounds) _ (u .right-bounds)))
+    (result-walk reflected (l .bounds) (r .bounds) (ranges (u .result-bounds))) _ _
     (all-getD (All (InBounds (l .bounds))) (map (unrolled false) (operandParts l)) [] (walks-within false l (u .left-table) (u .left-bounds)) p h)
     (all-getD (All (InBounds (walkBounds reflected (r .bounds)))) (map (unrolled reflected) (operandParts r)) [] (walks-within reflected r (u .right-table) (u .right-bounds)) q k)
 
@@ -151,9 +151,9 @@ module _
   ws = walksIn firsts points (left + right)
 
   pub operands-keyed :
-      (numbers : List ℕ) → Unrefused reflected l r → Walks firsts points (left + right) → length points < 2 ^ 32 → length points ≤ length numbers → NumberedTo (left + right) ws firsts numbers left →
+      {numbers : List ℕ} → Unrefused reflected l r → Walks firsts points (left + right) → length points < 2 ^ 32 → length points ≤ length numbers → NumberedTo (left + right) ws firsts numbers left →
       Keyed firsts points numbers left right
-  operands-keyed numbers u w few size n = record { walks = w; few = few; size = size; numbered = n; close = close }
+  operands-keyed u w few size n = record { walks = w; few = few; size = size; numbered = n; close = close }
     where
       all : length ws ≡ left + right
       all = sym (w .gathered .parts)
@@ -167,6 +167,6 @@ module _
       close : (p q : ℕ) → p < left → q < right → Close (walkIn firsts points (left + right) p) (walkIn firsts points (left + right) (left + q))
       close p q h k =
           subst₂ Close (left-at p h) (right-at q)
-          (walks-close reflected l r u p q
+          (walks-close u p q
           (omega (arith, h, all, ap length lefts, length-take left ws))
           (omega (arith, k, all, ap length rights, length-drop left ws)))

@@ -38,5 +38,5 @@ module _ (bytes : List ℕ) (k : ℕ) (h : 4 * (k + tableWords bytes k) ≤ leng
 
 -- ---- the front of a buffer that holds what was read
 
-pub front : {A : Type 0} (new old : List A) {buf : List A} (n : ℕ) → buf ≡ overlay new old → length new ≡ n → take n buf ≡ new
-front new old {buf} n e h = ap (λ m. take m buf) (sym h) ∙ ap (take (length new)) e ∙ take-overlay new old
+pub front : {A : Type 0} (new old : List A) {buf : List A} {n : ℕ} → buf ≡ overlay new old → length new ≡ n → take n buf ≡ new
+front new old {buf} e h = ap (λ m. take m buf) (sym h) ∙ ap (take (length new)) e ∙ take-overlay new old

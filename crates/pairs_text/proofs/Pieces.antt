@@ -25,11 +25,11 @@ unfolding linesOfPairs
 lines-joined reflected ls rs =
     lines-in-order reflected ls rs ∙ flatten-rows (λ i. map (λ j. pairLine i j (pairContour reflected (getD ls i []) (getD rs j []))) (upTo (length rs))) (upTo (length ls))
 
-apart : (t : Bool) (h l r : List ℕ) (ps : List (List ℕ)) → l ≡ flatten ps → cond t (h ++ l) r ≡ flatten (cond t h r ∷ cond t ps [])
+apart : (t : Bool) (h : List ℕ) {l : List ℕ} (r : List ℕ) (ps : List (List ℕ)) → l ≡ flatten ps → cond t (h ++ l) r ≡ flatten (cond t h r ∷ cond t ps [])
 unfolding flatten
-apart true h l r ps e = ap (λ x. h ++ x) e
-apart false h l r ps e = sym (append-nil r)
+apart true h r ps e = ap (λ x. h ++ x) e
+apart false h r ps e = sym (append-nil r)
 
 pub in-pieces : InPieces
 unfolding pairsText headPiece piecesOf
-in-pieces bytes = apart (eqb (jobFault bytes) 0) _ _ _ _ (lines-joined _ _ _)
+in-pieces bytes = apart (eqb (jobFault bytes) 0) _ _ _ (lines-joined _ _ _)

@@ -40,9 +40,9 @@ module _ (x : Call) where
   unfolding jobBegun
   begun-refused f d = rw (ne-eqb f 0 d)
 
-  begun-accepted : (f : ℕ) → f ≡ 0 → jobBegun x f ≡ acceptedBegun x
+  begun-accepted : {f : ℕ} → f ≡ 0 → jobBegun x f ≡ acceptedBegun x
   unfolding jobBegun
-  begun-accepted f e = rw (eq-eqb f 0 e)
+  begun-accepted {f} e = rw (eq-eqb f 0 e)
 
 -- ---- a job that is refused
 
@@ -133,7 +133,7 @@ module _ (bytes : List ℕ) {points : List (List ℤ)} {firsts numbers : List �
   by-answer : (P : Begun → Type 0) → ((d : jobFault bytes ≡ 0 → ⊥) → P (refusedBegun (jobFault bytes))) → ((e : jobFault bytes ≡ 0) → P (acceptedBegun (jobCall bytes))) → P x
   by-answer P p q =
       by-test (eqb (jobFault bytes) 0)
-      (λ h. let e = eqb-true (jobFault bytes) 0 h in subst P (sym (b .answer ∙ begun-accepted (jobCall bytes) (jobFault bytes) e)) (q e))
+      (λ h. let e = eqb-true (jobFault bytes) 0 h in subst P (sym (b .answer ∙ begun-accepted (jobCall bytes) e)) (q e))
       (λ h. let d = eqb-false (jobFault bytes) 0 h in subst P (sym (b .answer ∙ begun-refused (jobCall bytes) (jobFault bytes) d)) (p d))
 
   pub started : JobStarted x firsts points numbers

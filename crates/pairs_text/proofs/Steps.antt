@@ -41,9 +41,9 @@ module _ (bytes : List ℕ) where
       front-handed-over bytes k ∙ ap (λ t. flatten (chunkOf bytes k) ++ t) (none-left (nextPiece bytes k) (ltb-false (nextPiece bytes k) (length (piecesOf bytes)) e))
       ∙ append-nil (flatten (chunkOf bytes k))
 
-  only-text : (k : ℕ) (t : List ℕ) → HandsOver bytes k t → t ≡ textFrom bytes k
-  only-text k _ (last _ e) = sym (last-text k e)
-  only-text k _ (goes _ u e h) = ap (λ v. flatten (chunkOf bytes k) ++ v) (only-text (nextPiece bytes k) u h) ∙ sym (front-handed-over bytes k)
+  only-text : {k : ℕ} {t : List ℕ} → HandsOver bytes k t → t ≡ textFrom bytes k
+  only-text {k} (last _ e) = sym (last-text k e)
+  only-text {k} (goes _ u e h) = ap (λ v. flatten (chunkOf bytes k) ++ v) (only-text h) ∙ sym (front-handed-over bytes k)
 
   ends-here : (k : ℕ) → moreOf bytes k ≡ false → HandsOver bytes k (textFrom bytes k)
   ends-here k e = subst (HandsOver bytes k) (sym (last-text k e)) (last k e)
@@ -64,5 +64,5 @@ module _ (bytes : List ℕ) where
 pub all-handed-over : AllHandedOver
 all-handed-over bytes = record {
   text = subst (HandsOver bytes 0) (sym (in-pieces bytes)) (text-handed-over bytes (length (piecesOf bytes)) 0 (omega arith));
-  only = λ t h. only-text bytes 0 t h ∙ sym (in-pieces bytes);
+  only = λ t h. only-text bytes h ∙ sym (in-pieces bytes);
 }

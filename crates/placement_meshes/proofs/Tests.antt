@@ -74,8 +74,8 @@ less-by-1 = ring (int ∷ []) (λ x. x :+ :neg (x :+ con (pos 1)) :* con (pos 1)
 
 -- so, the form being linear, it has more at z than at z
 module _ (t : Pt → Bool) (d : Pt) (z : Pt) (f : (c : Pt) → t c ≡ false → cross d z <ℤ cross d c) where
-  some-passes : (l : List Pt) → Hull l (pos 1) z → some t l ≡ true
-  some-passes l h =
+  some-passes : {l : List Pt} → Hull l (pos 1) z → some t l ≡ true
+  some-passes {l} h =
       by-test (some t l) (λ p. p)
       (λ p. absurd (below-zero (hull-form d (negℤ (cross d z +ℤ pos 1)) (all-map l (λ c k. above-by-1 (cross d z) (cross d c) k) (none-passes t (cross d) z f l p)) h) (subst (λ x. x <ℤ pos 0) (sym (less-by-1 (cross d z))) (omega zarith))))
 
@@ -96,14 +96,14 @@ below : (c : Pt) → cross (dir (negℤ (pos 1)) (pos 0)) c ≡ negℤ (c .y)
 below = ring (pt ∷ []) (λ c. crossE (record { x = :neg (con (pos 1)); y = con (pos 0) }) c :≡ :neg (c .y)) tt
 
 -- a place inside is not past all corners to any side
-among-hull : (z : Pt) (l : List Pt) → Hull l (pos 1) z → among l z ≡ true
+among-hull : {z : Pt} {l : List Pt} → Hull l (pos 1) z → among l z ≡ true
 unfolding among
-among-hull z l h =
+among-hull {z} h =
     rw (
-      some-passes (λ c. leZ (c .x) (z .x)) (dir (pos 0) (negℤ (pos 1))) z (λ c p. subst₂ _<ℤ_ (sym (right-of z)) (sym (right-of c)) (leZ-< _ _ p)) l h,
-      some-passes (λ c. leZ (z .x) (c .x)) (dir (pos 0) (pos 1)) z (λ c p. subst₂ _<ℤ_ (sym (left-of z)) (sym (left-of c)) (neg-mono-< {a = c .x} {b = z .x} (leZ-< _ _ p))) l h,
-      some-passes (λ c. leZ (c .y) (z .y)) (dir (pos 1) (pos 0)) z (λ c p. subst₂ _<ℤ_ (sym (above z)) (sym (above c)) (leZ-< _ _ p)) l h,
-      some-passes (λ c. leZ (z .y) (c .y)) (dir (negℤ (pos 1)) (pos 0)) z (λ c p. subst₂ _<ℤ_ (sym (below z)) (sym (below c)) (neg-mono-< {a = c .y} {b = z .y} (leZ-< _ _ p))) l h,
+      some-passes (λ c. leZ (c .x) (z .x)) (dir (pos 0) (negℤ (pos 1))) z (λ c p. subst₂ _<ℤ_ (sym (right-of z)) (sym (right-of c)) (leZ-< _ _ p)) h,
+      some-passes (λ c. leZ (z .x) (c .x)) (dir (pos 0) (pos 1)) z (λ c p. subst₂ _<ℤ_ (sym (left-of z)) (sym (left-of c)) (neg-mono-< {a = c .x} {b = z .x} (leZ-< _ _ p))) h,
+      some-passes (λ c. leZ (c .y) (z .y)) (dir (pos 1) (pos 0)) z (λ c p. subst₂ _<ℤ_ (sym (above z)) (sym (above c)) (leZ-< _ _ p)) h,
+      some-passes (λ c. leZ (z .y) (c .y)) (dir (negℤ (pos 1)) (pos 0)) z (λ c p. subst₂ _<ℤ_ (sym (below z)) (sym (below c)) (neg-mono-< {a = c .y} {b = z .y} (leZ-< _ _ p))) h,
     )
 
 -- ---- a contour that turns left once round
@@ -125,7 +125,7 @@ module _ (l : List Pt) (r : Turning l) (z : Pt) where
   unfolding insideAt
   inside-is = (
     λ h. on-or-left z (neighbours l) .0 (both-true _ _ h .0),
-    λ h. rw (on-or-left z (neighbours l) .1 h) (among-hull z l (inside-hull r (omega zarith) h)),
+    λ h. rw (on-or-left z (neighbours l) .1 h) (among-hull (inside-hull r (omega zarith) h)),
   )
 
   -- where z is left of no edge, those that it is left of if they have a length have none, and no

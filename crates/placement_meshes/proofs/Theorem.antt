@@ -85,9 +85,9 @@ module _ (L : List (List Pt)) (t : All Turning L) (z : Pt) where
   some-strictly : (some (strictlyInsideAt z) L ≡ true) ↔ Any (λ l. StrictlyInside l (pos 1) z) L
   some-strictly = Iff·trans (some-any (strictlyInsideAt z) L) (any-iff (λ l. strictlyInsideAt z l ≡ true) (λ l. StrictlyInside l (pos 1) z) L (all-map L (λ l r. strictly-is l r z) t))
 
-  told-rightly : (mesh mesh′ : Mesh) → Placed L mesh mesh′ (pos 1) z → Rightly (contactBy z L) mesh mesh′ z
+  told-rightly : {mesh mesh′ : Mesh} → Placed L mesh mesh′ (pos 1) z → Rightly (contactBy z L) mesh mesh′ z
   unfolding contactBy
-  told-rightly mesh mesh′ p =
+  told-rightly p =
       let r = by-tests (some (strictlyInsideAt z) L) (some (insideAt z) L) (Iff·trans some-strictly (p .overlaps)) (Iff·trans some-inside (p .meets)) (λ x. p .meets .0 (any-map L (λ l k. strict-inside l (pos 1) z k) (p .overlaps .1 x))) in
       record { overlapping = r .0; touching = r .1; apart = r .2 }
 
@@ -100,7 +100,7 @@ pub difference-rightly : DifferenceRightly
 difference-rightly how m mesh how′ m′ mesh′ h k z =
     let X = splitParts how m mesh in
     let Y = splitParts how′ m′ mesh′ in
-    told-rightly (pairsOf true X Y) (pairs-turning X Y (split-meets-premise how m mesh h) (split-meets-premise how′ m′ mesh′ k)) z mesh mesh′ (meshes-placed how m mesh how′ m′ mesh′ h k (pos 1) z (omega zarith))
+    told-rightly (pairsOf true X Y) (pairs-turning X Y (split-meets-premise how m mesh h) (split-meets-premise how′ m′ mesh′ k)) z (meshes-placed how m mesh how′ m′ mesh′ h k (pos 1) z (omega zarith))
 
 -- ---- the call
 

@@ -53,7 +53,7 @@ split-is-operand how m mesh b h range around =
       range = numbers-range (flatten ps) (boundsList b) (all-flatten (λ p. onGrid p ≡ true) ps .1 (split-on-grid how m mesh h)) range;
       bounds = ap (boundsBroken b) (points-numbers (flatten ps)) ∙ around;
       windings = λ reflected. ap (someWindingLeaves reflected) (parts-table ps)
-          ∙ none-leaves reflected ps (all-map2 ps (λ l p f. winding-stays reflected l p f) (split-polygons how m mesh h) (split-fits how m mesh h));
+          ∙ none-leaves reflected ps (all-map2 ps (λ l p f. winding-stays reflected p f) (split-polygons how m mesh h) (split-fits how m mesh h));
     }
 
 pub split-pairs : SplitPairs

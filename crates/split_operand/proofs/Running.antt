@@ -32,12 +32,12 @@ running : (t : ℤ) (l : List ℤ) → pos 0 ≤ℤ t → All (λ k. pos 0 ≤�
 unfolding totalLeaves
 running t [] n h k = refl
 running t (x ∷ l) n h k =
-    let p = parts t x (sumℤ l) (sumℤ (x ∷ l)) (sum-cons x l) n (h .0) (nn-sum l (h .1)) k in
+    let p = parts t x (sumℤ l) (sum-cons x l) n (h .0) (nn-sum l (h .1)) k in
     rw (in-word (t +ℤ x) (p .0) (p .1)) (running (t +ℤ x) l (p .0) (h .1) (p .2))
   where
-    parts : (t x r s : ℤ) → s ≡ x +ℤ r → pos 0 ≤ℤ t → pos 0 ≤ℤ x → pos 0 ≤ℤ r → (t +ℤ s) ≤ℤ pos 9223372036854775807
+    parts : (t x r : ℤ) {s : ℤ} → s ≡ x +ℤ r → pos 0 ≤ℤ t → pos 0 ≤ℤ x → pos 0 ≤ℤ r → (t +ℤ s) ≤ℤ pos 9223372036854775807
         → (pos 0 ≤ℤ (t +ℤ x)) × ((t +ℤ x) ≤ℤ pos 9223372036854775807) × (((t +ℤ x) +ℤ r) ≤ℤ pos 9223372036854775807)
-    parts t x r s e a b c d =
+    parts t x r {s} e a b c d =
         (omega (zarith, add-parts t x), omega (zarith, add-parts t x, add-parts x r, add-parts t s), omega (zarith, add-parts t x, add-parts x r, add-parts t s, add-parts (t +ℤ x) r))
 
 -- seen from the corner at s
@@ -50,11 +50,11 @@ terms-above s l h t =
     (subst (λ r. All (λ e. pos 0 ≤ℤ areaTwo (cornerAt l s) (e .0) (e .1)) (neighbours r)) (sym at)
     (triples-wedges (cornerAt l s) (drop (suc s) l ++ take s l) (subst Triples at (triples-rotate s l t))))
 
-pub winding-stays : (reflected : Bool) (l : List Pt) → Polygon l → contourArea l ≤ℤ pos 9223372036854775807 → windingLeaves reflected l ≡ false
+pub winding-stays : (reflected : Bool) {l : List Pt} → Polygon l → contourArea l ≤ℤ pos 9223372036854775807 → windingLeaves reflected l ≡ false
 unfolding windingLeaves
-winding-stays reflected l p k =
+winding-stays reflected {l} p k =
     let s : ℕ = startAt reflected l in
-    running (pos 0) (windingTerms s l) (omega zarith) (terms-above s l (start-inside reflected l (omega (arith, p .long))) (p .triples)) (from (sumℤ (windingTerms s l)) (contourArea l) (winding-area s l) k)
+    running (pos 0) (windingTerms s l) (omega zarith) (terms-above s l (start-inside reflected l (omega (arith, p .long))) (p .triples)) (from (winding-area s l) k)
   where
-    from : (w a : ℤ) → w ≡ a → a ≤ℤ pos 9223372036854775807 → (pos 0 +ℤ w) ≤ℤ pos 9223372036854775807
-    from w a e h = omega (zarith, add-parts (pos 0) w)
+    from : {w a : ℤ} → w ≡ a → a ≤ℤ pos 9223372036854775807 → (pos 0 +ℤ w) ≤ℤ pos 9223372036854775807
+    from {w} e h = omega (zarith, add-parts (pos 0) w)

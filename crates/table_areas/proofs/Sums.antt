@@ -45,8 +45,8 @@ signed-is z = ap (signed (ltZ z (pos 0))) (zero-add (natAbs z)) ∙ of
         (λ h. rw h (omega (zneeds, h, abs-parts z)))
 
 -- h 2^64 ≤ |value| ≤ n 2^63 < 2^126
-pub high-of-terms : {n : ℕ} (p : SignedProduct) → Terms n p → n < 2 ^ 63 → p .words .high < 2 ^ 62
-high-of-terms p t h = omega (arith, t .most, h, signed-size (p .negative) (magnitude (p .words)))
+pub high-of-terms : {n : ℕ} {p : SignedProduct} → Terms n p → n < 2 ^ 63 → p .words .high < 2 ^ 62
+high-of-terms {p} t h = omega (arith, t .most, h, signed-size (p .negative) (magnitude (p .words)))
 
 -- ---- a contour
 

@@ -76,8 +76,8 @@ module _ (P : List ℕ) (m : ℕ) (e : length P ≡ 4 * m) where
     corners-behind = table-stored (P ++ (T ++ R)) m .corners ∙ ap storedCorners bytes-behind ∙ sym (table-stored bytes k .corners)
 
   -- four words
-  four-behind : (a b c d : ℕ) (R : List ℕ) → All Word (a ∷ b ∷ c ∷ d ∷ []) → (j : ℕ) → wordAt (P ++ (wordBytes (a ∷ b ∷ c ∷ d ∷ []) ++ R)) (m + j) ≡ getD ((a ∷ b ∷ c ∷ d ∷ []) ++ wordsOf R) j 0
-  four-behind a b c d R w j =
+  four-behind : {a b c d : ℕ} (R : List ℕ) → All Word (a ∷ b ∷ c ∷ d ∷ []) → (j : ℕ) → wordAt (P ++ (wordBytes (a ∷ b ∷ c ∷ d ∷ []) ++ R)) (m + j) ≡ getD ((a ∷ b ∷ c ∷ d ∷ []) ++ wordsOf R) j 0
+  four-behind {a} {b} {c} {d} R w j =
       let B = a ∷ b ∷ c ∷ d ∷ [] in
       words-behind (wordBytes B ++ R) j ∙ ap (λ ws. getD ws j 0) (words-append (wordBytes B) R (omega (arith, length-wordBytes B)) ∙ ap (λ ws. ws ++ wordsOf R) (words-wordBytes w))
 
@@ -88,12 +88,12 @@ word-at [] h i = omega arith
 word-at (a ∷ l) h zero = h .0
 word-at (a ∷ l) h (suc i) = word-at l (h .1) i
 
-either-word : (t : Bool) (a b : ℕ) → Word a → Word b → Word (cond t b a)
-either-word true a b p q = q
-either-word false a b p q = p
+either-word : (t : Bool) {a b : ℕ} → Word a → Word b → Word (cond t b a)
+either-word true p q = q
+either-word false p q = p
 
-picked-word : (g : Bool) (a b : ℕ) → Word a → Word b → Word (pickedOf g a b)
-picked-word g a b p q = either-word (cond g (ltZ (signed a) (signed b)) (ltZ (signed b) (signed a))) a b p q
+picked-word : (g : Bool) {a b : ℕ} → Word a → Word b → Word (pickedOf g a b)
+picked-word g {a} {b} p q = either-word (cond g (ltZ (signed a) (signed b)) (ltZ (signed b) (signed a))) p q
 
 module _ (bytes : List ℕ) (small : All (λ b. b < 256) bytes) where
   extreme-word : (g : Bool) (from n : ℕ) → Word (extremeOf g bytes from n)
@@ -101,7 +101,7 @@ module _ (bytes : List ℕ) (small : All (λ b. b < 256) bytes) where
   extreme-word g from zero = omega arith
   extreme-word g from (suc zero) = word-at (wordsOf bytes) (words-small bytes small) from
   extreme-word g from (suc (suc n)) =
-      picked-word g (extremeOf g bytes from (suc n)) (wordAt bytes (from + 2 * suc n)) (extreme-word g from (suc n)) (word-at (wordsOf bytes) (words-small bytes small) (from + 2 * suc n))
+      picked-word g (extreme-word g from (suc n)) (word-at (wordsOf bytes) (words-small bytes small) (from + 2 * suc n))
 
   bounds-words : (from n : ℕ) → All Word (boundsWords bytes from n)
   bounds-words from n = (extreme-word false from n, (extreme-word true from n, (extreme-word false (from + 1) n, (extreme-word true (from + 1) n, tt))))
@@ -130,7 +130,7 @@ module _ (bytes : List ℕ) (small : All (λ b. b < 256) bytes) where
         let u : m ≡ m + 0 = omega arith in
         let w = bounds-words (k + 3 + wordAt bytes k) (wordAt bytes (k + 1)) in
         let at : (j : ℕ) → wordAt J (m + j) ≡ getD (B ++ wordsOf (tableBytes bytes k ++ R)) j 0 =
-        λ j. ap (λ l. wordAt l (m + j)) bounds-first ∙ four-behind P m e _ _ _ _ (tableBytes bytes k ++ R) w j in
+        λ j. ap (λ l. wordAt l (m + j)) bounds-first ∙ four-behind P m e (tableBytes bytes k ++ R) w j in
         let p = ap signed (ap (wordAt J) u ∙ at 0) in
         let q = ap signed (at 1) in
         let r = ap signed (at 2) in

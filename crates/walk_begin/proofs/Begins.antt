@@ -32,29 +32,29 @@ none-leaves t [] h = refl
 none-leaves t (k ∷ ts) h = absurd (omega arith)
 
 module _ (l : List ℤ) (reflected : Bool) where
-  refused-by : (f : ℕ) → beginFault l reflected ≡ f → (f ≡ 0 → ⊥) → Refused f ≡ begunOf l reflected
+  refused-by : {f : ℕ} → beginFault l reflected ≡ f → (f ≡ 0 → ⊥) → Refused f ≡ begunOf l reflected
   unfolding begunOf
-  refused-by f e n = ap Refused (sym e) ∙ refuses (At (begin reflected (pointsOf l))) (Refused (beginFault l reflected)) (λ z. n (sym e ∙ z))
+  refused-by e n = ap Refused (sym e) ∙ refuses (At (begin reflected (pointsOf l))) (Refused (beginFault l reflected)) (λ z. n (sym e ∙ z))
 
   pub begin-7 : lengthBroken l ≡ true → Refused 7 ≡ begunOf l reflected
   unfolding beginFault
-  begin-7 a = refused-by 7 (first-this 7 _ a) (λ z. absurd (omega arith))
+  begin-7 a = refused-by (first-this 7 _ a) (λ z. absurd (omega arith))
 
   module _ (a : lengthBroken l ≡ false) where
     pub begin-2 : offRange l ≡ true → Refused 2 ≡ begunOf l reflected
     unfolding beginFault
-    begin-2 b = refused-by 2 (first-next 7 _ a ∙ first-this 2 _ b) (λ z. absurd (omega arith))
+    begin-2 b = refused-by (first-next 7 _ a ∙ first-this 2 _ b) (λ z. absurd (omega arith))
 
     module _ (b : offRange l ≡ false) where
       pub begin-8 : windingLeaves reflected (pointsOf l) ≡ true → Refused 8 ≡ begunOf l reflected
       unfolding beginFault
-      begin-8 k = refused-by 8 (first-next 7 _ a ∙ first-next 2 _ b ∙ first-this 8 _ k) (λ z. absurd (omega arith))
+      begin-8 k = refused-by (first-next 7 _ a ∙ first-next 2 _ b ∙ first-this 8 _ k) (λ z. absurd (omega arith))
 
       pub begin-20 : length l ≡ 0 → Refused 20 ≡ begunOf l reflected
       unfolding beginFault windingLeaves
       begin-20 h =
           let none : windingLeaves reflected (pointsOf l) ≡ false = none-leaves (pos 0) (windingTerms (startAt reflected (pointsOf l)) (pointsOf l)) (omega (arith, length-terms (startAt reflected (pointsOf l)) (pointsOf l), length-points l)) in
-          refused-by 20 (first-next 7 _ a ∙ first-next 2 _ b ∙ first-next 8 _ none ∙ first-this 20 _ (eq-eqb (length l) 0 h)) (λ z. absurd (omega arith))
+          refused-by (first-next 7 _ a ∙ first-next 2 _ b ∙ first-next 8 _ none ∙ first-this 20 _ (eq-eqb (length l) 0 h)) (λ z. absurd (omega arith))
 
       pub begin-at : windingLeaves reflected (pointsOf l) ≡ false → (length l ≡ 0 → ⊥) → At (begin reflected (pointsOf l)) ≡ begunOf l reflected
       unfolding beginFault begunOf
@@ -72,9 +72,9 @@ module _ (reflected : Bool) (l : List Pt) {s : ℕ} (e : s ≡ startAt reflected
   unfolding windingLeaves
   leaves-by h = wound-left (windingTerms (startAt reflected l) l) (pos 0) (ap (λ k. windingOf (pos 0) (windingTerms k l)) (sym e) ∙ h)
 
-  pub total-by : (t : ℤ) → windingOf (pos 0) (windingTerms s l) ≡ Total t → (windingLeaves reflected l ≡ false) × (t ≡ winding reflected l)
+  pub total-by : {t : ℤ} → windingOf (pos 0) (windingTerms s l) ≡ Total t → (windingLeaves reflected l ≡ false) × (t ≡ winding reflected l)
   unfolding windingLeaves winding
-  total-by t h =
+  total-by {t} h =
       let q = wound-total (windingTerms (startAt reflected l) l) (pos 0) t (ap (λ k. windingOf (pos 0) (windingTerms k l)) (sym e) ∙ h) in
       (q .0, q .1 ∙ zero-plus (sumℤ (windingTerms (startAt reflected l) l)))
     where

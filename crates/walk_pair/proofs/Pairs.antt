@@ -69,28 +69,28 @@ past l reflected a c = first-next 7 _ a ∙ first-next 2 _ c
 -- ---- the answers
 
 module _ (reflected : Bool) (l r : List ℤ) where
-  refused-by : (f : ℕ) → pairBeginFault reflected l r ≡ f → (f ≡ 0 → ⊥) → paired.Refused f ≡ pairedOf reflected l r
+  refused-by : {f : ℕ} → pairBeginFault reflected l r ≡ f → (f ≡ 0 → ⊥) → paired.Refused f ≡ pairedOf reflected l r
   unfolding pairedOf
-  refused-by f e n = ap paired.Refused (sym e) ∙ refuses (paired.At (startOf reflected (pointsOf l) (pointsOf r))) (paired.Refused (pairBeginFault reflected l r)) (λ z. n (sym e ∙ z))
+  refused-by e n = ap paired.Refused (sym e) ∙ refuses (paired.At (startOf reflected (pointsOf l) (pointsOf r))) (paired.Refused (pairBeginFault reflected l r)) (λ z. n (sym e ∙ z))
 
   pub left-7 : lengthBroken l ≡ true → paired.Refused 7 ≡ pairedOf reflected l r
   unfolding pairBeginFault
-  left-7 a = refused-by 7 (first-this 7 _ a) (λ z. absurd (omega arith))
+  left-7 a = refused-by (first-this 7 _ a) (λ z. absurd (omega arith))
 
   module _ (a : lengthBroken l ≡ false) where
     pub right-7 : lengthBroken r ≡ true → paired.Refused 7 ≡ pairedOf reflected l r
     unfolding pairBeginFault
-    right-7 b = refused-by 7 (first-next 7 _ a ∙ first-this 7 _ b) (λ z. absurd (omega arith))
+    right-7 b = refused-by (first-next 7 _ a ∙ first-this 7 _ b) (λ z. absurd (omega arith))
 
     module _ (b : lengthBroken r ≡ false) where
       pub left-2 : offRange l ≡ true → paired.Refused 2 ≡ pairedOf reflected l r
       unfolding pairBeginFault
-      left-2 c = refused-by 2 (first-next 7 _ a ∙ first-next 7 _ b ∙ first-this 2 _ c) (λ z. absurd (omega arith))
+      left-2 c = refused-by (first-next 7 _ a ∙ first-next 7 _ b ∙ first-this 2 _ c) (λ z. absurd (omega arith))
 
       module _ (c : offRange l ≡ false) where
         pub right-2 : offRange r ≡ true → paired.Refused 2 ≡ pairedOf reflected l r
         unfolding pairBeginFault
-        right-2 d = refused-by 2 (first-next 7 _ a ∙ first-next 7 _ b ∙ first-next 2 _ c ∙ first-this 2 _ d) (λ z. absurd (omega arith))
+        right-2 d = refused-by (first-next 7 _ a ∙ first-next 7 _ b ∙ first-next 2 _ c ∙ first-this 2 _ d) (λ z. absurd (omega arith))
 
         module _ (d : offRange r ≡ false) where
           both-faults : pairBeginFault reflected l r ≡ merged (beginFault l false) (beginFault r reflected)
@@ -100,29 +100,29 @@ module _ (reflected : Bool) (l r : List ℤ) where
               ∙ merged-is (windingLeaves false (pointsOf l)) (windingLeaves reflected (pointsOf r)) (eqb (length l) 0) (eqb (length r) 0)
               ∙ (λ i. merged (sym (past l false a c) i) (sym (past r reflected b d) i))
 
-          pub pair-at : (w v : Place) → begunOf l false ≡ begun.At w → begunOf r reflected ≡ begun.At v → paired.At (record { a = w; b = v }) ≡ pairedOf reflected l r
+          pub pair-at : {w v : Place} → begunOf l false ≡ begun.At w → begunOf r reflected ≡ begun.At v → paired.At (record { a = w; b = v }) ≡ pairedOf reflected l r
           unfolding pairedOf
-          pair-at w v p q =
+          pair-at {w} {v} p q =
               let x = begun-place l false w p in
               let y = begun-place r reflected v q in
               (λ i. paired.At (record { a = x .1 i; b = y .1 i }))
               ∙ accepts (paired.At (startOf reflected (pointsOf l) (pointsOf r))) (paired.Refused (pairBeginFault reflected l r)) (both-faults ∙ (λ i. merged (x .0 i) (y .0 i)))
 
-          pub pair-second : (w : Place) (g : ℕ) → begunOf l false ≡ begun.At w → begunOf r reflected ≡ begun.Refused g → paired.Refused g ≡ pairedOf reflected l r
-          pair-second w g p q =
+          pub pair-second : {w : Place} {g : ℕ} → begunOf l false ≡ begun.At w → begunOf r reflected ≡ begun.Refused g → paired.Refused g ≡ pairedOf reflected l r
+          pair-second {w} {g} p q =
               let y = begun-fault r reflected g q in
-              refused-by g (both-faults ∙ (λ i. merged (begun-place l false w p .0 i) (sym (y .0) i))) (y .1)
+              refused-by (both-faults ∙ (λ i. merged (begun-place l false w p .0 i) (sym (y .0) i))) (y .1)
 
-          pub pair-first : (f : ℕ) (v : Place) → begunOf l false ≡ begun.Refused f → begunOf r reflected ≡ begun.At v → paired.Refused f ≡ pairedOf reflected l r
-          pair-first f v p q =
+          pub pair-first : {f : ℕ} {v : Place} → begunOf l false ≡ begun.Refused f → begunOf r reflected ≡ begun.At v → paired.Refused f ≡ pairedOf reflected l r
+          pair-first {f} {v} p q =
               let x = begun-fault l false f p in
-              refused-by f (both-faults ∙ (λ i. merged (sym (x .0) i) (begun-place r reflected v q .0 i)) ∙ rw (ne-eqb f 0 (x .1))) (x .1)
+              refused-by (both-faults ∙ (λ i. merged (sym (x .0) i) (begun-place r reflected v q .0 i)) ∙ rw (ne-eqb f 0 (x .1))) (x .1)
 
-          pub pair-both : (f g : ℕ) → begunOf l false ≡ begun.Refused f → begunOf r reflected ≡ begun.Refused g → {k : ℕ} → k ≡ firstOf f g → paired.Refused k ≡ pairedOf reflected l r
-          pair-both f g p q {k} e =
+          pub pair-both : {f g : ℕ} → begunOf l false ≡ begun.Refused f → begunOf r reflected ≡ begun.Refused g → {k : ℕ} → k ≡ firstOf f g → paired.Refused k ≡ pairedOf reflected l r
+          pair-both {f} {g} p q {k} e =
               let x = begun-fault l false f p in
               let y = begun-fault r reflected g q in
-              refused-by k (both-faults ∙ (λ i. merged (sym (x .0) i) (sym (y .0) i)) ∙ rw (ne-eqb f 0 (x .1), ne-eqb g 0 (y .1)) (sym e)) (λ z. either-of (ltb g f) (sym e ∙ z) (x .1) (y .1))
+              refused-by (both-faults ∙ (λ i. merged (sym (x .0) i) (sym (y .0) i)) ∙ rw (ne-eqb f 0 (x .1), ne-eqb g 0 (y .1)) (sym e)) (λ z. either-of (ltb g f) (sym e ∙ z) (x .1) (y .1))
             where
               either-of : (t : Bool) → cond t g f ≡ 0 → (f ≡ 0 → ⊥) → (g ≡ 0 → ⊥) → ⊥
               either-of true z m n = n z

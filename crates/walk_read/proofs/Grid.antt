@@ -24,5 +24,5 @@ pub not-off : (l : List Pt) (i : ℕ) (p : IntPoint) → offAt l i ≡ false →
 not-off l i p h e = let b = on-grid-both (point p) (ap onGrid e ∙ not-false _ h) in record { x-small = b .0; y-small = b .1 }
 
 -- so a corner of a contour on the grid
-pub grid-at : (l : List ℤ) (i : ℕ) (p : IntPoint) → offRange l ≡ false → i < length (pointsOf l) → point p ≡ cornerAt (pointsOf l) i → OnGrid p
-grid-at l i p e h = not-off (pointsOf l) i p (off-nowhere l i e h)
+pub grid-at : (l : List ℤ) (i : ℕ) {p : IntPoint} → offRange l ≡ false → i < length (pointsOf l) → point p ≡ cornerAt (pointsOf l) i → OnGrid p
+grid-at l i {p} e h = not-off (pointsOf l) i p (off-nowhere l i e h)

@@ -95,9 +95,9 @@ added-leaves z h =
 
 -- term k is x
 module _ (ts : List ℤ) (k : ℕ) (t : ℤ) {x : ℤ} (e : x ≡ getD ts k (pos 0)) where
-  pub wound-turn : (n : ℤ) → k < length ts → addedOf (t +ℤ x) ≡ Total n → windingOf t (drop k ts) ≡ windingOf n (drop (k + 1) ts)
+  pub wound-turn : {n : ℤ} → k < length ts → addedOf (t +ℤ x) ≡ Total n → windingOf t (drop k ts) ≡ windingOf n (drop (k + 1) ts)
   unfolding windingOf
-  wound-turn n h a =
+  wound-turn {n} h a =
       let q = added-total (t +ℤ x) n a in
       rw (add-one, drop-cons ts k (pos 0), ← e, q .0) (ap (λ z. windingOf z (drop (suc k) ts)) (sym (q .1)))
 
@@ -105,9 +105,9 @@ module _ (ts : List ℤ) (k : ℕ) (t : ℤ) {x : ℤ} (e : x ≡ getD ts k (pos
   unfolding windingOf
   wound-leaves h a = rw (drop-cons ts k (pos 0), ← e, added-leaves (t +ℤ x) a)
 
-pub wound-ends : (ts : List ℤ) (k : ℕ) (t : ℤ) → length ts ≤ k → windingOf t (drop k ts) ≡ Total t
+pub wound-ends : (ts : List ℤ) (k : ℕ) {t : ℤ} → length ts ≤ k → windingOf t (drop k ts) ≡ Total t
 unfolding windingOf
-wound-ends ts k t h = rw (drop-of-length-le ts {i = k} h)
+wound-ends ts k h = rw (drop-of-length-le ts {i = k} h)
 
 -- ---- the whole
 

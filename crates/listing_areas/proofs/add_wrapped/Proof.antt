@@ -20,7 +20,7 @@ returns : tie.Need-returns
 returns c =
     let s = c .before .before .before in
     let k = kept (s .fits .term) in
-    wraps-down (s .args .total) (s .args .term) (c .before .before .absolute .ensures ∙ ap natAbs k) (ap (λ z. ltZ z (pos 0)) (sym k) ∙ c .before .if1 .taken) (c .wrapping-sub-u64 .ensures)
+    wraps-down (s .args .term) (c .before .before .absolute .ensures ∙ ap natAbs k) (ap (λ z. ltZ z (pos 0)) (sym k) ∙ c .before .if1 .taken) (c .wrapping-sub-u64 .ensures)
 
 wrapping-add-u64-requires : tie.Need-wrapping-add-u64-requires
 wrapping-add-u64-requires c κs = search needs

@@ -14,7 +14,7 @@ part-of-requires c κs = (c .before .pre .0 .whole, c .before .pre .1)
 part-area-requires : tie.Need-part-area-requires
 part-area-requires c κs =
     let s = c .before .before in
-    subst Measurable (sym (c .part-of .ensures .0)) (part-measurable _ _ (s .pre .0) (s .args .k) (s .pre .1))
+    subst Measurable (sym (c .part-of .ensures .0)) (part-measurable (s .pre .0) (s .args .k) (s .pre .1))
 
 returns : tie.Need-returns
 returns c =

@@ -45,14 +45,14 @@ loop-again c =
     let l = c .before .before .before in (
       omega (arith, c .before .before .loop-test .taken),
       omega (arith, c .add-wrapped .ok),
-      fanning-turn (pointsOf (l .before .before .args .corners .now)) (omega (arith, c .before .before .loop-test .taken, l .before .corner-count .ensures)) (got w64 _ (c .before .wedge .ok) ∙ c .before .wedge .ensures .0) (l .loop .inv .2) (c .add-wrapped .ensures),
+      fanning-turn (omega (arith, c .before .before .loop-test .taken, l .before .corner-count .ensures)) (got w64 _ (c .before .wedge .ok) ∙ c .before .wedge .ensures .0) (l .loop .inv .2) (c .add-wrapped .ensures),
     )
 
 returns : tie.Need-returns Inv-loop μ-loop
 returns c =
     let s = c .before .before .before in
     let g = c .before .loop .inv in
-    fanning-end (pointsOf (s .args .corners .now)) (omega (arith, c .loop-test .left, c .before .before .corner-count .ensures)) (s .pre .above) (s .pre .below) (g .1) (g .2)
+    fanning-end (omega (arith, c .loop-test .left, c .before .before .corner-count .ensures)) (s .pre .above) (s .pre .below) (g .1) (g .2)
 
 pub part-area-spec : {M : Type 1} → statement M
 part-area-spec = tie.close (tie.spec Inv-loop μ-loop corner-count-requires loop-holds add-loop wedge-requires add-wrapped-requires add-i loop-less loop-again returns)

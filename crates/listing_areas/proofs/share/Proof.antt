@@ -9,10 +9,10 @@ multiply-words-requires : tie.Need-multiply-words-requires
 multiply-words-requires c κs = search needs
 
 divide-requires : tie.Need-divide-requires
-divide-requires c κs = let s = c .before in high-below (s .args .area) (s .args .total) _ _ (c .multiply-words .ensures) (s .pre .0) (s .pre .1)
+divide-requires c κs = let s = c .before in high-below (s .args .area) (s .args .total) _ (c .multiply-words .ensures) (s .pre .0) (s .pre .1)
 
 returns : tie.Need-returns
-returns c = let s = c .before .before in share-is (s .args .area) (s .args .total) (c .divide .result) (c .before .multiply-words .ensures) (c .divide .ensures)
+returns c = let s = c .before .before in share-is (s .args .area) (c .before .multiply-words .ensures) (c .divide .ensures)
 
 pub share-spec : {M : Type 1} → statement M
 share-spec = tie.close (tie.spec multiply-words-requires divide-requires returns)

@@ -17,7 +17,7 @@ returns : tie.Need-returns
 returns c =
     let a = c .before .before in
     let p = a .before .before in
-    part-put _ _ _ _ (p .part-of .ensures .0) (p .before .before .before .pre .inside) (a .put-part .ensures)
+    part-put _ _ _ (p .part-of .ensures .0) (p .before .before .before .pre .inside) (a .put-part .ensures)
 
 pub put-line-spec : {M : Type 1} → statement M
 put-line-spec = tie.close (tie.spec part-of-requires put-part-requires same-length returns)

@@ -18,7 +18,7 @@ returns : tie.Need-returns
 returns c =
     let w = c .before .word-at in
     let e = got w32 _ (c .signed-word .ok) ∙ c .signed-word .ensures ∙ ap signed (w .ensures) in
-    (e, word-back _ (w .ok) (w .ensures) e)
+    (e, word-back (w .ok) (w .ensures) e)
 
 pub number-at-spec : {M : Type 1} → statement M
 number-at-spec = tie.close (tie.spec word-at-requires signed-word-requires returns)

@@ -52,7 +52,7 @@ returns : tie.Need-returns Inv-loop μ-loop
 returns c =
     let l = c .before in
     let s = l .before .before .args in
-    rows-all (wordsOf (s .bytes .now)) (l .loop .rows) (length (s .rows .now)) (l .loop .k) (omega arith) (l .loop .inv .1) (l .loop .inv .2)
+    rows-all (wordsOf (s .bytes .now)) (l .loop .rows) (omega arith) (l .loop .inv .1) (l .loop .inv .2)
 
 pub read-rows-spec : {M : Type 1} → statement M
 read-rows-spec =

@@ -12,7 +12,7 @@ same-length : tie.Need-same-length
 same-length c = search needs
 
 returns : tie.Need-returns
-returns c = put-first (c .before .before .before .before .before .before .before .args .count) (c .before .before .before .before .before .before .before .args .line .now) (c .before .before .before .before .if1 .taken) (c .before .before .put-head .ensures)
+returns c = put-first (c .before .before .before .before .before .before .before .args .line .now) (c .before .before .before .before .if1 .taken) (c .before .before .put-head .ensures)
 
 returns-2 : tie.Need-returns-2
 returns-2 c = put-wrong (fits-many (c .before .before .before .before .args .count) (c .before .before .before .before .args .line .now) (c .before .if1 .left) (c .if2 .taken))

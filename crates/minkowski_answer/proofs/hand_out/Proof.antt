@@ -46,14 +46,14 @@ returns-2 c =
     let g = s .args in
     let ps = contoursIn (g .firsts .now) (g .points .now) (g .left) (g .right) in
     corners-refused ps (g .bounds) (g .starts .now) (g .corners .now) (omega (arith, count-contours (s .pre), c .before .before .before .before .before .if1 .left))
-    (omega (arith, more-corners _ (length (flatten ps)) (c .before .before .no-room .ensures) (c .before .if2 .taken), c .before .before .before .corner-count .ensures, length-points (g .corners .now))) (c .refusal2 .ensures)
+    (omega (arith, more-corners (length (flatten ps)) (c .before .before .no-room .ensures) (c .before .if2 .taken), c .before .before .before .corner-count .ensures, length-points (g .corners .now))) (c .refusal2 .ensures)
 
 append-all-requires : tie.Need-append-all-requires
 append-all-requires c κs =
     let s = c .before .before .before .before .before .before .before .before .before in
     let g = s .args in
     let ps = contoursIn (g .firsts .now) (g .points .now) (g .left) (g .right) in
-    (s .pre .walks, room-for (s .pre) (g .starts .now) (g .corners .now) (c .before .before .before .before .before .before .if1 .left) (omega (arith, no-more _ (length (flatten ps)) (c .before .before .before .no-room .ensures) (c .before .before .if2 .left), c .before .before .before .before .corner-count .ensures, length-points (g .corners .now))))
+    (s .pre .walks, room-for (s .pre) (g .starts .now) (g .corners .now) (c .before .before .before .before .before .before .if1 .left) (omega (arith, no-more (length (flatten ps)) (c .before .before .before .no-room .ensures) (c .before .before .if2 .left), c .before .before .before .before .corner-count .ensures, length-points (g .corners .now))))
 
 cast-t21 : tie.Need-cast-t21
 cast-t21 c = search needs
@@ -74,7 +74,7 @@ returns-3 c =
     let ps = contoursIn (g .firsts .now) (g .points .now) (g .left) (g .right) in
     let a = c .before .before .before .append-all .ensures in
     handed ps (g .bounds) (g .starts .now) (g .corners .now) (omega (arith, count-contours (s .pre), c .before .before .before .before .before .before .before .before .before .before .if1 .left))
-    (omega (arith, no-more _ (length (flatten ps)) (c .before .before .before .before .before .before .before .no-room .ensures) (c .before .before .before .before .before .before .if2 .left), c .before .before .before .before .before .before .before .before .corner-count .ensures, length-points (g .corners .now))) (sym (count-contours (s .pre)))
+    (omega (arith, no-more (length (flatten ps)) (c .before .before .before .before .before .before .before .no-room .ensures) (c .before .before .before .before .before .before .if2 .left), c .before .before .before .before .before .before .before .before .corner-count .ensures, length-points (g .corners .now))) (sym (count-contours (s .pre)))
     (a .count) (a .starts) (a .corners)
 
 pub hand-out-spec : {M : Type 1} → statement M

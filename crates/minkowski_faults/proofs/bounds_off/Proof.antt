@@ -27,7 +27,7 @@ module _ (b : IntRect) (f₁ : SFits w32 (b .«min_x»)) (f₂ : SFits w32 (b .�
         third h = sym (off-in _ _ f₁ e₁ (not-false _ h₁) ∙ off-in _ _ f₂ e₂ (not-false _ h₂) ∙ off-out _ _ f₃ e₃ (not-true _ h))
 
         fourth : not r₃ ≡ false → {r₄ : Bool} → r₄ ≡ inRange (held (b .«max_y»)) → not r₄ ≡ offRange (boundsList b)
-        fourth h₃ e₄ = sym (off-in _ _ f₁ e₁ (not-false _ h₁) ∙ off-in _ _ f₂ e₂ (not-false _ h₂) ∙ off-in _ _ f₃ e₃ (not-false _ h₃) ∙ off-last _ f₄ e₄)
+        fourth h₃ e₄ = sym (off-in _ _ f₁ e₁ (not-false _ h₁) ∙ off-in _ _ f₂ e₂ (not-false _ h₂) ∙ off-in _ _ f₃ e₃ (not-false _ h₃) ∙ off-last f₄ e₄)
 
 in-range-requires : tie.Need-in-range-requires
 in-range-requires c κs = search needs

@@ -48,14 +48,14 @@ returns-2 c =
     let g = s .args in
     let ps = contoursIn (g .firsts .now) (g .points .now) (g .left) (g .right) in
     corners-refused ps (g .bounds) (g .starts .now) (g .corners .now) (omega (arith, count-contours (s .pre .0), c .before .before .before .before .before .if1 .left))
-    (omega (arith, more-corners _ (length (flatten ps)) (c .before .before .no-room-keyed .ensures) (c .before .if2 .taken), c .before .before .before .corner-count .ensures, length-points (g .corners .now))) (c .refusal2 .ensures)
+    (omega (arith, more-corners (length (flatten ps)) (c .before .before .no-room-keyed .ensures) (c .before .if2 .taken), c .before .before .before .corner-count .ensures, length-points (g .corners .now))) (c .refusal2 .ensures)
 
 append-keyed-requires : tie.Need-append-keyed-requires
 append-keyed-requires c κs =
     let s = c .before .before .before .before .before .before .before .before .before .before in
     let g = s .args in
     let ps = contoursIn (g .firsts .now) (g .points .now) (g .left) (g .right) in
-    (s .pre .1, room-for (s .pre .0) (g .starts .now) (g .corners .now) (c .before .before .before .before .before .before .if1 .left) (omega (arith, no-more _ (length (flatten ps)) (c .before .before .before .no-room-keyed .ensures) (c .before .before .if2 .left), c .before .before .before .before .corner-count .ensures, length-points (g .corners .now))))
+    (s .pre .1, room-for (s .pre .0) (g .starts .now) (g .corners .now) (c .before .before .before .before .before .before .if1 .left) (omega (arith, no-more (length (flatten ps)) (c .before .before .before .no-room-keyed .ensures) (c .before .before .if2 .left), c .before .before .before .before .corner-count .ensures, length-points (g .corners .now))))
 
 cast-t23 : tie.Need-cast-t23
 cast-t23 c = search needs
@@ -76,7 +76,7 @@ returns-3 c =
     let ps = contoursIn (g .firsts .now) (g .points .now) (g .left) (g .right) in
     let a = c .before .before .before .append-keyed .ensures in
     handed ps (g .bounds) (g .starts .now) (g .corners .now) (omega (arith, count-contours (s .pre .0), c .before .before .before .before .before .before .before .before .before .before .if1 .left))
-    (omega (arith, no-more _ (length (flatten ps)) (c .before .before .before .before .before .before .before .no-room-keyed .ensures) (c .before .before .before .before .before .before .if2 .left), c .before .before .before .before .before .before .before .before .corner-count .ensures, length-points (g .corners .now))) (sym (count-contours (s .pre .0)))
+    (omega (arith, no-more (length (flatten ps)) (c .before .before .before .before .before .before .before .no-room-keyed .ensures) (c .before .before .before .before .before .before .if2 .left), c .before .before .before .before .before .before .before .before .corner-count .ensures, length-points (g .corners .now))) (sym (count-contours (s .pre .0)))
     (a .count) (a .starts) (a .corners)
 
 pub hand-out-keyed-spec : {M : Type 1} → statement M

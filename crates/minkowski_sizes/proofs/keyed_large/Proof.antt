@@ -21,7 +21,7 @@ pairs-keyed-requires : tie.Need-pairs-keyed-requires
 pairs-keyed-requires c κs =
     let s = c .before .before .before .before .before .before .before .before in
     let g = s .args in
-    (large (callOf (g .operation) (g .left-starts .now) (g .left-corners .now) (g .right-starts .now) (g .right-corners .now)) (s .pre) refl refl, omega arith)
+    (large (s .pre) refl refl, omega arith)
 
 same-length : tie.Need-same-length
 same-length c = search needs

@@ -17,7 +17,7 @@ pairs-over-requires : tie.Need-pairs-over-requires
 pairs-over-requires c κs =
     let s = c .before .before .before .before .before .before .before in
     let g = s .args in
-    large (callOf (g .operation) (g .left-starts .now) (g .left-corners .now) (g .right-starts .now) (g .right-corners .now)) (s .pre) refl refl
+    large (s .pre) refl refl
 
 same-length : tie.Need-same-length
 same-length c = search needs

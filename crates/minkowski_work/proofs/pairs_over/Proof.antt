@@ -88,7 +88,7 @@ returns-2 c =
     let w = c .before .before .before .before .before .before .before .before .before .before .before .before .before .before .walks-fault .ensures in
     let n = c .before .before .before .before .before .before .before .before .before .before .if1 .left in
     let d = room-decides (x .reflected) (x .left) (x .right) (length (g .starts .now)) (length (g .corners .now)) (s .pre .accepted) (sym (w .told) ∙ n) in
-    answered x (w .walked n) (g .starts .now) (g .corners .now) d (c .before .before .before .before .before .before .before .before .before .result-bounds .ensures) (c .before .before .before .hand-out .ensures)
+    answered x (w .walked n) d (c .before .before .before .before .before .before .before .before .before .result-bounds .ensures) (c .before .before .before .hand-out .ensures)
 
 pub pairs-over-spec : {M : Type 1} → statement M
 pairs-over-spec =

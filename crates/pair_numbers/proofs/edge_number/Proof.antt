@@ -28,7 +28,7 @@ returns : tie.Need-returns
 returns c =
     let s = c .before .before in
     let e = c .before .edge in
-    (ap (λ n. 2 * n) (c .key-of .ensures .0 ∙ ap key (e .ensures .0)) ∙ sym (right-is (pointsIn (s .args .a .now)) (s .args .i) (omega (arith, s .pre .0, length-map (s .args .a .now) cornerOf))), small-edge (e .result) (e .ensures .1) (e .ensures .0))
+    (ap (λ n. 2 * n) (c .key-of .ensures .0 ∙ ap key (e .ensures .0)) ∙ sym (right-is (pointsIn (s .args .a .now)) (s .args .i) (omega (arith, s .pre .0, length-map (s .args .a .now) cornerOf))), small-edge (e .ensures .1) (e .ensures .0))
 
 pub edge-number-spec : {M : Type 1} → statement M
 edge-number-spec = tie.close (tie.spec edge-requires key-of-requires mul-result returns)

@@ -46,17 +46,17 @@ enum-told-3 c = search needs
 returns-2 : tie.Need-returns-2
 returns-2 c =
     let s = c .before .before .before .before .before .before in
-    sym (mark-by (pointsIn (s .args .a .now)) (s .args .i) Less (omega (arith, s .pre .0, c .before .before .before .before .before .if1 .left, length-map (s .args .a .now) cornerOf)) (ap₂ angleCmp (sym (c .before .before .before .before .edge .ensures .0)) (sym (c .before .before .before .edge2 .ensures .0)) ∙ sym (c .before .before .angle-cmp .ensures) ∙ c .enum-told .given .1))
+    sym (mark-by (pointsIn (s .args .a .now)) (s .args .i) (omega (arith, s .pre .0, c .before .before .before .before .before .if1 .left, length-map (s .args .a .now) cornerOf)) (ap₂ angleCmp (sym (c .before .before .before .before .edge .ensures .0)) (sym (c .before .before .before .edge2 .ensures .0)) ∙ sym (c .before .before .angle-cmp .ensures) ∙ c .enum-told .given .1))
 
 returns-3 : tie.Need-returns-3
 returns-3 c =
     let s = c .before .before .before .before .before .before in
-    sym (mark-by (pointsIn (s .args .a .now)) (s .args .i) Equal (omega (arith, s .pre .0, c .before .before .before .before .before .if1 .left, length-map (s .args .a .now) cornerOf)) (ap₂ angleCmp (sym (c .before .before .before .before .edge .ensures .0)) (sym (c .before .before .before .edge2 .ensures .0)) ∙ sym (c .before .before .angle-cmp .ensures) ∙ c .enum-told2 .given .1))
+    sym (mark-by (pointsIn (s .args .a .now)) (s .args .i) (omega (arith, s .pre .0, c .before .before .before .before .before .if1 .left, length-map (s .args .a .now) cornerOf)) (ap₂ angleCmp (sym (c .before .before .before .before .edge .ensures .0)) (sym (c .before .before .before .edge2 .ensures .0)) ∙ sym (c .before .before .angle-cmp .ensures) ∙ c .enum-told2 .given .1))
 
 returns-4 : tie.Need-returns-4
 returns-4 c =
     let s = c .before .before .before .before .before .before in
-    sym (mark-by (pointsIn (s .args .a .now)) (s .args .i) Greater (omega (arith, s .pre .0, c .before .before .before .before .before .if1 .left, length-map (s .args .a .now) cornerOf)) (ap₂ angleCmp (sym (c .before .before .before .before .edge .ensures .0)) (sym (c .before .before .before .edge2 .ensures .0)) ∙ sym (c .before .before .angle-cmp .ensures) ∙ c .enum-told3 .given .1))
+    sym (mark-by (pointsIn (s .args .a .now)) (s .args .i) (omega (arith, s .pre .0, c .before .before .before .before .before .if1 .left, length-map (s .args .a .now) cornerOf)) (ap₂ angleCmp (sym (c .before .before .before .before .edge .ensures .0)) (sym (c .before .before .before .edge2 .ensures .0)) ∙ sym (c .before .before .angle-cmp .ensures) ∙ c .enum-told3 .given .1))
 
 pub mark-spec : {M : Type 1} → statement M
 mark-spec =

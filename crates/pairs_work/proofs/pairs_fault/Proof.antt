@@ -23,7 +23,7 @@ walks-fault-requires c κs =
     let s = c .before .before .before .before .before .before .before in
     let g = s .args in
     let x = callOf (g .operation) (g .left-starts .now) (g .left-corners .now) (g .right-starts .now) (g .right-corners .now) in
-    large x (sym (c .before .before .before .operands-fault .ensures) ∙ c .before .before .if1 .left) (s .pre .for-points) (s .pre .for-firsts)
+    large (sym (c .before .before .before .operands-fault .ensures) ∙ c .before .before .if1 .left) (s .pre .for-points) (s .pre .for-firsts)
 
 same-length : tie.Need-same-length
 same-length c = search needs

@@ -49,7 +49,7 @@ add-term-requires : tie.Need-add-term-requires Inv-loop μ-loop
 add-term-requires c κs =
     let l = c .before .before in
     let s = l .before .before .before in
-    (omega (arith, high-of-terms (l .loop .total) (l .loop .inv .2 .size) (omega (arith, l .loop .inv .0, length-points (s .args .contour .now)))), subst CrossSize (sym (got w64 _ (c .cross-at .ok))) (c .cross-at .ensures .1))
+    (omega (arith, high-of-terms (l .loop .inv .2 .size) (omega (arith, l .loop .inv .0, length-points (s .args .contour .now)))), subst CrossSize (sym (got w64 _ (c .cross-at .ok))) (c .cross-at .ensures .1))
 
 add-k : tie.Need-add-k Inv-loop μ-loop
 add-k c = search needs

@@ -31,7 +31,7 @@ add-requires c κs =
     let l = c .before .before in
     let s = l .before .before in
     let p = lies (s .pre) (c .before .loop-test .taken) in
-    omega (arith, high-of-terms (l .loop .total) (l .loop .inv .1 .size) (omega (arith, p .rises, p .within)), high-of-terms (c .area-at .result) (c .area-at .ensures .1) (omega (arith, p .rises, p .within)))
+    omega (arith, high-of-terms (l .loop .inv .1 .size) (omega (arith, p .rises, p .within)), high-of-terms (c .area-at .ensures .1) (omega (arith, p .rises, p .within)))
 
 add-k : tie.Need-add-k Inv-loop μ-loop
 add-k c = search needs

@@ -44,7 +44,7 @@ returns-3 c =
     let l = c .before .before .before .before .before .before .before .args .contour .now in
     let reflected = c .before .before .before .before .before .before .before .args .reflected in
     let e = c .before .before .before .before .before .start-at .ensures in
-    let q = total-by reflected (pointsOf l) e _ (sym (c .before .before .before .before .winding .ensures) ∙ c .before .before .sum .given .1) in
+    let q = total-by reflected (pointsOf l) e (sym (c .before .before .before .before .winding .ensures) ∙ c .before .before .sum .given .1) in
     ap At (c .place-by .ensures ∙ place-is reflected (pointsOf l) e (kept {w = w64} (search needs) ∙ q .1)) ∙ begin-at l reflected (c .before .before .before .before .before .before .before .pre .0) (c .before .before .before .before .before .before .before .pre .1) (q .0) (c .before .before .before .before .before .before .if1 .left)
 
 pub begin-checked-spec : {M : Type 1} → statement M

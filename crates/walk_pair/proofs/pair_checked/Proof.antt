@@ -37,7 +37,7 @@ returns c =
     let p2 = c .before .before .before .before in
     let p1 = p2 .before .before in
     let s = p1 .before .before in
-    pair-at (s .args .reflected) (s .args .left .now) (s .args .right .now) (s .pre .0) (s .pre .1) (s .pre .2) (s .pre .3) _ _
+    pair-at (s .args .reflected) (s .args .left .now) (s .args .right .now) (s .pre .0) (s .pre .1) (s .pre .2) (s .pre .3)
     (sym (p1 .before .begin-checked .ensures) ∙ p2 .first .given .1) (sym (p1 .begin-checked2 .ensures) ∙ c .before .second .given .1)
 
 returns-2 : tie.Need-returns-2
@@ -45,7 +45,7 @@ returns-2 c =
     let p2 = c .before .before .before .before in
     let p1 = p2 .before .before in
     let s = p1 .before .before in
-    pair-second (s .args .reflected) (s .args .left .now) (s .args .right .now) (s .pre .0) (s .pre .1) (s .pre .2) (s .pre .3) _ _
+    pair-second (s .args .reflected) (s .args .left .now) (s .args .right .now) (s .pre .0) (s .pre .1) (s .pre .2) (s .pre .3)
     (sym (p1 .before .begin-checked .ensures) ∙ p2 .first .given .1) (sym (p1 .begin-checked2 .ensures) ∙ c .before .second2 .given .1)
 
 returns-3 : tie.Need-returns-3
@@ -53,7 +53,7 @@ returns-3 c =
     let p2 = c .before .before .before .before in
     let p1 = p2 .before .before in
     let s = p1 .before .before in
-    pair-first (s .args .reflected) (s .args .left .now) (s .args .right .now) (s .pre .0) (s .pre .1) (s .pre .2) (s .pre .3) _ _
+    pair-first (s .args .reflected) (s .args .left .now) (s .args .right .now) (s .pre .0) (s .pre .1) (s .pre .2) (s .pre .3)
     (sym (p1 .before .begin-checked .ensures) ∙ p2 .first2 .given .1) (sym (p1 .begin-checked2 .ensures) ∙ c .before .second3 .given .1)
 
 returns-4 : tie.Need-returns-4
@@ -62,7 +62,7 @@ returns-4 c =
     let p2 = p3 .before .before .before in
     let p1 = p2 .before .before in
     let s = p1 .before .before in
-    pair-both (s .args .reflected) (s .args .left .now) (s .args .right .now) (s .pre .0) (s .pre .1) (s .pre .2) (s .pre .3) _ _
+    pair-both (s .args .reflected) (s .args .left .now) (s .args .right .now) (s .pre .0) (s .pre .1) (s .pre .2) (s .pre .3)
     (sym (p1 .before .begin-checked .ensures) ∙ p2 .first2 .given .1) (sym (p1 .begin-checked2 .ensures) ∙ p3 .second4 .given .1)
     (c .first-of .ensures)
 

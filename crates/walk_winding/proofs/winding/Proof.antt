@@ -69,7 +69,7 @@ loop-again c =
     let x = got w64 _ (p1 .before .term-at .ok) ∙ p1 .before .term-at .ensures .0 in (
       omega arith,
       l .loop .inv .1
-          ∙ wound-turn ts (l .loop .k) (toZ w64 (l .loop .total)) x _
+          ∙ wound-turn ts (l .loop .k) (toZ w64 (l .loop .total)) x
           (omega (arith, length-terms (start .args .s) (pointsOf (start .args .contour .now)), l .before .corner-count .ensures))
           (sym (p1 .add-term .ensures) ∙ c .before .sum .given .1)
           ∙ ap (λ z. windingOf z (drop (l .loop .k + 1) ts)) (sym (kept (search needs))),
@@ -80,7 +80,7 @@ returns-2 c =
     let p1 = c .before .before in
     sym
     (c .before .loop .inv .1
-    ∙ wound-ends (windingTerms (p1 .before .args .s) (pointsOf (p1 .before .args .contour .now))) (c .before .loop .k) _
+    ∙ wound-ends (windingTerms (p1 .before .args .s) (pointsOf (p1 .before .args .contour .now))) (c .before .loop .k)
     (omega (arith, length-terms (p1 .before .args .s) (pointsOf (p1 .before .args .contour .now)), p1 .corner-count .ensures)))
 
 pub winding-spec : {M : Type 1} → statement M
