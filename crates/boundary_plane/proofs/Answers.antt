@@ -44,8 +44,8 @@ first-on p l = of (onGrid (point p)) refl
     of true e h = let k = on-grid-both (point p) e in (record { x-small = k .0; y-small = k .1 }, h)
     of false e h = differ h
 
-pub three-on : (a b c : IntPoint) {r : Bool} → r ≡ allOn (point a ∷ point b ∷ point c ∷ []) → r ≡ true → OnGrid a × OnGrid b × OnGrid c
-three-on a b c h e =
+pub three-on : {a b c : IntPoint} {r : Bool} → r ≡ allOn (point a ∷ point b ∷ point c ∷ []) → r ≡ true → OnGrid a × OnGrid b × OnGrid c
+three-on {a} {b} {c} h e =
     let (p, h₁) = first-on a _ (sym h ∙ e) in
     let (q, h₂) = first-on b _ h₁ in
     (p, q, first-on c _ h₂ .0)
@@ -53,7 +53,7 @@ three-on a b c h e =
 pub four-on : {a b c d : IntPoint} {r : Bool} → r ≡ allOn (point a ∷ point b ∷ point c ∷ point d ∷ []) → r ≡ true → OnGrid a × OnGrid b × OnGrid c × OnGrid d
 four-on {a} {b} {c} {d} h e =
     let (p, h₁) = first-on a _ (sym h ∙ e) in
-    let (q, r, s) = three-on b c d refl h₁ in
+    let (q, r, s) = three-on {a = b} {b = c} {c = d} refl h₁ in
     (p, q, r, s)
 
 -- a point made of two numbers that fit holds them

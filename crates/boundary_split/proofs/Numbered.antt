@@ -29,5 +29,5 @@ module _ (n m : ℕ) (mesh : Mesh) (s : List ℕ) (c : List ℤ) where
   no-split h = refused (splitParts (strategyOf n) m mesh) s c (no-such h) (λ q. omega (arith, q)) refl
 
   -- how is the split of the number n
-  pub by-split : n ≤ 2 → (how : ConvexSplitStrategy) → how ≡ strategyOf n → {r : Counts} {s′ : List ℕ} {c′ : List ℤ} → SplitAnswered how m mesh s c r s′ c′ → NumberedAnswered n m mesh s c r s′ c′
-  by-split h how q {r} {s′} {c′} a = subst (λ f. Answered f (splitParts (strategyOf n) m mesh) s c r s′ c′) (such h) (subst (λ w. SplitAnswered w m mesh s c r s′ c′) q a)
+  pub by-split : n ≤ 2 → {how : ConvexSplitStrategy} → how ≡ strategyOf n → {r : Counts} {s′ : List ℕ} {c′ : List ℤ} → SplitAnswered how m mesh s c r s′ c′ → NumberedAnswered n m mesh s c r s′ c′
+  by-split h q {r} {s′} {c′} a = subst (λ f. Answered f (splitParts (strategyOf n) m mesh) s c r s′ c′) (such h) (subst (λ w. SplitAnswered w m mesh s c r s′ c′) q a)

@@ -19,10 +19,10 @@ use Rattle.boundary_table.specs.declared.ToldPart.{ToldPart}
 use Rattle.boundary_table.specs.Told.{shownOffset, toldShown}
 
 -- 2 a + (2 b − 2 a) = 2 b
-there : (s : List ℕ) (c : List ℤ) (k : ℕ) → tableBroken s c ≡ false → k < partCount s → slice (2 * getD s k 0) (2 * getD s k 0 + length (partNumbers s c k)) c ≡ partNumbers s c k
+there : (s : List ℕ) (c : List ℤ) {k : ℕ} → tableBroken s c ≡ false → k < partCount s → slice (2 * getD s k 0) (2 * getD s k 0 + length (partNumbers s c k)) c ≡ partNumbers s c k
 unfolding partNumbers
-there s c k e h =
-    let p : Placed (getD s k 0) (getD s (suc k) 0) c = subst (λ j. Placed (getD s k 0) (getD s j 0) c) (add-one k) (placed s c k e h) in
+there s c {k} e h =
+    let p : Placed (getD s k 0) (getD s (suc k) 0) c = subst (λ j. Placed (getD s k 0) (getD s j 0) c) (add-one k) (placed s c e h) in
     let n = length-slice (2 * getD s k 0) (2 * getD s (suc k) 0) c (omega (arith, p .within)) in
     let m : 2 * getD s k 0 + length (slice (2 * getD s k 0) (2 * getD s (suc k) 0) c) ≡ 2 * getD s (suc k) 0 = omega (arith, n, p .rises) in
     ap (λ t. slice (2 * getD s k 0) t c) m
@@ -59,7 +59,7 @@ module _ (ls : List ℕ) (lc : List ℤ) (rs : List ℕ) (rc : List ℤ) (right 
         → (record { fault = 0; offset = at; length = length l } ≡ toldShown ls lc rs rc right k) × (slice at (at + length l) (cond right rc lc) ≡ shownPart ls lc rs rc right k)
     told-there a b = (
       (λ i. record { fault = (sym z ∙ e) i; offset = (a ∙ sym begins) i; length = length (b i) }),
-      (λ i. slice (a i) (a i + length ((b ∙ part) i)) (q i)) ∙ there s c k t within ∙ sym part,
+      (λ i. slice (a i) (a i + length ((b ∙ part) i)) (q i)) ∙ there s c t within ∙ sym part,
     )
 
   module _ (z : n ≡ 0) where

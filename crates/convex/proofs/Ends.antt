@@ -75,7 +75,7 @@ module _ (m : Mesh) (seen : List ℕ) (e : Edge) (s : List Edge) (r : Region) (h
       outside g =
           let q : triangleAt m (e .across) ≡ noTriangle = List·getD-eq-default m noTriangle g in
           let none-new : next .stack ≡ s = none-stacked _ _ _ _ _ _ _ s q refl in
-          rw grouped (omega (arith, untaken-out (e .across) (seen ++ r .taken) f (length m) g, ap length none-new, ap length h))
+          rw grouped (omega (arith, untaken-out (e .across) (seen ++ r .taken) f g, ap length none-new, ap length h))
 
   pub step-less : left m seen (step m seen e s r) < left m seen r
   unfolding step
@@ -92,9 +92,9 @@ grow-done zero m seen r h = refl
 grow-done (suc n) m seen r h = rw h
 
 -- the top edge is taken first
-pub grow-step : (n : ℕ) (m : Mesh) (seen : List ℕ) (e : Edge) (s : List Edge) (r : Region) → r .stack ≡ e ∷ s → grow (suc n) m seen r ≡ grow n m seen (step m seen e s r)
+pub grow-step : (n : ℕ) (m : Mesh) (seen : List ℕ) {e : Edge} {s : List Edge} (r : Region) → r .stack ≡ e ∷ s → grow (suc n) m seen r ≡ grow n m seen (step m seen e s r)
 unfolding grow
-grow-step n m seen e s r h = rw h
+grow-step n m seen r h = rw h
 
 by-stack : {X : Type 0} (r : Region) {s : List Edge} → r .stack ≡ s → (r .stack ≡ [] → X) → ((e : Edge) (s : List Edge) → r .stack ≡ e ∷ s → X) → X
 by-stack r {s = []} h f g = f h
@@ -106,7 +106,7 @@ grow-ends zero m seen r h =
 grow-ends (suc n) m seen r h =
     by-stack r refl
     (λ e. ap (λ t. t .stack) (grow-done (suc n) m seen r e) ∙ e)
-    (λ x s e. ap (λ t. t .stack) (grow-step n m seen x s r e) ∙ grow-ends n m seen (step m seen x s r) (omega (arith, step-less m seen x s r e)))
+    (λ x s e. ap (λ t. t .stack) (grow-step n m seen r e) ∙ grow-ends n m seen (step m seen x s r) (omega (arith, step-less m seen x s r e)))
 
 start-few : (k : ℕ) (t : Triangle) → length (start k t .stack) ≤ 3
 unfolding start

@@ -43,7 +43,7 @@ lastOf-snoc q (p ∷ l) x = lastOf-snoc p l x
 
 -- the last of l, and then its others, where l is k one place on
 from-top : {l : List Pt} (k : List Pt) → l ≡ rotate 1 k → 0 < length k → rotate (length l - 1) l ≡ k
-from-top k e h = ap (λ r. rotate (length r - 1) r) e ∙ ap (λ n. rotate (n - 1) (rotate 1 k)) (length-rotate 1 k) ∙ rotate-back 1 k h
+from-top k e h = ap (λ r. rotate (length r - 1) r) e ∙ ap (λ n. rotate (n - 1) (rotate 1 k)) (length-rotate 1 k) ∙ rotate-back k h
 
 module _ (m : Mesh) (ok : Accepted m) (seen : List ℕ) where
   module _ (x : Slot) (rest : List Slot) (z : Zipper) (h : z .pending ≡ x ∷ rest) (f : Fit m z) where
@@ -57,13 +57,13 @@ module _ (m : Mesh) (ok : Accepted m) (seen : List ℕ) where
         let k : suc (length (z .done)) - cond (z .fresh) (suc (length (z .done))) (z .last) ≡ 0 =
         ap (λ t. suc (length (z .done)) - cond t (suc (length (z .done))) (z .last)) e ∙ omega arith in (
           rw e (omega arith),
-          subst Sharp (from-top (x .corner ∷ R) (whole-top x rest z h) (omega arith) ∙ sym (rotate-zero (x .corner ∷ R)) ∙ ap (λ j. rotate j (x .corner ∷ R)) (sym k)) (n .1),
+          subst Sharp (from-top (x .corner ∷ R) (whole-top z h) (omega arith) ∙ sym (rotate-zero (x .corner ∷ R)) ∙ ap (λ j. rotate j (x .corner ∷ R)) (sym k)) (n .1),
         )
     newest-moved {t = false} e n =
         let i : ℕ = length (z .done) - z .last in
         let k : suc (length (z .done)) - cond (z .fresh) (suc (length (z .done))) (z .last) ≡ 1 + i =
         ap (λ t. suc (length (z .done)) - cond t (suc (length (z .done))) (z .last)) e ∙ omega (arith, n .0) in
-        let top : rotate i (whole z) ≡ rotate (1 + i) (x .corner ∷ R) = ap (rotate i) (whole-top x rest z h) ∙ rotate-rotate 1 i (x .corner ∷ R) (omega (arith, length-ring rest (z .done))) in (
+        let top : rotate i (whole z) ≡ rotate (1 + i) (x .corner ∷ R) = ap (rotate i) (whole-top z h) ∙ rotate-rotate 1 i (x .corner ∷ R) (omega (arith, length-ring rest (z .done))) in (
           rw e (omega (arith, n .0)),
           subst Sharp (top ∙ ap (λ j. rotate j (x .corner ∷ R)) (sym k)) (n .1),
         )
@@ -83,7 +83,7 @@ module _ (m : Mesh) (ok : Accepted m) (seen : List ℕ) where
 
         sharp : (b b0 : Pt) (l : List Pt) → R ≡ b ∷ b0 ∷ l → Sharp (p ∷ (R ++ (x .corner ∷ [])))
         sharp b b0 l e =
-            let u = joint m ok x rest z h f d b b0 l e j in
+            let u = joint m ok x rest z h f d e j in
             let t : pos 0 <ℤ turn (x .corner) p b = pos-is (sym (area-is-turn (x .corner) p b)) (pos-is (u .area) (ok .turns-left (x .across) (u .in-mesh))) in
             subst (λ r. Sharp (p ∷ (r ++ (x .corner ∷ [])))) (sym e) (subst (λ a. pos 0 <ℤ turn a p b) (sym (lastOf-snoc b (b0 ∷ l) (x .corner))) t)
 
@@ -102,12 +102,12 @@ module _ (m : Mesh) (ok : Accepted m) (seen : List ℕ) where
     z = zipped m seen k
 
     newest-zipped : NewestAt (z .fresh) z
-    newest-zipped = zipped-keeps m ok seen (λ y. NewestAt (y .fresh) y) newest-step k l (unfold startZ in newest-start)
+    newest-zipped = zipped-keeps m ok seen (λ y. NewestAt (y .fresh) y) newest-step l (unfold startZ in newest-start)
 
     -- nothing is pending, so the last corner added is done
     newest-done : (t : Bool) → NewestAt t z → Sharp (fromLastZ z)
-    newest-done true n = absurd (omega (arith, n .0, ap length (zipped-ends m ok seen k l)))
-    newest-done false n = subst (λ r. Sharp (rotate (length (z .done) - z .last) r)) (ap (λ p. ring p (z .done)) (zipped-ends m ok seen k l) ∙ append-nil (z .done)) (n .1)
+    newest-done true n = absurd (omega (arith, n .0, ap length (zipped-ends m ok seen l)))
+    newest-done false n = subst (λ r. Sharp (rotate (length (z .done) - z .last) r)) (ap (λ p. ring p (z .done)) (zipped-ends m ok seen l) ∙ append-nil (z .done)) (n .1)
 
     -- the first corner's turn is above 0
     pub region-sharp : Sharp (fromLast (region m seen k .contour))

@@ -32,13 +32,13 @@ pub record Apart (m : Mesh) (seen : List ℕ) (k : ℕ) (taken : List ℕ) : Typ
 
 module _ (m : Mesh) (ok : Accepted m) (seen : List ℕ) (k : ℕ) where
   -- one more, of the mesh and not yet taken
-  apart-more : {taken : List ℕ} (j : ℕ) → isIn j (seen ++ taken) ≡ false → j < length m → Apart m seen k taken → Apart m seen k (taken ++ (j ∷ []))
+  apart-more : {taken : List ℕ} {j : ℕ} → isIn j (seen ++ taken) ≡ false → j < length m → Apart m seen k taken → Apart m seen k (taken ++ (j ∷ []))
   unfolding count
-  apart-more {taken} j n l a = record {
+  apart-more {taken} {j} n l a = record {
     once = λ i. by-test (eqb j i)
         (λ t. omega (arith, isIn-false j (seen ++ taken) n, ap (λ h. count h (seen ++ taken)) (eqb-true j i t), counts i, count-here [] (eqb-true j i t)))
-        (λ t. omega (arith, a .once i, counts i, count-there i j [] (eqb-false j i t)));
-    in-mesh = λ i h. omega (arith, a .in-mesh i h, count-append i taken (j ∷ []), count-there i j [] (omega arith));
+        (λ t. omega (arith, a .once i, counts i, count-there [] (eqb-false j i t)));
+    in-mesh = λ i h. omega (arith, a .in-mesh i h, count-append i taken (j ∷ []), count-there {i = i} {x = j} [] (omega arith));
     first = omega (arith, a .first, count-append k taken (j ∷ []));
   }
     where
@@ -50,8 +50,8 @@ module _ (m : Mesh) (ok : Accepted m) (seen : List ℕ) (k : ℕ) where
   apart-start l n o = record {
     once = λ i. by-test (eqb k i)
         (λ t. omega (arith, isIn-false k seen n, ap (λ h. count h seen) (eqb-true k i t), count-append i seen (k ∷ []), count-here [] (eqb-true k i t)))
-        (λ t. omega (arith, o i, count-append i seen (k ∷ []), count-there i k [] (eqb-false k i t)));
-    in-mesh = λ i h. count-there i k [] (omega arith);
+        (λ t. omega (arith, o i, count-append i seen (k ∷ []), count-there [] (eqb-false k i t)));
+    in-mesh = λ i h. count-there {i = i} {x = k} [] (omega arith);
     first = omega (arith, count-here {i = k} [] refl);
   }
 
@@ -61,8 +61,7 @@ module _ (m : Mesh) (ok : Accepted m) (seen : List ℕ) (k : ℕ) where
   region-apart l n o =
       subst (Apart m seen k) (sym (zipped-taken m ok seen k l))
       (zipped-keeps m ok seen (λ z. Apart m seen k (z .taken))
-      (λ x rest z h f a. stepZ-by m seen (λ z. Apart m seen k (z .taken)) x rest z a (λ d j t. apart-more (x .across) j (across-in m ok x _ (top-sided m ok x rest z h f) d) a))
-      k l (apart-start l n o))
+      (λ x rest z h f a. stepZ-by m seen (λ z. Apart m seen k (z .taken)) x rest z a (λ d j t. apart-more j (across-in m ok x _ (top-sided m ok x rest z h f) d) a)) l (apart-start l n o))
 
 -- ---- all regions
 
@@ -86,7 +85,7 @@ module _ (m : Mesh) (ok : Accepted m) where
         in-mesh = s .in-mesh;
         each = λ i h. by-test (eqb k i)
             (λ e. omega (arith, isIn-true k seen t, ap (λ h. count h seen) (eqb-true k i e), count-append i seen (takenOf (regionsFrom m seen l))))
-            (λ e. s .each i (omega (arith, count-there i k l (eqb-false k i e))));
+            (λ e. s .each i (omega (arith, count-there l (eqb-false k i e))));
       }))
       (λ t. rw t (let a = region-apart m ok seen k (b .0) t o in
       let w = region m seen k .taken in
@@ -97,7 +96,7 @@ module _ (m : Mesh) (ok : Accepted m) where
         in-mesh = λ i h. omega (arith, a .in-mesh i h, s .in-mesh i h, count-append i w rest);
         each = λ i h. by-test (eqb k i)
             (λ e. omega (arith, a .first, ap (λ h. count h w) (eqb-true k i e), count-append i seen (w ++ rest), count-append i w rest))
-            (λ e. omega (arith, s .each i (omega (arith, count-there i k l (eqb-false k i e))), count-append i (seen ++ w) rest, count-append i seen w, count-append i seen (w ++ rest), count-append i w rest));
+            (λ e. omega (arith, s .each i (omega (arith, count-there l (eqb-false k i e))), count-append i (seen ++ w) rest, count-append i seen w, count-append i seen (w ++ rest), count-append i w rest));
       }))
 
   -- each triangle is taken exactly once

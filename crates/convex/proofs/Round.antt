@@ -76,9 +76,9 @@ unfolding sumℕ
 descents-around K t = ap sumℕ (map-append descentAt K (t ∷ [])) ∙ sumℕ-append (map descentAt K) (descentAt t ∷ []) ∙ omega arith
 
 -- e is d and then f, with d × f > 0, d × e > 0, e × f > 0; p × d and f × n are not below 0
-pub round-split : (e d f n : Pt) (G : List Pt) (p : Pt) → pos 0 <ℤ cross d e → pos 0 <ℤ cross e f → pos 0 <ℤ cross d f → pos 0 ≤ℤ cross p d → pos 0 ≤ℤ cross f n
+pub round-split : {e : Pt} (d f : Pt) {n : Pt} (G : List Pt) (p : Pt) → pos 0 <ℤ cross d e → pos 0 <ℤ cross e f → pos 0 <ℤ cross d f → pos 0 ≤ℤ cross p d → pos 0 ≤ℤ cross f n
     → Round (e ∷ n ∷ (G ++ (p ∷ []))) → Round (d ∷ f ∷ n ∷ (G ++ (p ∷ [])))
-round-split e d f n G p de ef df pd fn r =
+round-split {e} d f {n} G p de ef df pd fn r =
     let K : List (Pt × Pt) = links n (G ++ (p ∷ [])) in
     let a : All Onward ((e, n) ∷ (K ++ ((p, e) ∷ []))) = subst (All Onward) (cycle e n G p) (r .forward) in
     let k = all-append Onward K ((p, e) ∷ []) .0 (a .1) in
@@ -164,7 +164,7 @@ pub round-join : {a0 : Pt} (x p b b0 : Pt) (l : List Pt) → a0 ≡ lastOf b0 l 
 round-join {a0} x p b b0 l e h j r =
     let k = joins-both a0 x p b b0 j in
     subst Round (sym (edges-after x p b b0 l))
-    (round-split (b -ᵖ x) (p -ᵖ x) (b -ᵖ p) (b0 -ᵖ b) (way b0 l) (x -ᵖ lastOf b0 l) h (pos-is (side-whole x p b) h) (pos-is (side-first x p b) h)
+    (round-split (p -ᵖ x) (b -ᵖ p) (way b0 l) (x -ᵖ lastOf b0 l) h (pos-is (side-whole x p b) h) (pos-is (side-first x p b) h)
     (subst (λ a. pos 0 ≤ℤ cross (x -ᵖ a) (p -ᵖ x)) e (k .0)) (k .1) (subst Round (edges-before x b b0 l) r))
 
 -- each region's contour goes once round

@@ -43,14 +43,14 @@ pub sized-room : {m : Mesh} {seen : List ℕ} {z : Zipper} → Sized m seen z �
 sized-room s = omega (arith, s .corners, s .room)
 
 module _ (m : Mesh) (ok : Accepted m) (seen : List ℕ) where
-  pub sized-start : (k : ℕ) → k < length m → isIn k seen ≡ false → Sized m seen (startZ k (triangleAt m k))
+  pub sized-start : {k : ℕ} → k < length m → isIn k seen ≡ false → Sized m seen (startZ k (triangleAt m k))
   unfolding startZ
-  sized-start k l n = record { corners = omega arith; room = omega (arith, untaken-take k seen n (length m) l, untaken-le (length m) seen) }
+  sized-start {k} l n = record { corners = omega arith; room = omega (arith, untaken-take k seen n (length m) l, untaken-le (length m) seen) }
 
   -- a corner done leaves the sum; a triangle taken is one corner more
-  pub sized-step : (x : Slot) (rest : List Slot) (z : Zipper) → z .pending ≡ x ∷ rest → Fit m z → Sized m seen z → Sized m seen (stepZ m seen x rest z)
+  pub sized-step : {x : Slot} {rest : List Slot} {z : Zipper} → z .pending ≡ x ∷ rest → Fit m z → Sized m seen z → Sized m seen (stepZ m seen x rest z)
   unfolding moved pushed
-  sized-step x rest z h f s =
+  sized-step {x} {rest} {z} h f s =
       stepZ-by m seen (Sized m seen) x rest z (record { corners = omega (arith, s .corners, ap length h); room = s .room })
       (λ d n j.
       let l : x .across < length m = across-in m ok x _ (top-sided m ok x rest z h f) d in
@@ -77,22 +77,22 @@ straight-few (p ∷ l) = turning-few (lastOf p l) p (p ∷ l)
 
 module _ (m : Mesh) (ok : Accepted m) where
   -- three corners for the first triangle, one more for each that joins
-  pub region-size : (seen : List ℕ) (k : ℕ) → k < length m → length (region m seen k .contour) ≡ length (region m seen k .taken) + 2
-  region-size seen k l =
+  pub region-size : (seen : List ℕ) {k : ℕ} → k < length m → length (region m seen k .contour) ≡ length (region m seen k .taken) + 2
+  region-size seen {k} l =
       sym (length-map (region m seen k .contour) (λ c. c .point))
       ∙ contour-keeps m ok (λ t l. length l ≡ length t + 2) (λ t k l h. length-rotate k l ∙ h)
       (λ t j x p b b0 l u h. omega (arith, h, length-append t (j ∷ []))) (λ k h. omega arith) seen k l
 
-  pub part-size : (seen : List ℕ) (k : ℕ) → k < length m → length (contourOf (region m seen k)) ≤ length (region m seen k .taken) + 2
+  pub part-size : (seen : List ℕ) {k : ℕ} → k < length m → length (contourOf (region m seen k)) ≤ length (region m seen k .taken) + 2
   unfolding contourOf
-  part-size seen k l =
+  part-size seen {k} l =
       let c = region m seen k .contour in
       omega (
         arith,
         straight-few (fromLast c),
         length-map (rotate (placeOf (length c - 1) c) c) (λ c. c .point),
         length-rotate (placeOf (length c - 1) c) c,
-        region-size seen k l,
+        region-size seen l,
       )
 
   -- ---- of all
@@ -101,7 +101,7 @@ module _ (m : Mesh) (ok : Accepted m) where
   counted : All (λ r. (0 < length (r .taken)) × (length (contourOf r) ≤ length (r .taken) + 2)) (regions m)
   counted =
       all-regions m (λ r. (0 < length (r .taken)) × (length (contourOf r) ≤ length (r .taken) + 2))
-      (λ seen k l. (contour-keeps m ok (λ t l. 0 < length t) (λ t k l h. h) (λ t j x p b b0 l u h. omega (arith, h, length-append t (j ∷ []))) (λ k h. omega arith) seen k l, part-size seen k l))
+      (λ seen k l. (contour-keeps m ok (λ t l. 0 < length t) (λ t k l h. h) (λ t j x p b b0 l u h. omega (arith, h, length-append t (j ∷ []))) (λ k h. omega arith) seen k l, part-size seen l))
 
   -- Σ over the regions
   few : (R : List Region) → All (λ r. (0 < length (r .taken)) × (length (contourOf r) ≤ length (r .taken) + 2)) R

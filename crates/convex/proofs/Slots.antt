@@ -85,9 +85,9 @@ module _ (m : Mesh) (seen : List ℕ) where
   growZ-done (suc n) z h = rw h
 
   -- the top corner first
-  pub growZ-step : (n : ℕ) (x : Slot) (rest : List Slot) (z : Zipper) → z .pending ≡ x ∷ rest → growZ (suc n) m seen z ≡ growZ n m seen (stepZ m seen x rest z)
+  pub growZ-step : (n : ℕ) {x : Slot} {rest : List Slot} (z : Zipper) → z .pending ≡ x ∷ rest → growZ (suc n) m seen z ≡ growZ n m seen (stepZ m seen x rest z)
   unfolding growZ
-  growZ-step n x rest z h = rw h
+  growZ-step n z h = rw h
 
   -- what every step keeps holds at the end
   pub growZ-keeps : (P : Zipper → Type 0) → ((x : Slot) (rest : List Slot) (z : Zipper) → z .pending ≡ x ∷ rest → P z → P (stepZ m seen x rest z))
@@ -95,7 +95,7 @@ module _ (m : Mesh) (seen : List ℕ) where
   growZ-keeps P k zero p = unfold growZ in p
   growZ-keeps P k (suc n) {z} p =
       by-pending z (λ h. subst P (sym (growZ-done (suc n) z h)) p)
-      (λ x rest h. subst P (sym (growZ-step n x rest z h)) (growZ-keeps P k n (k x rest z h p)))
+      (λ x rest h. subst P (sym (growZ-step n z h)) (growZ-keeps P k n (k x rest z h p)))
 
 -- how much is left to do
 abbrev pub leftZ : Mesh → List ℕ → Zipper → ℕ
@@ -225,9 +225,9 @@ module _ (m : Mesh) (ok : Accepted m) where
     fit-step seen = stepZ-by m seen (Fit m) x rest z fit-moved (λ d n j. fit-pushed d)
 
   -- sides 1, 0 and 2 of the first triangle, from the top
-  pub fit-start : (k : ℕ) → k < length m → Fit m (startZ k (triangleAt m k))
+  pub fit-start : {k : ℕ} → k < length m → Fit m (startZ k (triangleAt m k))
   unfolding startZ after
-  fit-start k l = record {
+  fit-start l = record {
     long = omega arith;
     sided = (
       record { in-mesh = l; side = 1; is-side = omega arith; across-is = refl; from = refl; to = refl },
@@ -242,9 +242,9 @@ module _ (m : Mesh) (ok : Accepted m) where
 
   module _ (seen : List ℕ) where
     -- a corner done is one pending less; a triangle taken is two less and one pending more
-    pub stepZ-less : (x : Slot) (rest : List Slot) {z : Zipper} → z .pending ≡ x ∷ rest → Fit m z → leftZ m seen (stepZ m seen x rest z) < leftZ m seen z
+    pub stepZ-less : {x : Slot} {rest : List Slot} {z : Zipper} → z .pending ≡ x ∷ rest → Fit m z → leftZ m seen (stepZ m seen x rest z) < leftZ m seen z
     unfolding moved pushed
-    stepZ-less x rest {z} h f =
+    stepZ-less {x} {rest} {z} h f =
         stepZ-by m seen (λ y. leftZ m seen y < leftZ m seen z) x rest z (omega (arith, ap length h))
         (λ d n j.
         let l : x .across < length m = across-in x _ (top-sided x rest z h f) d in
@@ -259,15 +259,15 @@ module _ (m : Mesh) (ok : Accepted m) where
         by-pending z (λ e. ap (λ t. t .pending) (growZ-done m seen zero z e) ∙ e) (λ x rest e. absurd (omega (arith, ap length e)))
     growZ-ends (suc n) {z} f l =
         by-pending z (λ e. ap (λ t. t .pending) (growZ-done m seen (suc n) z e) ∙ e)
-        (λ x rest e. ap (λ t. t .pending) (growZ-step m seen n x rest z e) ∙ growZ-ends n (fit-step x rest z e f seen) (omega (arith, stepZ-less x rest e f)))
+        (λ x rest e. ap (λ t. t .pending) (growZ-step m seen n z e) ∙ growZ-ends n (fit-step x rest z e f seen) (omega (arith, stepZ-less e f)))
 
     -- nothing is pending at the end
-    pub zipped-ends : (k : ℕ) → k < length m → zipped m seen k .pending ≡ []
-    zipped-ends k l = growZ-ends (2 * length m + 3) (fit-start k l) (startZ-left m seen k)
+    pub zipped-ends : {k : ℕ} → k < length m → zipped m seen k .pending ≡ []
+    zipped-ends {k} l = growZ-ends (2 * length m + 3) (fit-start l) (startZ-left m seen k)
 
     -- what the start has and every step keeps, the end has
     pub zipped-keeps : (P : Zipper → Type 0) → ((x : Slot) (rest : List Slot) (z : Zipper) → z .pending ≡ x ∷ rest → Fit m z → P z → P (stepZ m seen x rest z))
-        → (k : ℕ) → k < length m → P (startZ k (triangleAt m k)) → P (zipped m seen k)
-    zipped-keeps P s k l p =
+        → {k : ℕ} → k < length m → P (startZ k (triangleAt m k)) → P (zipped m seen k)
+    zipped-keeps P s {k} l p =
         growZ-keeps m seen (λ z. Fit m z × P z) (λ x rest z h t. (fit-step x rest z h (t .0) seen, s x rest z h (t .0) (t .1)))
-        (2 * length m + 3) (fit-start k l, p) .1
+        (2 * length m + 3) (fit-start l, p) .1

@@ -289,9 +289,9 @@ straight-area (p ∷ c ∷ l) h r =
     alone = ring (pt ∷ int ∷ []) (λ p k. crossE p p :+ k :≡ k) tt
 
 -- of a closed list of edges, the last of which turns left to the first
-round-gathered : (e : Pt) (E : List Pt) → Round (e ∷ E) → pos 0 <ℤ cross (lastOf e E) e → Strict (first O e E ∷ rest O e E)
+round-gathered : {e : Pt} {E : List Pt} → Round (e ∷ E) → pos 0 <ℤ cross (lastOf e E) e → Strict (first O e E ∷ rest O e E)
 unfolding neighbours
-round-gathered e E r l =
+round-gathered {e} {E} r l =
     let a : Along (O +ᵖ e) e = rw zero-+ᵖ (along-refl (round-nz r .0)) in
     let g = gathered O E a (first-along O E e a (r .forward)) (r .forward) l in
     record { left = g .left; once = g .descents ∙ r .once }
@@ -301,7 +301,7 @@ pub straight-round : (l : List Pt) → Sharp l → Round (edges l) → Strict (e
 straight-round [] h r = absurd h
 straight-round (p ∷ []) h r = absurd h
 straight-round (p ∷ c ∷ l) h r =
-    subst Strict (sym stay) (round-gathered e E (subst Round all r) (subst (λ a. pos 0 <ℤ cross a e) (sym (last-way p (c ∷ l) p)) (unfold lastOf in h)))
+    subst Strict (sym stay) (round-gathered (subst Round all r) (subst (λ a. pos 0 <ℤ cross a e) (sym (last-way p (c ∷ l) p)) (unfold lastOf in h)))
   where
     e : Pt
     e = c -ᵖ p

@@ -53,8 +53,8 @@ one t = cond t 0 1
 
 -- taking k, of those not taken, takes one of them where it is below n, and none where it is not
 module _ (k : ℕ) (l : List ℕ) (h : isIn k l ≡ false) where
-  other : (i : ℕ) → (k ≡ i → ⊥) → isIn i (l ++ (k ∷ [])) ≡ isIn i l
-  other i d = isIn-append i l (k ∷ []) ∙ ap (λ t. cond (isIn i l) true t) (isIn-one i k ∙ ne-eqb k i d) ∙ same (isIn i l)
+  other : {i : ℕ} → (k ≡ i → ⊥) → isIn i (l ++ (k ∷ [])) ≡ isIn i l
+  other {i} d = isIn-append i l (k ∷ []) ∙ ap (λ t. cond (isIn i l) true t) (isIn-one i k ∙ ne-eqb k i d) ∙ same (isIn i l)
     where
       same : (t : Bool) → cond t true false ≡ t
       same true = refl
@@ -66,7 +66,7 @@ module _ (k : ℕ) (l : List ℕ) (h : isIn k l ≡ false) where
   untaken-past : (n : ℕ) → n ≤ k → untaken n (l ++ (k ∷ [])) ≡ untaken n l
   unfolding untaken
   untaken-past zero g = refl
-  untaken-past (suc n) g = λ i. one (other n (λ e. omega (arith, e)) i) + untaken-past n (omega arith) i
+  untaken-past (suc n) g = λ i. one (other {i = n} (λ e. omega (arith, e)) i) + untaken-past n (omega arith) i
 
   pub untaken-take : (n : ℕ) → k < n → untaken n (l ++ (k ∷ [])) + 1 ≡ untaken n l
   unfolding untaken
@@ -83,7 +83,7 @@ module _ (k : ℕ) (l : List ℕ) (h : isIn k l ≡ false) where
           rw (p, q) (omega (arith, untaken-past n (omega (arith, e))))
 
       below : (k ≡ n → ⊥) → untaken n (l ++ (k ∷ [])) + 1 ≡ untaken n l → one (isIn n (l ++ (k ∷ []))) + untaken n (l ++ (k ∷ [])) + 1 ≡ one (isIn n l) + untaken n l
-      below d u = rw (other n d) (omega (arith, u))
+      below d u = rw (other d) (omega (arith, u))
 
-  pub untaken-out : (n : ℕ) → n ≤ k → untaken n (l ++ (k ∷ [])) ≡ untaken n l
-  untaken-out n g = untaken-past n g
+  pub untaken-out : {n : ℕ} → n ≤ k → untaken n (l ++ (k ∷ [])) ≡ untaken n l
+  untaken-out {n} g = untaken-past n g

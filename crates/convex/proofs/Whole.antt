@@ -28,8 +28,8 @@ use Rattle.convex.proofs.Zipped.{zipped-contour, zipped-taken}
 -- ---- before and after a step, with R the ring after the top corner x
 
 -- R x
-pub whole-top : (x : Slot) (rest : List Slot) (z : Zipper) → z .pending ≡ x ∷ rest → whole z ≡ rotate 1 (x .corner ∷ ring rest (z .done))
-whole-top x rest z h = ap (λ p. ring p (z .done)) h ∙ ring-cons x rest (z .done) ∙ sym (rotate-one (x .corner) (ring rest (z .done)))
+pub whole-top : {x : Slot} {rest : List Slot} (z : Zipper) → z .pending ≡ x ∷ rest → whole z ≡ rotate 1 (x .corner ∷ ring rest (z .done))
+whole-top {x} {rest} z h = ap (λ p. ring p (z .done)) h ∙ ring-cons x rest (z .done) ∙ sym (rotate-one (x .corner) (ring rest (z .done)))
 
 -- R x p
 pub whole-pushed : (x : Slot) (rest : List Slot) (u : Triangle) (v : ℕ) (z : Zipper) → whole (pushed x rest u v z) ≡ rotate 2 (x .corner ∷ vertex u v ∷ ring rest (z .done))
@@ -85,9 +85,9 @@ module _ (m : Mesh) (ok : Accepted m) where
   -- a step that joins
   module _ (x : Slot) (rest : List Slot) (z : Zipper) (h : z .pending ≡ x ∷ rest) (f : Fit m z) (d : x .across ≡ none → ⊥) where
     -- the far vertex lies between the corner and the first of the ring in the far triangle
-    pub joint : (b b0 : Pt) (l : List Pt) → ring rest (z .done) ≡ b ∷ b0 ∷ l → joinsZ x (ring rest (z .done)) (far m x) (farSide m x) ≡ true
+    pub joint : {b b0 : Pt} {l : List Pt} → ring rest (z .done) ≡ b ∷ b0 ∷ l → joinsZ x (ring rest (z .done)) (far m x) (farSide m x) ≡ true
         → Joint m (x .across) (lastOf b0 l) (x .corner) (farVertex m x) b b0
-    joint b b0 l e j =
+    joint {b} {b0} {l} e j =
         let s = top-sided m ok x rest z h f in
         let to : vertex (far m x) (after (farSide m x)) ≡ b = far-to m ok x _ s d ∙ ap (λ r. getD r 0 O) e in
         record {
@@ -115,7 +115,7 @@ module _ (m : Mesh) (ok : Accepted m) where
         (λ d n j. by-ring R (ring-long m ok x rest z h f)
         (λ b b0 l e.
         let q : P (z .taken ++ (x .across ∷ [])) (x .corner ∷ farVertex m x ∷ b ∷ b0 ∷ l) =
-        join (z .taken) (x .across) (x .corner) (farVertex m x) b b0 l (joint x rest z h f d b b0 l e j) (subst (λ r. P (z .taken) (x .corner ∷ r)) e from-top) in
+        join (z .taken) (x .across) (x .corner) (farVertex m x) b b0 l (joint x rest z h f d e j) (subst (λ r. P (z .taken) (x .corner ∷ r)) e from-top) in
         subst (P (z .taken ++ (x .across ∷ []))) (sym (whole-pushed x rest (far m x) (farSide m x) z))
         (rotated _ 2 _ (subst (λ r. P (z .taken ++ (x .across ∷ [])) (x .corner ∷ farVertex m x ∷ r)) (sym e) q))))
       where
@@ -123,15 +123,15 @@ module _ (m : Mesh) (ok : Accepted m) where
         R = ring rest (z .done)
 
         from-top : P (z .taken) (x .corner ∷ ring rest (z .done))
-        from-top = subst (P (z .taken)) (rotate-back 1 (x .corner ∷ R) (omega arith)) (rotated (z .taken) _ (rotate 1 (x .corner ∷ R)) (subst (P (z .taken)) (whole-top x rest z h) p))
+        from-top = subst (P (z .taken)) (rotate-back (x .corner ∷ R) (omega arith)) (rotated (z .taken) _ (rotate 1 (x .corner ∷ R)) (subst (P (z .taken)) (whole-top z h) p))
 
     -- P of each region: its triangles and its contour
     pub contour-keeps : (seen : List ℕ) (k : ℕ) → k < length m → P (region m seen k .taken) (map (λ c. c .point) (region m seen k .contour))
     unfolding startZ vertex
     contour-keeps seen k l =
         let z = zipped m seen k in
-        let e : whole z ≡ z .done = ap (λ p. ring p (z .done)) (zipped-ends m ok seen k l) ∙ append-nil (z .done) in
-        subst₂ P (sym (zipped-taken m ok seen k l)) (e ∙ sym (zipped-contour m ok seen k l)) (zipped-keeps m ok seen Has (step-keeps seen) k l (triangle k l))
+        let e : whole z ≡ z .done = ap (λ p. ring p (z .done)) (zipped-ends m ok seen l) ∙ append-nil (z .done) in
+        subst₂ P (sym (zipped-taken m ok seen k l)) (e ∙ sym (zipped-contour m ok seen k l)) (zipped-keeps m ok seen Has (step-keeps seen) l (triangle k l))
 
 -- what holds of each region holds of all
 module _ (m : Mesh) (Q : Region → Type 0) (q : (seen : List ℕ) (k : ℕ) → k < length m → Q (region m seen k)) where

@@ -335,30 +335,30 @@ module _ (m : Mesh) (ok : Accepted m) (seen : List ℕ) where
       (subst (Match r) (sym (growZ-done m seen n z (sym (t .pending-is) ∙ ap slotsOf e))) t)
 
   -- a step of both, where what follows keeps the match
-  both-step : (n f : ℕ) {r : Region} {z : Zipper} (t : Match r z) (s : Numbered) (ss : List Numbered) → t .slots ≡ s ∷ ss → (s .slot .across ≡ none → ⊥) → Fit m z → left m seen r ≤ f
+  both-step : (n f : ℕ) {r : Region} {z : Zipper} (t : Match r z) {s : Numbered} {ss : List Numbered} → t .slots ≡ s ∷ ss → (s .slot .across ≡ none → ⊥) → Fit m z → left m seen r ≤ f
       → ((f : ℕ) (q : Region) → left m seen q ≤ f → Match q (stepZ m seen (s .slot) (slotsOf ss) z) → Match (grow f m seen q) (growZ n m seen (stepZ m seen (s .slot) (slotsOf ss) z)))
       → Match (grow f m seen r) (growZ n m seen (stepZ m seen (s .slot) (slotsOf ss) z))
-  both-step n zero {r} {z} t s ss e d fit k again = absurd (omega (arith, ap length (top-edge m seen r z t s ss e d)))
-  both-step n (suc f) {r} {z} t s ss e d fit k again =
+  both-step n zero {r} {z} t {s} {ss} e d fit k again = absurd (omega (arith, ap length (top-edge m seen r z t s ss e d)))
+  both-step n (suc f) {r} {z} t {s} {ss} e d fit k again =
       let h = top-edge m seen r z t s ss e d in
-      subst (λ q. Match q (growZ n m seen (stepZ m seen (s .slot) (slotsOf ss) z))) (sym (grow-step f m seen _ _ r h))
+      subst (λ q. Match q (growZ n m seen (stepZ m seen (s .slot) (slotsOf ss) z))) (sym (grow-step f m seen r h))
       (again f _ (omega (arith, step-less m seen _ _ r h)) (match-step m seen r z t s ss e d fit))
 
-  grow-match : (n f : ℕ) {r : Region} {z : Zipper} → Fit m z → leftZ m seen z ≤ n → left m seen r ≤ f → Match r z → Match (grow f m seen r) (growZ n m seen z)
-  grow-match zero f {r} {z} fit l k t =
+  grow-match : (n : ℕ) {f : ℕ} {r : Region} {z : Zipper} → Fit m z → leftZ m seen z ≤ n → left m seen r ≤ f → Match r z → Match (grow f m seen r) (growZ n m seen z)
+  grow-match zero {f} {r} {z} fit l k t =
       by-slots t (match-done zero f t) (λ s ss e. absurd (omega (arith, ap length (pending-top m seen r z t s ss e))))
-  grow-match (suc n) f {r} {z} fit l k t =
+  grow-match (suc n) {f} {r} {z} fit l k t =
       by-slots t (match-done (suc n) f t)
       (λ s ss e.
       let y : Zipper = stepZ m seen (s .slot) (slotsOf ss) z in
       let h : z .pending ≡ s .slot ∷ slotsOf ss = pending-top m seen r z t s ss e in
-      let less : leftZ m seen y ≤ n = omega (arith, stepZ-less m ok seen (s .slot) (slotsOf ss) h fit) in
+      let less : leftZ m seen y ≤ n = omega (arith, stepZ-less m ok seen h fit) in
       let again : (f : ℕ) (q : Region) → left m seen q ≤ f → Match q y → Match (grow f m seen q) (growZ n m seen y) =
-      λ f q k u. grow-match n f (fit-step m ok (s .slot) (slotsOf ss) z h fit seen) less k u in
-      subst (Match (grow f m seen r)) (sym (growZ-step m seen n (s .slot) (slotsOf ss) z h))
+      λ f q k u. grow-match n (fit-step m ok (s .slot) (slotsOf ss) z h fit seen) less k u in
+      subst (Match (grow f m seen r)) (sym (growZ-step m seen n z h))
       (by-test (eqb (s .slot .across) none)
       (λ a. again f r k (match-idle m seen r z t s ss e (eqb-true (s .slot .across) none a)))
-      (λ a. both-step n f t s ss e (eqb-false (s .slot .across) none a) fit k again)))
+      (λ a. both-step n f t e (eqb-false (s .slot .across) none a) fit k again)))
 
   -- ---- the end
 
@@ -388,11 +388,11 @@ module _ (m : Mesh) (ok : Accepted m) (seen : List ℕ) where
 
     zipped-match : Match r z
     zipped-match =
-        grow-match (2 * length m + 3) (enough m)
-        (fit-start m ok k l) (startZ-left m seen k) (start-left m seen k) (match-start k)
+        grow-match (2 * length m + 3)
+        (fit-start m ok l) (startZ-left m seen k) (start-left m seen k) (match-start k)
 
     none-left : zipped-match .slots ≡ []
-    none-left = empty (zipped-match .slots) (zipped-match .pending-is ∙ zipped-ends m ok seen k l)
+    none-left = empty (zipped-match .slots) (zipped-match .pending-is ∙ zipped-ends m ok seen l)
       where
         empty : (l : List Numbered) → slotsOf l ≡ [] → l ≡ []
         empty [] e = refl
@@ -420,7 +420,7 @@ module _ (m : Mesh) (ok : Accepted m) (seen : List ℕ) where
 
     -- the zipper is the paper's region
     pub zipped-agrees : Agree r z
-    zipped-agrees = record { contour = zipped-contour; taken = zipped-taken; pending = zipped-ends m ok seen k l; from-last = zipped-from-last }
+    zipped-agrees = record { contour = zipped-contour; taken = zipped-taken; pending = zipped-ends m ok seen l; from-last = zipped-from-last }
 
 -- ---- all regions
 

@@ -59,8 +59,8 @@ module _ (cs : List (List ℤ)) where
       let e : j - i ≡ 0 = omega arith in
       ap (λ n. map cornerOf (take n (drop i cs))) e
 
-  between-next : (i j : ℕ) → i ≤ j → j < length cs → between cs i (j + 1) ≡ between cs i j ++ (cornerIn cs j ∷ [])
-  between-next i j h k =
+  between-next : {i j : ℕ} → i ≤ j → j < length cs → between cs i (j + 1) ≡ between cs i j ++ (cornerIn cs j ∷ [])
+  between-next {i} {j} h k =
       let l = drop i cs in
       let e : j + 1 - i ≡ suc (j - i) = omega arith in
       let f : i + (j - i) ≡ j = omega arith in
@@ -69,10 +69,10 @@ module _ (cs : List (List ℤ)) where
       ∙ map-append cornerOf (take (j - i) l) (getD cs j [] ∷ [])
 
   -- the same, by the place after the last
-  between-last : (i j : ℕ) → i < j → j ≤ length cs → between cs i j ≡ between cs i (j - 1) ++ (cornerIn cs (j - 1) ∷ [])
-  between-last i j h k =
+  between-last : {i j : ℕ} → i < j → j ≤ length cs → between cs i j ≡ between cs i (j - 1) ++ (cornerIn cs (j - 1) ∷ [])
+  between-last {i} {j} h k =
       let e : j ≡ j - 1 + 1 = omega arith in
-      ap (between cs i) e ∙ between-next i (j - 1) (omega arith) (omega arith)
+      ap (between cs i) e ∙ between-next {i = i} {j = j - 1} (omega arith) (omega arith)
 
 -- ---- the last corner of a list
 
@@ -88,8 +88,8 @@ last-snoc b l c = last-append b l (c ∷ [])
 -- ---- a point appended
 
 -- a point that stays, and one that does not
-pub kept-yes : (points : List (List ℤ)) (n : ℕ) (q : Pt) {t : Bool} {points′ : List (List ℤ)} → t ≡ true → n < length points → points′ ≡ set points n (pairOf q) → Appended (keptIf t q) points n points′ (n + 1)
-kept-yes points n q {points′ = points′} e h w = subst (λ b. Appended (keptIf b q) points n points′ (n + 1)) (sym e) (subst (λ r. Appended (q ∷ []) points n r (n + 1)) (sym w) (appended-one points n q h))
+pub kept-yes : (points : List (List ℤ)) {n : ℕ} (q : Pt) {t : Bool} {points′ : List (List ℤ)} → t ≡ true → n < length points → points′ ≡ set points n (pairOf q) → Appended (keptIf t q) points n points′ (n + 1)
+kept-yes points {n} q {points′ = points′} e h w = subst (λ b. Appended (keptIf b q) points n points′ (n + 1)) (sym e) (subst (λ r. Appended (q ∷ []) points n r (n + 1)) (sym w) (appended-one points q h))
 
 pub kept-no : (points : List (List ℤ)) (n : ℕ) (q : Pt) {t : Bool} → t ≡ false → Appended (keptIf t q) points n points n
 kept-no points n q e = subst (λ b. Appended (keptIf b q) points n points n) (sym e) (appended-none points n)
@@ -163,7 +163,7 @@ module _ (cs : List (List ℤ)) (i : ℕ) {points : List (List ℤ)} {r : Run} w
         omega (arith, n .0, n .1, length-between cs i k (omega (arith, h .within)), h .room)
 
     pub ran-next : (c : IntPoint) {points″ : List (List ℤ)} {t : Run} → point c ≡ cornerIn cs k → Ran (point c ∷ []) points′ s points″ t → Ran (between cs i (k + 1)) points r points″ t
-    ran-next c {points″} {t} e b = subst (λ l. Ran l points r points″ t) (ap (λ q. between cs i k ++ (q ∷ [])) e ∙ sym (between-next cs i k f (omega (arith, h .within)))) (ran-more a b)
+    ran-next c {points″} {t} e b = subst (λ l. Ran l points r points″ t) (ap (λ q. between cs i k ++ (q ∷ [])) e ∙ sym (between-next cs f (omega (arith, h .within)))) (ran-more a b)
 
 -- ---- corners of turn 0 are dropped
 
@@ -217,7 +217,7 @@ module _ (cs : List (List ℤ)) (p : Progress) (w : Whole cs p) where
   last-near : lastOf (first cs p) (near cs p) ≡ cornerIn cs (length cs - 1)
   unfolding lastOf
   last-near = by-test (ltb (p .last) (length cs))
-      (λ t. ap (lastOf (first cs p)) (between-last cs (p .last) (length cs) (ltb-true (p .last) (length cs) t) (omega arith)) ∙ last-snoc (first cs p) (between cs (p .last) (length cs - 1)) (cornerIn cs (length cs - 1)))
+      (λ t. ap (lastOf (first cs p)) (between-last cs (ltb-true (p .last) (length cs) t) (omega arith)) ∙ last-snoc (first cs p) (between cs (p .last) (length cs - 1)) (cornerIn cs (length cs - 1)))
       (λ t. let e : p .last ≡ length cs = omega (arith, w .ended, ltb-false (p .last) (length cs) t) in
       ap (lastOf (first cs p)) (between-none cs (p .last) (length cs) (omega arith)) ∙ ap (λ n. cornerIn cs (n - 1)) e)
 
@@ -227,7 +227,7 @@ module _ (cs : List (List ℤ)) (p : Progress) (w : Whole cs p) where
       let x = p .last - 1 in
       let b = lastOf (first cs p) (near cs p) in
       last-append (first cs p) (near cs p) (inner cs p) ∙ by-test (ltb (p .done) x)
-      (λ t. rw t (ap (lastOf b) (between-last cs (p .done) x (ltb-true (p .done) x t) (omega (arith, w .ended))) ∙ last-snoc b (between cs (p .done) (x - 1)) (cornerIn cs (x - 1))))
+      (λ t. rw t (ap (lastOf b) (between-last cs (ltb-true (p .done) x t) (omega (arith, w .ended))) ∙ last-snoc b (between cs (p .done) (x - 1)) (cornerIn cs (x - 1))))
       (λ t. rw t (ap (lastOf b) (between-none cs (p .done) x (ltb-false (p .done) x t)) ∙ last-near))
 
   pub before-below : {k : ℕ} → k ≡ placeBefore (length cs) (p .done) (p .last - 1) → k < length cs
@@ -237,7 +237,7 @@ module _ (cs : List (List ℤ)) (p : Progress) (w : Whole cs p) where
   kept-whole : withoutStraight (contourAt cs p) ≡ keptAlong (first cs p -ᵖ previous cs p) (first cs p) (near cs p ++ far cs p)
   kept-whole =
       ap withoutStraight contour-shape ∙ straight-along (first cs p) (near cs p ++ inner cs p)
-      ∙ ap (keptAlong (first cs p -ᵖ previous cs p) (first cs p)) (append-assoc (near cs p) (inner cs p) (first cs p ∷ []) ∙ ap (λ l. near cs p ++ l) (sym (between-last cs (p .done) (p .last) (w .placed) (w .ended))))
+      ∙ ap (keptAlong (first cs p -ᵖ previous cs p) (first cs p)) (append-assoc (near cs p) (inner cs p) (first cs p ∷ []) ∙ ap (λ l. near cs p ++ l) (sym (between-last cs (w .placed) (w .ended))))
 
   -- the two runs
   module _ {points points′ : List (List ℤ)} {r s : Run} (f : Ran (near cs p) points r points′ s) where

@@ -34,9 +34,9 @@ use Rattle.convex_gather.specs.Gather.{HandedOut}
 length-first : (points : List (List ℤ)) (i : ℕ) → i ≤ length points → length (firstPoints i points) ≡ i
 length-first points i h = length-map (take i points) cornerOf ∙ length-take-le i points h
 
-numbers-more : (points : List (List ℤ)) (i : ℕ) → i < length points → numbersOf (firstPoints (i + 1) points) ≡ numbersOf (firstPoints i points) ++ (cornerIn points i .x ∷ cornerIn points i .y ∷ [])
+numbers-more : (points : List (List ℤ)) {i : ℕ} → i < length points → numbersOf (firstPoints (i + 1) points) ≡ numbersOf (firstPoints i points) ++ (cornerIn points i .x ∷ cornerIn points i .y ∷ [])
 unfolding numbersOf
-numbers-more points i h =
+numbers-more points {i} h =
     ap (λ l. numbersOf (map cornerOf l)) (ap (λ n. take n points) (add-one i) ∙ take-suc points i [] h) ∙ ap numbersOf (map-append cornerOf (take i points) (getD points i [] ∷ []))
     ∙ numbers-append (firstPoints i points) (cornerIn points i ∷ [])
 
@@ -46,7 +46,7 @@ points-turn points to₀ i h k p e =
     let x = cornerIn points i .x in
     let y = cornerIn points i .y in
     let size : length n ≡ 2 * i = omega (arith, length-numbers (firstPoints i points), length-first points i (omega arith)) in
-    e ∙ overlay-two n to₀ x y p size (omega (arith, k, length-points to₀)) ∙ ap (λ l. overlay l to₀) (sym (numbers-more points i h))
+    e ∙ overlay-two n to₀ x y p size (omega (arith, k, length-points to₀)) ∙ ap (λ l. overlay l to₀) (sym (numbers-more points h))
 
 -- ---- faults of the room
 

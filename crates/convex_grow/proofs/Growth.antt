@@ -71,8 +71,8 @@ module _ (size : ℕ) (m : Mesh) (cs : List (List ℤ)) (es : List (List ℕ)) (
             grid-set 2 (c 2) (omega (arith, length-set (set cs 0 (c 0)) 1 (c 1), length-set cs 0 (c 0), s .corners))
             (grid-set 1 (c 1) (omega (arith, length-set cs 0 (c 0), s .corners)) (grid-set 0 (c 0) (omega (arith, s .corners)) (s .grid) (a .on-grid k 0 l)) (a .on-grid k 1 l)) (a .on-grid k 2 l);
         across =
-            across-set size (set (set es 0 (e 0)) 1 (e 1)) 2 (e 2) (omega (arith, length-set (set es 0 (e 0)) 1 (e 1), length-set es 0 (e 0), s .edges))
-            (across-set size (set es 0 (e 0)) 1 (e 1) (omega (arith, length-set es 0 (e 0), s .edges)) (across-set size es 0 (e 0) (omega (arith, s .edges)) (s .across) (a .in-mesh k (before 0) l (after-side (after 0)))) (a .in-mesh k (before 1) l (after-side (after 1)))) (a .in-mesh k (before 2) l (after-side (after 2)));
+            across-set (set (set es 0 (e 0)) 1 (e 1)) 2 (e 2) (omega (arith, length-set (set es 0 (e 0)) 1 (e 1), length-set es 0 (e 0), s .edges))
+            (across-set (set es 0 (e 0)) 1 (e 1) (omega (arith, length-set es 0 (e 0), s .edges)) (across-set es 0 (e 0) (omega (arith, s .edges)) (s .across) (a .in-mesh k (before 0) l (after-side (after 0)))) (a .in-mesh k (before 1) l (after-side (after 1)))) (a .in-mesh k (before 2) l (after-side (after 2)));
       }
 
   sound : Sound size m cs′ es′ (set flags k true) p
@@ -104,7 +104,7 @@ module _ (size : ℕ) (m : Mesh) (cs : List (List ℤ)) (es : List (List ℕ)) (
     done = ap (map cornerOf) (sym (drop-of-length-le cs′ {i = size} (omega (arith, length-three cs (c 0) (c 1) (c 2), s .corners))));
     fresh = λ e. refl;
     last = λ e. differ (sym e);
-    taken = marked-set k (omega (arith, s .marks)) h;
+    taken = marked-set {k = k} (omega (arith, s .marks)) h;
   }
 
   pub started : Started size m k flags cs′ es′ (set flags k true) p
@@ -133,9 +133,9 @@ module _ {size : ℕ} {m : Mesh} {cs : List (List ℤ)} {es : List (List ℕ)} {
 
 -- ---- steps until nothing is pending
 
-grow-turn : (n : ℕ) (m : Mesh) (seen : List ℕ) (z : Zipper) (x : Slot) (rest : List Slot) → z .pending ≡ x ∷ rest → growZ (suc n) m seen z ≡ growZ n m seen (stepZ m seen x rest z)
+grow-turn : (n : ℕ) (m : Mesh) (seen : List ℕ) (z : Zipper) {x : Slot} {rest : List Slot} → z .pending ≡ x ∷ rest → growZ (suc n) m seen z ≡ growZ n m seen (stepZ m seen x rest z)
 unfolding growZ
-grow-turn n m seen z x rest h = ap (λ l. elim l [ [] ↦ z | x ∷ rest ↦ growZ n m seen (stepZ m seen x rest z) ]) h
+grow-turn n m seen z h = ap (λ l. elim l [ [] ↦ z | x ∷ rest ↦ growZ n m seen (stepZ m seen x rest z) ]) h
 
 grow-end : (n : ℕ) (m : Mesh) (seen : List ℕ) (z : Zipper) → z .pending ≡ [] → growZ n m seen z ≡ z
 unfolding growZ
@@ -178,7 +178,7 @@ module _ (size : ℕ) (m : Mesh) (cs₀ : List (List ℤ)) (es₀ : List (List �
             n = o .n - 1;
             holds = t .holds seen (o .z) (o .holds);
             enough = omega (arith, o .enough, t .less);
-            same = o .same ∙ ap (λ i. growZ i m seen (o .z)) n ∙ grow-turn (o .n - 1) m seen (o .z) (slotAt cs es (p .pending - 1)) (pendingOf cs es (p .pending - 1)) (o .holds .pending ∙ pending-cons cs es (p .pending) some);
+            same = o .same ∙ ap (λ i. growZ i m seen (o .z)) n ∙ grow-turn (o .n - 1) m seen (o .z) (o .holds .pending ∙ pending-cons cs es some);
           }
 
   pub going-end : {cs : List (List ℤ)} {es : List (List ℕ)} {flags : List Bool} {p : Progress} → p .pending ≡ 0 → Going size m cs₀ es₀ flags₀ p₀ cs es flags p → Ran size m cs₀ es₀ flags₀ p₀ cs es flags p

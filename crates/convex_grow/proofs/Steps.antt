@@ -46,8 +46,8 @@ or-true true e = refl
 or-true false e = sym e
 
 -- k is marked, and is put to the list
-pub marked-set : {flags : List Bool} {l : List ℕ} (k : ℕ) → k < length flags → Marked flags l → Marked (set flags k true) (l ++ (k ∷ []))
-marked-set {flags} {l} k h m = record { at = at }
+pub marked-set : {flags : List Bool} {l : List ℕ} {k : ℕ} → k < length flags → Marked flags l → Marked (set flags k true) (l ++ (k ∷ []))
+marked-set {flags} {l} {k} h m = record { at = at }
   where
     whole : (j : ℕ) → isIn j (l ++ (k ∷ [])) ≡ cond (isIn j l) true (eqb k j)
     whole j = isIn-append j l (k ∷ []) ∙ ap (λ t. cond (isIn j l) true t) (isIn-one j k)
@@ -61,33 +61,33 @@ marked-set {flags} {l} k h m = record { at = at }
 -- ---- stores
 
 -- what holds of every element, and of the one stored
-set-all : {A : Type 0} (P : A → Type 0) (l : List A) (i : ℕ) {a : A} (d : A) → i < length l → ((j : ℕ) → P (getD l j d)) → P a → (j : ℕ) → P (getD (set l i a) j d)
-set-all P l i {a} d h f g j =
+set-all : {A : Type 0} (P : A → Type 0) (l : List A) {i : ℕ} {a : A} (d : A) → i < length l → ((j : ℕ) → P (getD l j d)) → P a → (j : ℕ) → P (getD (set l i a) j d)
+set-all P l {i} {a} d h f g j =
     by-test (eqb i j)
     (λ e. subst P (sym (ap (λ k. getD (set l i a) k d) (sym (eqb-true i j e)) ∙ getD-set-same l i a d h)) g)
     (λ e. subst P (sym (getD-set-other l i j a d (λ q. eqb-false i j e (sym q)))) (f j))
 
 pub grid-set : {cs : List (List ℤ)} (i : ℕ) (c : List ℤ) → i < length cs → Grid cs → onGrid (cornerOf c) ≡ true → Grid (set cs i c)
-grid-set {cs} i c h g e = record { at = set-all (λ r. onGrid (cornerOf r) ≡ true) cs i [] h (g .at) e }
+grid-set {cs} i c h g e = record { at = set-all (λ r. onGrid (cornerOf r) ≡ true) cs [] h (g .at) e }
 
 abbrev Within : ℕ → List ℕ → Type 0
 Within count e = (getD e 1 0 ≡ none → ⊥) → getD e 1 0 < count
 
-pub across-set : (size : ℕ) {count : ℕ} (es : List (List ℕ)) (i : ℕ) (e : List ℕ) → size ≤ length es → ((j : ℕ) → j < size → 0 < count → Within count (getD es j [])) → Within count e → (j : ℕ) → j < size → 0 < count → Within count (getD (set es i e) j [])
-across-set size {count} es i e h f g j k some =
+pub across-set : {size : ℕ} {count : ℕ} (es : List (List ℕ)) (i : ℕ) (e : List ℕ) → size ≤ length es → ((j : ℕ) → j < size → 0 < count → Within count (getD es j [])) → Within count e → (j : ℕ) → j < size → 0 < count → Within count (getD (set es i e) j [])
+across-set {count} es i e h f g j k some =
     by-test (eqb i j)
     (λ q. subst (Within count) (sym (ap (λ n. getD (set es n e) j []) (eqb-true i j q) ∙ getD-set-same es j e [] (omega arith))) g)
     (λ q. subst (Within count) (sym (getD-set-other es i j e [] (λ n. eqb-false i j q (sym n)))) (f j k some))
 
 -- ---- the three tests: no neighbour, taken, joins
 
-stays : {Z : Type 0} (t1 t2 t2′ t3 : Bool) (a : ℕ) (mv ps : Z) → (t1 ≡ false → t2 ≡ t2′) → (t1 ≡ false → a ≡ none → ⊥) → cond t1 none (cond t2 none (cond t3 a none)) ≡ none → cond t1 mv (cond t2′ mv (cond t3 ps mv)) ≡ mv
-stays true t2 t2′ t3 a mv ps s n h = refl
-stays false true true t3 a mv ps s n h = refl
-stays false true false t3 a mv ps s n h = differ (sym (s refl))
-stays false false true t3 a mv ps s n h = differ (s refl)
-stays false false false false a mv ps s n h = refl
-stays false false false true a mv ps s n h = absurd (n refl h)
+stays : {Z : Type 0} (t1 t2 t2′ t3 : Bool) {a : ℕ} (mv ps : Z) → (t1 ≡ false → t2 ≡ t2′) → (t1 ≡ false → a ≡ none → ⊥) → cond t1 none (cond t2 none (cond t3 a none)) ≡ none → cond t1 mv (cond t2′ mv (cond t3 ps mv)) ≡ mv
+stays true t2 t2′ t3 mv ps s n h = refl
+stays false true true t3 mv ps s n h = refl
+stays false true false t3 mv ps s n h = differ (sym (s refl))
+stays false false true t3 mv ps s n h = differ (s refl)
+stays false false false false mv ps s n h = refl
+stays false false false true mv ps s n h = absurd (n refl h)
 
 goes : {Z : Type 0} (t1 t2 t2′ t3 : Bool) (a : ℕ) (mv ps : Z) → (t1 ≡ false → t2 ≡ t2′) → (cond t1 none (cond t2 none (cond t3 a none)) ≡ none → ⊥) → cond t1 mv (cond t2′ mv (cond t3 ps mv)) ≡ ps
 goes true t2 t2′ t3 a mv ps s h = absurd (h refl)
@@ -105,9 +105,9 @@ found false false true a h = (refl, (refl, refl))
 
 -- the place of the last corner added, of n done from d on: right before l, whether it is done now
 -- or was before
-last-moved : (t : Bool) {size : ℕ} (n zl d l : ℕ) → n + d ≡ size → (t ≡ true → l ≡ d) → (t ≡ false → zl + l ≡ size + 1) → cond t (suc n) zl + l ≡ size + 1
-last-moved true n zl d l h f g = omega (arith, f refl)
-last-moved false n zl d l h f g = g refl
+last-moved : (t : Bool) {size : ℕ} (n zl : ℕ) {d l : ℕ} → n + d ≡ size → (t ≡ true → l ≡ d) → (t ≡ false → zl + l ≡ size + 1) → cond t (suc n) zl + l ≡ size + 1
+last-moved true n zl h f g = omega (arith, f refl)
+last-moved false n zl h f g = g refl
 
 -- ---- a step
 
@@ -149,7 +149,7 @@ module _ (size : ℕ) (m : Mesh) (cs : List (List ℤ)) (es : List (List ℕ)) (
 
     step-stays : chosen m flags x r ≡ none → stepZ m seen x rest z ≡ moved x rest z
     unfolding chosen
-    step-stays e = by-ring ∙ stays (eqb (x .across) none) (getD flags (x .across) false) (isIn (x .across) (seen ++ z .taken)) (joinsZ x r u v) (x .across) (moved x rest z) (pushed x rest u v z) same-flag (eqb-false (x .across) none) e
+    step-stays e = by-ring ∙ stays (eqb (x .across) none) (getD flags (x .across) false) (isIn (x .across) (seen ++ z .taken)) (joinsZ x r u v) (moved x rest z) (pushed x rest u v z) same-flag (eqb-false (x .across) none) e
 
     step-goes : (chosen m flags x r ≡ none → ⊥) → stepZ m seen x rest z ≡ pushed x rest u v z
     unfolding chosen
@@ -186,7 +186,7 @@ module _ (size : ℕ) (m : Mesh) (cs : List (List ℤ)) (es : List (List ℕ)) (
     pending = sym (pending-set-corner cs es (p .pending - 1) (p .done - 1) top (omega (arith, s .room)));
     done = ap (λ l. x .corner ∷ l) (h .done) ∙ sym (done-move cs (p .done) top (omega (arith, s .room)) (omega (arith, s .whole, s .ready .corners)));
     fresh = λ e. differ e;
-    last = λ e. last-moved (z .fresh) (length (z .done)) (z .last) (p .done) (p .last) (omega (arith, ap length (h .done), length-done cs (p .done), s .ready .corners, s .whole)) (h .fresh) (h .last);
+    last = λ e. last-moved (z .fresh) (length (z .done)) (z .last) (omega (arith, ap length (h .done), length-done cs (p .done), s .ready .corners, s .whole)) (h .fresh) (h .last);
     taken = h .taken;
   }
 
@@ -237,8 +237,8 @@ module _ (size : ℕ) (m : Mesh) (cs : List (List ℤ)) (es : List (List ℕ)) (
             marks = length-set flags (x .across) true ∙ s .ready .marks;
             grid = grid-set (p .pending) (pairOf (vertex u v)) (omega (arith, s .ready .corners, s .room, s .whole, free-less)) (s .ready .grid) (a .on-grid (x .across) v l);
             across =
-                across-set size (set es (p .pending - 1) first) (p .pending) second (omega (arith, length-set es (p .pending - 1) first, s .ready .edges, s .room, s .whole, free-less))
-                (across-set size es (p .pending - 1) first (omega (arith, s .ready .edges, s .room, s .whole)) (s .ready .across) (a .in-mesh (x .across) (after v) l (after-side v)))
+                across-set (set es (p .pending - 1) first) (p .pending) second (omega (arith, length-set es (p .pending - 1) first, s .ready .edges, s .room, s .whole, free-less))
+                (across-set es (p .pending - 1) first (omega (arith, s .ready .edges, s .room, s .whole)) (s .ready .across) (a .in-mesh (x .across) (after v) l (after-side v)))
                 (a .in-mesh (x .across) (before v) l (after-side (after v)));
           };
           meshed = s .meshed;
@@ -257,7 +257,7 @@ module _ (size : ℕ) (m : Mesh) (cs : List (List ℤ)) (es : List (List ℕ)) (
         pending-more cs′ es′ n
         ∙ ap₂ _∷_
         (slot-eq (getD-set-same cs n (pairOf (vertex u v)) [] (omega (arith, s .ready .corners, s .room, s .whole, free-less))) (getD-set-same es1 n second [] (omega (arith, length-set es (n - 1) first, s .ready .edges, s .room, s .whole, free-less))))
-        (pending-cons cs′ es′ n some
+        (pending-cons cs′ es′ some
         ∙ ap₂ _∷_
         (slot-eq (getD-set-other cs n (n - 1) (pairOf (vertex u v)) [] (λ e. omega arith)) (getD-set-other es1 n (n - 1) second [] (λ e. omega arith) ∙ getD-set-same es (n - 1) first [] (omega (arith, s .ready .edges, s .room, s .whole))))
         (pending-set-edge cs′ es1 (n - 1) n second (omega arith) ∙ pending-set-edge cs′ es (n - 1) (n - 1) first (omega arith) ∙ pending-set-corner cs es (n - 1) n (pairOf (vertex u v)) (omega arith)))
@@ -272,7 +272,7 @@ module _ (size : ℕ) (m : Mesh) (cs : List (List ℤ)) (es : List (List ℕ)) (
       done = h .done ∙ sym (done-set cs (p .done) (p .pending) (pairOf (vertex u v)) (omega (arith, s .room, free-less)));
       fresh = λ e. refl;
       last = λ e. differ (sym e);
-      taken = subst (Marked (set flags (x .across) true)) (append-assoc seen (z .taken) (x .across ∷ [])) (marked-set (x .across) (in-mesh across-some) (h .taken));
+      taken = subst (Marked (set flags (x .across) true)) (append-assoc seen (z .taken) (x .across ∷ [])) (marked-set (in-mesh across-some) (h .taken));
     }
 
     push-step : Stepped size m cs es flags p cs′ es′ (set flags (x .across) true) (pushedBy p)

@@ -67,21 +67,21 @@ way-on = ringᵖ (pt ∷ pt ∷ pt ∷ []) (λ c p q. (q -E p) +E (p -E c) :≡�
 
 -- from c round E: p is the corner after the edges a ∷ A, and r are the corners after p
 module _ (c : Pt) (E : List Pt) (k : Convex E) where
-  next-left : (a : Pt) (A : List Pt) (p q : Pt) (r : List Pt) → Split Lt E (a ∷ A) ((q -ᵖ p) ∷ steps q (r ++ (c ∷ []))) → sumᵖ (a ∷ A) ≡ p -ᵖ c → Left c p q
+  next-left : {a : Pt} {A : List Pt} (p q : Pt) (r : List Pt) → Split Lt E (a ∷ A) ((q -ᵖ p) ∷ steps q (r ++ (c ∷ []))) → sumᵖ (a ∷ A) ≡ p -ᵖ c → Left c p q
   unfolding links
-  next-left a A p q [] s e = pos-is (seen-edge c p q) (subst (λ v. pos 0 <ℤ cross v (q -ᵖ p)) e (left-strictly k s))
-  next-left a A p q (x ∷ r) s e = pos-is (seen-edge c p q) (subst (λ v. pos 0 <ℤ cross v (q -ᵖ p)) e (left-strictly k s))
+  next-left p q [] s e = pos-is (seen-edge c p q) (subst (λ v. pos 0 <ℤ cross v (q -ᵖ p)) e (left-strictly k s))
+  next-left p q (x ∷ r) s e = pos-is (seen-edge c p q) (subst (λ v. pos 0 <ℤ cross v (q -ᵖ p)) e (left-strictly k s))
 
   -- in the upper half, ascending
-  ascends-from : (a : Pt) (A : List Pt) (p : Pt) (r : List Pt) → Split Lt E (a ∷ A) (steps p (r ++ (c ∷ []))) → sumᵖ (a ∷ A) ≡ p -ᵖ c
+  ascends-from : {a : Pt} {A : List Pt} (p : Pt) (r : List Pt) → Split Lt E (a ∷ A) (steps p (r ++ (c ∷ []))) → sumᵖ (a ∷ A) ≡ p -ᵖ c
       → All (λ q. Up (q -ᵖ c)) (p ∷ r) × Sorted (Left c) (p ∷ r)
   unfolding links
-  ascends-from a A p [] s e = ((subst Up e (up-corner k (split-le s)), tt), (tt, tt))
-  ascends-from a A p (q ∷ r) s e =
+  ascends-from p [] s e = ((subst Up e (up-corner k (split-le s)), tt), (tt, tt))
+  ascends-from {a} {A} p (q ∷ r) s e =
       let on : sumᵖ ((q -ᵖ p) ∷ a ∷ A) ≡ q -ᵖ c = sum-cons (q -ᵖ p) (a ∷ A) ∙ ap (λ v. (q -ᵖ p) +ᵖ v) e ∙ way-on c p q in
-      let i = ascends-from (q -ᵖ p) (a ∷ A) q r (split-next s) on in
+      let i = ascends-from q r (split-next s) on in
       let u : Up (p -ᵖ c) = subst Up e (up-corner k (split-le s)) in
-      let h : Left c p q = next-left a A p q r s e in
+      let h : Left c p q = next-left p q r s e in
       ((u, i .0), ((h, all-map2 r (λ x v g. up-trans-< u (i .0 .0) v h g) (i .0 .1) (i .1 .0)), i .1))
 
 -- each turn of the way from a over b, as a bend
@@ -101,7 +101,7 @@ unfolding edges neighbours links
 from-least c p r k s =
     let E : List Pt = edges (c ∷ p ∷ r) in
     let one : sumᵖ ((p -ᵖ c) ∷ []) ≡ p -ᵖ c = sum-cons (p -ᵖ c) [] ∙ (unfold sumᵖ in +ᵖ-zero (p -ᵖ c)) in
-    ascends-from c E k (p -ᵖ c) [] p r (split-next (split-start s)) one .1
+    ascends-from c E k p r (split-next (split-start s)) one .1
 
 -- the others ascend and bend to the left
 least-triples : (c : Pt) (l : List Pt) → Convex (edges (c ∷ l)) → Sorted Lt (edges (c ∷ l)) → Triples (c ∷ l)
@@ -121,11 +121,11 @@ convex-triples (p ∷ t) h =
     let s : ℕ = leastAt l in
     let k : s < length l = least-is l (omega arith) .inside in
     let least = least-all l (omega arith) in
-    let at : rotate s l ≡ cornerAt l s ∷ (drop (suc s) l ++ take s l) = rotate-at s l O k in
+    let at : rotate s l ≡ cornerAt l s ∷ (drop (suc s) l ++ take s l) = rotate-at l O k in
     let c : Convex (edges (rotate s l)) = subst Convex (sharp-live-on l h s k least) (outline-on l s k least (sharp-round l h) .convex) in
     let w : Triples (cornerAt l s ∷ (drop (suc s) l ++ take s l)) =
     least-triples (cornerAt l s) (drop (suc s) l ++ take s l) (subst (λ r. Convex (edges r)) at c) (subst (λ r. Sorted Lt (edges r)) at (sharp-ascends l h s k least)) in
-    subst Triples (rotate-back s l (omega arith)) (triples-rotate (length l - s) (rotate s l) (subst Triples (sym at) w))
+    subst Triples (rotate-back l (omega arith)) (triples-rotate (length l - s) (rotate s l) (subst Triples (sym at) w))
 
 -- joining's words and demand 3's are the same tests
 pub convex-test : {l : List Pt} → StrictlyConvex l → strictlyConvex l ≡ true
@@ -136,8 +136,8 @@ pub test-convex : (l : List Pt) → strictlyConvex l ≡ true → StrictlyConvex
 unfolding left descent
 test-convex l h = record { left = all-pass left (turns l) (sharp-counts l h .0); once = sym (count-sum descent (turns l)) ∙ sharp-counts l h .1 }
 
-pub convex-polygon : (l : List Pt) → StrictlyConvex l → Polygon l
-convex-polygon l s = record { long = convex-three l s; triples = convex-triples l (convex-test s) }
+pub convex-polygon : {l : List Pt} → StrictlyConvex l → Polygon l
+convex-polygon {l} s = record { long = convex-three l s; triples = convex-triples l (convex-test s) }
 
 -- ---- the doubled area
 

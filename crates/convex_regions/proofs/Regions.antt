@@ -127,11 +127,11 @@ unfolding startsOf startsFrom
 first-start [] h e = absurd (omega arith)
 first-start (s ∷ l) h e = ap (λ n. n ∷ []) e
 
-regions-turn : (m : Mesh) (seen : List ℕ) (k : ℕ) → k < length m → regionsZ m seen (drop k (upTo (length m))) ≡ cond (isIn k seen) (regionsZ m seen (drop (k + 1) (upTo (length m)))) (zipped m seen k ∷ regionsZ m (seen ++ zipped m seen k .taken) (drop (k + 1) (upTo (length m))))
+regions-turn : (m : Mesh) (seen : List ℕ) {k : ℕ} → k < length m → regionsZ m seen (drop k (upTo (length m))) ≡ cond (isIn k seen) (regionsZ m seen (drop (k + 1) (upTo (length m)))) (zipped m seen k ∷ regionsZ m (seen ++ zipped m seen k .taken) (drop (k + 1) (upTo (length m))))
 unfolding regionsZ
-regions-turn m seen k h =
+regions-turn m seen {k} h =
     let d : drop k (upTo (length m)) ≡ k ∷ drop (k + 1) (upTo (length m)) =
-    drop-cons (upTo (length m)) k 0 (omega (arith, length-upTo (length m))) ∙ ap₂ _∷_ (getD-upTo (length m) k 0 h) (ap (λ n. drop n (upTo (length m))) (sym (add-one k))) in
+    drop-cons (upTo (length m)) k 0 (omega (arith, length-upTo (length m))) ∙ ap₂ _∷_ (getD-upTo (length m) 0 h) (ap (λ n. drop n (upTo (length m))) (sym (add-one k))) in
     ap (regionsZ m seen) d
 
 next-same : (b : Bool) (ps : List (List Pt)) (z : Zipper) (F : List ℕ → List Zipper) (s s′ : List ℕ) → cond b ps (ps ++ (contourZ z ∷ [])) ++ map contourZ (F (cond b s s′)) ≡ ps ++ map contourZ (cond b (F s) (z ∷ F s′))
@@ -174,7 +174,7 @@ module _ (size starts-size points-size : ℕ) (m : Mesh) where
         ps = partsNext m (v .seen) k (v .ps);
         marked = w .marked (v .seen) (v .marked);
         gathered = w .gathered (v .seen) (v .ps) (v .marked) (v .gathered);
-        rest = next-same (isIn k (v .seen)) (v .ps) z (λ s. regionsZ m s d) (v .seen) (v .seen ++ z .taken) ∙ ap (λ r. v .ps ++ map contourZ r) (sym (regions-turn m (v .seen) k l)) ∙ v .rest;
+        rest = next-same (isIn k (v .seen)) (v .ps) z (λ s. regionsZ m s d) (v .seen) (v .seen ++ z .taken) ∙ ap (λ r. v .ps ++ map contourZ r) (sym (regions-turn m (v .seen) l)) ∙ v .rest;
       }
 
   pub visiting-end : {cs : List (List ℤ)} {es : List (List ℕ)} {flags : List Bool} {starts : List ℕ} {points : List (List ℤ)} {t : Tally} {k : ℕ} → length m ≤ k → Visiting size starts-size points-size m cs es flags starts points t k → Gathered starts points t (parts m) × (t .parts ≤ length m) × (t .corners ≤ 3 * length m)

@@ -28,8 +28,8 @@ module _ (cs : List (List ℤ)) (es : List (List ℕ)) where
   unfolding pendingOf
   pending-suc n = refl
 
-  pub pending-cons : (n : ℕ) → 0 < n → pendingOf cs es n ≡ slotAt cs es (n - 1) ∷ pendingOf cs es (n - 1)
-  pending-cons n h = let e : n ≡ suc (n - 1) = omega arith in ap (pendingOf cs es) e ∙ pending-suc (n - 1)
+  pub pending-cons : {n : ℕ} → 0 < n → pendingOf cs es n ≡ slotAt cs es (n - 1) ∷ pendingOf cs es (n - 1)
+  pending-cons {n} h = let e : n ≡ suc (n - 1) = omega arith in ap (pendingOf cs es) e ∙ pending-suc (n - 1)
 
   pub pending-more : (n : ℕ) → pendingOf cs es (n + 1) ≡ slotAt cs es n ∷ pendingOf cs es n
   pending-more n = ap (pendingOf cs es) (add-one n) ∙ pending-suc n
@@ -80,9 +80,9 @@ module _ (cs : List (List ℤ)) where
 
   -- ---- round the contour
 
-  pub length-around : (n d : ℕ) → n ≤ length cs → length (around cs n d) ≡ (length cs - d) + (n - 1)
+  pub length-around : {n : ℕ} (d : ℕ) → n ≤ length cs → length (around cs n d) ≡ (length cs - d) + (n - 1)
   unfolding around
-  length-around n d h =
+  length-around {n} d h =
       length-map (drop d cs ++ take (n - 1) cs) cornerOf ∙ length-append (drop d cs) (take (n - 1) cs) ∙ ap₂ _+_ (length-drop d cs) (length-take-le (n - 1) cs (omega arith))
 
   read : (n d i : ℕ) → getD (around cs n d) i O ≡ cornerOf (getD (drop d cs ++ take (n - 1) cs) i [])
@@ -92,19 +92,19 @@ module _ (cs : List (List ℤ)) where
   pub around-at : (n d i : ℕ) → d + i < length cs → getD (around cs n d) i O ≡ cornerIn cs (d + i)
   around-at n d i h = read n d i ∙ ap cornerOf (List·getD-append (drop d cs) (take (n - 1) cs) [] i (omega (arith, length-drop d cs)) ∙ getD-drop d cs i [])
 
-  pub around-past : (n d i j : ℕ) → d ≤ length cs → j + length cs ≡ d + i → j < n - 1 → getD (around cs n d) i O ≡ cornerIn cs j
-  around-past n d i j h e k =
+  pub around-past : (n : ℕ) {d : ℕ} (i j : ℕ) → d ≤ length cs → j + length cs ≡ d + i → j < n - 1 → getD (around cs n d) i O ≡ cornerIn cs j
+  around-past n {d} i j h e k =
       read n d i
       ∙ ap cornerOf
       (ap (λ q. getD (drop d cs ++ take (n - 1) cs) q []) (omega (arith, length-drop d cs, e)) ∙ getD-append-add (drop d cs) (take (n - 1) cs) j [] ∙ getD-take (n - 1) cs j [] k)
 
   -- the last: below the top, or the end of those done
-  pub around-end-pending : (n d : ℕ) → 1 < n → n ≤ length cs → d ≤ length cs → getD (around cs n d) (length (around cs n d) - 1) O ≡ cornerIn cs (n - 2)
-  around-end-pending n d h k l = around-past n d (length (around cs n d) - 1) (n - 2) l (omega (arith, length-around n d k)) (omega arith)
+  pub around-end-pending : {n d : ℕ} → 1 < n → n ≤ length cs → d ≤ length cs → getD (around cs n d) (length (around cs n d) - 1) O ≡ cornerIn cs (n - 2)
+  around-end-pending {n} {d} h k l = around-past n (length (around cs n d) - 1) (n - 2) l (omega (arith, length-around d k)) (omega arith)
 
   pub around-end-done : {n : ℕ} (d : ℕ) → n ≡ 1 → n ≤ length cs → d < length cs → getD (around cs n d) (length (around cs n d) - 1) O ≡ cornerIn cs (length cs - 1)
   around-end-done {n} d h k l =
-      around-at n d (length (around cs n d) - 1) (omega (arith, length-around n d k)) ∙ ap (cornerIn cs) (omega (arith, length-around n d k))
+      around-at n d (length (around cs n d) - 1) (omega (arith, length-around d k)) ∙ ap (cornerIn cs) (omega (arith, length-around d k))
 
 -- ---- what `Around` gives
 
@@ -112,11 +112,11 @@ module _ (cs : List (List ℤ)) (n d : ℕ) (a : Around cs n d) where
   pub around-near : (i : ℕ) → d + i < length cs → getD (around cs n d) i O ≡ cornerIn cs (d + i)
   around-near i h = around-at cs n d i h
 
-  pub around-far : (i : ℕ) → i < 2 → length cs ≤ d + i → getD (around cs n d) i O ≡ cornerIn cs (d + i - length cs)
-  around-far i h k = around-past cs n d i (d + i - length cs) (a .whole) (omega arith) (omega (arith, a .three))
+  pub around-far : {i : ℕ} → i < 2 → length cs ≤ d + i → getD (around cs n d) i O ≡ cornerIn cs (d + i - length cs)
+  around-far {i} h k = around-past cs n i (d + i - length cs) (a .whole) (omega arith) (omega (arith, a .three))
 
   pub around-below : 1 < n → getD (around cs n d) (length (around cs n d) - 1) O ≡ cornerIn cs (n - 2)
-  around-below h = around-end-pending cs n d h (omega (arith, a .room, a .whole)) (a .whole)
+  around-below h = around-end-pending cs h (omega (arith, a .room, a .whole)) (a .whole)
 
   pub around-back : n ≤ 1 → getD (around cs n d) (length (around cs n d) - 1) O ≡ cornerIn cs (length cs - 1)
   around-back h = around-end-done cs d (omega (arith, a .some)) (omega (arith, a .room, a .whole)) (omega (arith, a .three))

@@ -18,6 +18,6 @@ module _ (from : List ℤ) (at : ℕ) (out₀ : List ℤ) where
   copied-next {i} {out} {v} h k e c = record {
     size = length-set out (2 * at + i) v ∙ c .size;
     written = λ front old f o.
-        copy-turn-past front from old i (pos 0) (omega (arith, f)) h
+        copy-turn-past front from old (pos 0) (omega (arith, f)) h
         (omega (arith, k, f, ap length (o ∙ overlay-eq front old), length-append front (drop (length front) old), length-drop (length front) old)) (c .written front old f o) e;
   }

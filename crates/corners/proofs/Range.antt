@@ -55,9 +55,9 @@ off-slice a b l h = off-drop a (take b l) (off-take b l h)
 -- ---- corners
 
 -- corner k is made of the numbers at 2k and 2k + 1
-pub range-on-grid : (l : List ℤ) (k : ℕ) → offRange l ≡ false → k < length (pointsOf l) → onGrid (getD (pointsOf l) k O) ≡ true
+pub range-on-grid : (l : List ℤ) {k : ℕ} → offRange l ≡ false → k < length (pointsOf l) → onGrid (getD (pointsOf l) k O) ≡ true
 unfolding onGrid
-range-on-grid l k e h =
+range-on-grid l {k} e h =
     let inside : 2 * k + 1 < length l = omega (arith, length-points l) in
     let x = all-getD (λ z. inRange z ≡ true) l (pos 0) (in-range-all l e) (2 * k) (omega arith) in
     let y = all-getD (λ z. inRange z ≡ true) l (pos 0) (in-range-all l e) (2 * k + 1) inside in

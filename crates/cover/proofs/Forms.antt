@@ -47,19 +47,19 @@ sized (pos k) = record { n = pos 1; above = omega zarith; more = omega (zarith, 
 sized (negsuc k) = record { n = pos (suc (suc k)); above = omega zarith; more = omega (zarith, add-parts (pos (suc (suc k))) (negsuc k)) }
 
 -- a number past a sum is past both
-first : (a b m : ℤ) → pos 0 <ℤ b → (a +ℤ b) ≤ℤ m → a ≤ℤ m
-first a b m h k = omega (zarith, add-parts a b)
+first : {a b m : ℤ} → pos 0 <ℤ b → (a +ℤ b) ≤ℤ m → a ≤ℤ m
+first {a} {b} h k = omega (zarith, add-parts a b)
 
-second : (a b m : ℤ) → pos 0 <ℤ a → (a +ℤ b) ≤ℤ m → b ≤ℤ m
-second a b m h k = omega (zarith, add-parts a b)
+second : {a b m : ℤ} → pos 0 <ℤ a → (a +ℤ b) ≤ℤ m → b ≤ℤ m
+second {a} {b} h k = omega (zarith, add-parts a b)
 
-less-one : (x : ℤ) → pos 0 <ℤ x → pos 0 ≤ℤ (x -ℤ pos 1)
-less-one x h = omega (zarith, sub-parts x (pos 1))
+less-one : {x : ℤ} → pos 0 <ℤ x → pos 0 ≤ℤ (x -ℤ pos 1)
+less-one {x} h = omega (zarith, sub-parts x (pos 1))
 
 -- m x + y = m (x - 1) + (m - n) + (n + y)
-enough : (m n x y : ℤ) → pos 0 <ℤ n → n ≤ℤ m → pos 0 <ℤ x → pos 0 <ℤ (n +ℤ y) → pos 0 <ℤ (m *ℤ x +ℤ y)
-enough m n x y hn h hx hy =
-    pos-is (apart m n x y) (pos-add hy (nn-add (sub-of-≤ h) (nn-mul (≤-trans (<-≤ hn) h) (less-one x hx))))
+enough : {m n x : ℤ} (y : ℤ) → pos 0 <ℤ n → n ≤ℤ m → pos 0 <ℤ x → pos 0 <ℤ (n +ℤ y) → pos 0 <ℤ (m *ℤ x +ℤ y)
+enough {m} {n} {x} y hn h hx hy =
+    pos-is (apart m n x y) (pos-add hy (nn-add (sub-of-≤ h) (nn-mul (≤-trans (<-≤ hn) h) (less-one hx))))
   where
     apart : (m n x y : ℤ) → m *ℤ x +ℤ y ≡ (n +ℤ y) +ℤ ((m -ℤ n) +ℤ m *ℤ (x -ℤ pos 1))
     apart = ring (int ∷ int ∷ int ∷ int ∷ []) (λ m n x y. m :* x :+ y :≡ (n :+ y) :+ ((m :- n) :+ m :* (x :- con (pos 1)))) tt
@@ -72,7 +72,7 @@ large (f ∷ Fs) q z q0 z0 h =
     record {
       n = r .n +ℤ s .n;
       above = pos-add (r .above) (<-≤ (s .above));
-      all = λ m k. (enough m (s .n) (val f q z) (val f q0 z0) (s .above) (second (r .n) (s .n) m (r .above) k) (h .0) (s .more), r .all m (first (r .n) (s .n) m (s .above) k));
+      all = λ m k. (enough (val f q0 z0) (s .above) (second (r .above) k) (h .0) (s .more), r .all m (first (s .above) k));
     }
 
 -- ---- near a point, in one direction
@@ -93,8 +93,8 @@ val-add f = of (f .d) (f .a)
 abbrev count : Form
 count = record { d = O; a = pos 1 }
 
-pub near-by : (Fs : List Form) (q : ℤ) (z : Pt) (q0 : ℤ) (z0 : Pt) → pos 0 <ℤ q → All (λ f. pos 0 <ℤ val f q z) Fs → Toward Fs q z q0 z0
-near-by Fs q z q0 z0 hq h =
+pub near-by : (Fs : List Form) {q : ℤ} (z : Pt) (q0 : ℤ) (z0 : Pt) → pos 0 <ℤ q → All (λ f. pos 0 <ℤ val f q z) Fs → Toward Fs q z q0 z0
+near-by Fs {q} z q0 z0 hq h =
     let l = large (count ∷ Fs) q z q0 z0 (pos-is (only q z) hq, h) in
     let k = l .all (l .n) (≤ℤ-refl (l .n)) in
     record {
@@ -126,8 +126,8 @@ turned-down : (d : Pt) (a q : ℤ) (z : Pt) → pos 0 <ℤ (cross (negᵖ d) z +
 turned-down = arithℤ (pt ∷ int ∷ int ∷ pt ∷ []) (λ d a q z. con (pos 0) :< crossE (negE d) z :+ :neg a :* q ⇒ crossE d z :+ a :* q :< con (pos 0)) (omega arith)
 
 -- d × rot d = d · d
-pub square : (d : Pt) → (d ≡ O → ⊥) → pos 0 <ℤ dot d d
-square d h = ⊎-elim (λ e. absurd (h e)) (λ n. same-dot n n .0 (same-refl d) .1) (nz-cases d)
+pub square : {d : Pt} → (d ≡ O → ⊥) → pos 0 <ℤ dot d d
+square {d} h = ⊎-elim (λ e. absurd (h e)) (λ n. same-dot n n .0 (same-refl d) .1) (nz-cases d)
 
 aside : (d : Pt) (a n q : ℤ) (z : Pt) → (cross d z +ℤ a *ℤ q) ≡ pos 0 → cross d (n ·ᵖ z +ᵖ rot d) +ℤ a *ℤ (n *ℤ q +ℤ pos 0) ≡ dot d d
 aside d a n q z e = val-add (record { d = d; a = a }) n q z (pos 0) (rot d) ∙ ap (λ x. n *ℤ x +ℤ (cross d (rot d) +ℤ a *ℤ pos 0)) e ∙ rest d a n
@@ -135,16 +135,16 @@ aside d a n q z e = val-add (record { d = d; a = a }) n q z (pos 0) (rot d) ∙ 
     rest : (d : Pt) (a n : ℤ) → n *ℤ pos 0 +ℤ (cross d (rot d) +ℤ a *ℤ pos 0) ≡ dot d d
     rest = ring (pt ∷ int ∷ int ∷ []) (λ d a n. n :* con (pos 0) :+ (crossE d (rotE d) :+ a :* con (pos 0)) :≡ dotE d d) tt
 
-pub general : (Es : List Form) → All (λ f. f .d ≡ O → ⊥) Es → (Fs : List Form) (q : ℤ) (z : Pt) → pos 0 <ℤ q → All (λ f. pos 0 <ℤ val f q z) Fs → Off Fs Es
-general [] n Fs q z hq h = record { q = q; z = z; above = hq; all = h; off = tt }
-general (e ∷ Es) n Fs q z hq h = elim (sign (val e q z)) [
-  | positive k ↦ let o = general Es (n .1) (e ∷ Fs) q z hq (k, h) in record { q = o .q; z = o .z; above = o .above; all = o .all .1; off = (inl (o .all .0), o .off) }
+pub general : (Es : List Form) → All (λ f. f .d ≡ O → ⊥) Es → (Fs : List Form) {q : ℤ} (z : Pt) → pos 0 <ℤ q → All (λ f. pos 0 <ℤ val f q z) Fs → Off Fs Es
+general [] n Fs {q} z hq h = record { q = q; z = z; above = hq; all = h; off = tt }
+general (e ∷ Es) n Fs {q} z hq h = elim (sign (val e q z)) [
+  | positive k ↦ let o = general Es (n .1) (e ∷ Fs) z hq (k, h) in record { q = o .q; z = o .z; above = o .above; all = o .all .1; off = (inl (o .all .0), o .off) }
   | negative k ↦
-      let o = general Es (n .1) (opposite e ∷ Fs) q z hq (turned-up (e .d) (e .a) q z k, h) in
+      let o = general Es (n .1) (opposite e ∷ Fs) z hq (turned-up (e .d) (e .a) q z k, h) in
       record { q = o .q; z = o .z; above = o .above; all = o .all .1; off = (inr (turned-down (e .d) (e .a) (o .q) (o .z) (o .all .0)), o .off) }
   | null k ↦
-      let w = near-by Fs q z (pos 0) (rot (e .d)) hq h in
-      let o = general Es (n .1) (e ∷ Fs) (w .n *ℤ q +ℤ pos 0) (w .n ·ᵖ z +ᵖ rot (e .d)) (w .high) (pos-is (aside (e .d) (e .a) (w .n) q z k) (square (e .d) (n .0)), w .all) in
+      let w = near-by Fs z (pos 0) (rot (e .d)) hq h in
+      let o = general Es (n .1) (e ∷ Fs) (w .n ·ᵖ z +ᵖ rot (e .d)) (w .high) (pos-is (aside (e .d) (e .a) (w .n) q z k) (square (n .0)), w .all) in
       record { q = o .q; z = o .z; above = o .above; all = o .all .1; off = (inl (o .all .0), o .off) }
 ]
 
@@ -159,7 +159,7 @@ record Bound (d : ℤ) : Type 0 where
 bound : (d : ℤ) → Bound d
 bound d = ⊎-elim
     (λ h. record { size = d; least = h; holds = λ b y k. nn-is (up d b y) (nn-mul h (low k)) })
-    (λ h. record { size = negℤ d; least = turned d h; holds = λ b y k. nn-is (down d b y) (nn-mul (turned d h) (sub-of-≤ (k .1))) })
+    (λ h. record { size = negℤ d; least = turned h; holds = λ b y k. nn-is (down d b y) (nn-mul (turned h) (sub-of-≤ (k .1))) })
     (≤-or-> (pos 0) d)
   where
     up : (d b y : ℤ) → d *ℤ b +ℤ d *ℤ y ≡ d *ℤ (b +ℤ y)
@@ -171,8 +171,8 @@ bound d = ⊎-elim
     low : {b y : ℤ} → AtMost b y → pos 0 ≤ℤ (b +ℤ y)
     low {b} {y} k = omega (zarith, add-parts b y, neg-parts b, k .0)
 
-    turned : (d : ℤ) → d <ℤ pos 0 → pos 0 ≤ℤ negℤ d
-    turned d h = omega (zarith, neg-parts d)
+    turned : {d : ℤ} → d <ℤ pos 0 → pos 0 ≤ℤ negℤ d
+    turned {d} h = omega (zarith, neg-parts d)
 
 pub record Steady (Fs : List Form) (q : ℤ) (z : Pt) : Type 0 where
   pub n : ℤ
@@ -196,14 +196,14 @@ module _ (f : Form) (q : ℤ) (z : Pt) (hq : pos 0 <ℤ q) (hf : pos 0 <ℤ val 
 
   form-steady : {m : ℤ} → enough-near ≤ℤ m → {p : ℤ} {w : Pt} → pos 0 <ℤ p → Near m q z p w → pos 0 <ℤ val f p w
   form-steady {m} h {p} {w} hp c =
-      let hm : pos 0 <ℤ m = past enough-near m enough-above h in
+      let hm : pos 0 <ℤ m = past enough-above h in
       pos-cancel (pos-mul hm hq)
       (pos-is (apart (f .d) (f .a) q z m p w (bound-x .size) (bound-y .size))
       (pos-add hp (nn-add (bound-x .holds (p *ℤ q) (m *ℤ (q *ℤ w .y -ℤ p *ℤ z .y)) (c .upward)) (nn-add (bound-y .holds (p *ℤ q) (m *ℤ (q *ℤ w .x -ℤ p *ℤ z .x)) (c .across))
-      (nn-add (nn-mul (<-≤ (pos-mul hm hp)) (less-one (val f q z) hf)) (nn-mul (sub-of-≤ h) (<-≤ hp)))))))
+      (nn-add (nn-mul (<-≤ (pos-mul hm hp)) (less-one hf)) (nn-mul (sub-of-≤ h) (<-≤ hp)))))))
     where
-      past : (n m : ℤ) → pos 0 <ℤ n → n ≤ℤ m → pos 0 <ℤ m
-      past n m h k = omega zarith
+      past : {n m : ℤ} → pos 0 <ℤ n → n ≤ℤ m → pos 0 <ℤ m
+      past h k = omega zarith
 
       apart : (d : Pt) (a q : ℤ) (z : Pt) (m p : ℤ) (w : Pt) (i j : ℤ)
           → (m *ℤ q) *ℤ (cross d w +ℤ a *ℤ p) ≡ p +ℤ ((i *ℤ (p *ℤ q) +ℤ d .x *ℤ (m *ℤ (q *ℤ w .y -ℤ p *ℤ z .y))) +ℤ ((j *ℤ (p *ℤ q) +ℤ negℤ (d .y) *ℤ (m *ℤ (q *ℤ w .x -ℤ p *ℤ z .x)))
@@ -211,16 +211,16 @@ module _ (f : Form) (q : ℤ) (z : Pt) (hq : pos 0 <ℤ q) (hf : pos 0 <ℤ val 
       apart = ring (pt ∷ int ∷ int ∷ pt ∷ int ∷ int ∷ pt ∷ int ∷ int ∷ []) (λ d a q z m p w i j. (m :* q) :* (crossE d w :+ a :* p) :≡ p :+ ((i :* (p :* q) :+ d .x :* (m :* (q :* w .y :- p :* z .y))) :+ ((j :* (p :* q) :+ :neg (d .y) :* (m :* (q :* w .x :- p :* z .x)))
           :+ ((m :* p) :* ((crossE d z :+ a :* q) :- con (pos 1)) :+ (m :- (con (pos 1) :+ (i :+ j) :* q)) :* p)))) tt
 
-pub steady : (Fs : List Form) (q : ℤ) (z : Pt) → pos 0 <ℤ q → All (λ f. pos 0 <ℤ val f q z) Fs → Steady Fs q z
-steady [] q z hq h = record { n = pos 1; above = omega zarith; all = λ m k p w hp c. tt }
-steady (f ∷ Fs) q z hq h =
-    let r = steady Fs q z hq (h .1) in
+pub steady : (Fs : List Form) {q : ℤ} (z : Pt) → pos 0 <ℤ q → All (λ f. pos 0 <ℤ val f q z) Fs → Steady Fs q z
+steady [] z hq h = record { n = pos 1; above = omega zarith; all = λ m k p w hp c. tt }
+steady (f ∷ Fs) {q} z hq h =
+    let r = steady Fs z hq (h .1) in
     let n : ℤ = enough-near f q z hq (h .0) in
     let above : pos 0 <ℤ n = enough-above f q z hq (h .0) in
     record {
       n = r .n +ℤ n;
       above = pos-add (r .above) (<-≤ above);
-      all = λ m k p w hp c. (form-steady f q z hq (h .0) (second (r .n) n m (r .above) k) hp c, r .all m (first (r .n) n m above k) p w hp c);
+      all = λ m k p w hp c. (form-steady f q z hq (h .0) (second (r .above) k) hp c, r .all m (first above k) p w hp c);
     }
 
 -- the square as four forms, each q² at its middle
@@ -229,8 +229,8 @@ box n q z =
     record { d = record { x = pos 0; y = n *ℤ q }; a = q +ℤ n *ℤ z .x } ∷ record { d = record { x = pos 0; y = negℤ (n *ℤ q) }; a = q -ℤ n *ℤ z .x }
     ∷ record { d = record { x = negℤ (n *ℤ q); y = pos 0 }; a = q +ℤ n *ℤ z .y } ∷ record { d = record { x = n *ℤ q; y = pos 0 }; a = q -ℤ n *ℤ z .y } ∷ []
 
-pub box-own : (n q : ℤ) (z : Pt) → pos 0 <ℤ q → All (λ f. pos 0 <ℤ val f q z) (box n q z)
-box-own n q z hq = let s = pos-mul hq hq in (pos-is (right n q z) s, (pos-is (left n q z) s, (pos-is (top n q z) s, (pos-is (bottom n q z) s, tt))))
+pub box-own : (n : ℤ) {q : ℤ} (z : Pt) → pos 0 <ℤ q → All (λ f. pos 0 <ℤ val f q z) (box n q z)
+box-own n {q} z hq = let s = pos-mul hq hq in (pos-is (right n q z) s, (pos-is (left n q z) s, (pos-is (top n q z) s, (pos-is (bottom n q z) s, tt))))
   where
     right : (n q : ℤ) (z : Pt) → cross (record { x = pos 0; y = n *ℤ q }) z +ℤ (q +ℤ n *ℤ z .x) *ℤ q ≡ q *ℤ q
     right = ring (int ∷ int ∷ pt ∷ []) (λ n q z. crossE (record { x = con (pos 0); y = n :* q }) z :+ (q :+ n :* z .x) :* q :≡ q :* q) tt
@@ -244,8 +244,8 @@ box-own n q z hq = let s = pos-mul hq hq in (pos-is (right n q z) s, (pos-is (le
     bottom : (n q : ℤ) (z : Pt) → cross (record { x = n *ℤ q; y = pos 0 }) z +ℤ (q -ℤ n *ℤ z .y) *ℤ q ≡ q *ℤ q
     bottom = ring (int ∷ int ∷ pt ∷ []) (λ n q z. crossE (record { x = n :* q; y = con (pos 0) }) z :+ (q :- n :* z .y) :* q :≡ q :* q) tt
 
-pub box-near : (n q : ℤ) (z : Pt) (p : ℤ) (w : Pt) → All (λ f. pos 0 <ℤ val f p w) (box n q z) → Near n q z p w
-box-near n q z p w h = record { across = (left n q z p w (h .1 .0), right n q z p w (h .0)); upward = (bottom n q z p w (h .1 .1 .1 .0), top n q z p w (h .1 .1 .0)) }
+pub box-near : {n q : ℤ} {z : Pt} {p : ℤ} {w : Pt} → All (λ f. pos 0 <ℤ val f p w) (box n q z) → Near n q z p w
+box-near {n} {q} {z} {p} {w} h = record { across = (left n q z p w (h .1 .0), right n q z p w (h .0)); upward = (bottom n q z p w (h .1 .1 .1 .0), top n q z p w (h .1 .1 .0)) }
   where
     right : (n q : ℤ) (z : Pt) (p : ℤ) (w : Pt) → pos 0 <ℤ (cross (record { x = pos 0; y = n *ℤ q }) w +ℤ (q +ℤ n *ℤ z .x) *ℤ p) → (n *ℤ (q *ℤ w .x -ℤ p *ℤ z .x)) ≤ℤ (p *ℤ q)
     right = arithℤ (int ∷ int ∷ pt ∷ int ∷ pt ∷ []) (λ n q z p w. con (pos 0) :< crossE (record { x = con (pos 0); y = n :* q }) w :+ (q :+ n :* z .x) :* p ⇒ n :* (q :* w .x :- p :* z .x) :≤ p :* q) (omega arith)
@@ -271,5 +271,5 @@ moved-val q z f p u = of q z (f .d) (f .a) p u
     of : (q : ℤ) (z d : Pt) (a p : ℤ) (u : Pt) → cross (q ·ᵖ d) u +ℤ (a *ℤ q -ℤ cross d z) *ℤ p ≡ cross d (q ·ᵖ u -ᵖ p ·ᵖ z) +ℤ a *ℤ (p *ℤ q)
     of = ring (int ∷ pt ∷ pt ∷ int ∷ int ∷ pt ∷ []) (λ q z d a p u. crossE (q ·E d) u :+ (a :* q :- crossE d z) :* p :≡ crossE d (q ·E u -E p ·E z) :+ a :* (p :* q)) tt
 
-pub moved-nonzero : (q : ℤ) (z : Pt) → pos 0 <ℤ q → (f : Form) → (f .d ≡ O → ⊥) → movedForm q z f .d ≡ O → ⊥
-moved-nonzero q z hq f n e = n (pt-eq (zero-cancel hq (ap (λ v. v .x) e)) (zero-cancel hq (ap (λ v. v .y) e)))
+pub moved-nonzero : {q : ℤ} (z : Pt) → pos 0 <ℤ q → (f : Form) → (f .d ≡ O → ⊥) → movedForm q z f .d ≡ O → ⊥
+moved-nonzero z hq f n e = n (pt-eq (zero-cancel hq (ap (λ v. v .x) e)) (zero-cancel hq (ap (λ v. v .y) e)))

@@ -88,8 +88,8 @@ off-strict l q z h i =
 pub strict-inside : (l : List Pt) (q : ℤ) (z : Pt) → StrictlyInside l q z → Inside l q z
 strict-inside l q z h = all-map (neighbours l) (λ e k. ⊎-elim (λ s. nn-is (ap (λ v. cross v (z -ᵖ q ·ᵖ e .0)) (no-length s) ∙ cross-zero-l (z -ᵖ q ·ᵖ e .0)) (≤ℤ-refl (pos 0))) <-≤ k) h
 
-pub strict-scale : (l : List Pt) (k q : ℤ) (z : Pt) → pos 0 <ℤ k → StrictlyInside l q z → StrictlyInside l (k *ℤ q) (k ·ᵖ z)
-strict-scale l k q z h s = all-map (neighbours l) (λ e t. ⊎-elim inl (λ r. inr (pos-is (side-scale k (e .0) (e .1) q z) (pos-mul h r))) t) s
+pub strict-scale : (l : List Pt) {k : ℤ} (q : ℤ) (z : Pt) → pos 0 <ℤ k → StrictlyInside l q z → StrictlyInside l (k *ℤ q) (k ·ᵖ z)
+strict-scale l {k} q z h s = all-map (neighbours l) (λ e t. ⊎-elim inl (λ r. inr (pos-is (side-scale k (e .0) (e .1) q z) (pos-mul h r))) t) s
 
 pub strict-add : (l : List Pt) (q : ℤ) (z : Pt) (r : ℤ) (w : Pt) → StrictlyInside l q z → Inside l r w → StrictlyInside l (q +ℤ r) (z +ᵖ w)
 strict-add l q z r w s i = all-map2 (neighbours l) (λ e t u. ⊎-elim inl (λ p. inr (pos-is (side-add (e .0) (e .1) q z r w) (pos-add p u))) t) s i
@@ -105,7 +105,7 @@ some-or-none r a [] h = inr (tt, start r a)
     start = ring (pt ∷ int ∷ []) (λ r a. crossE r OE :+ a :* con (pos 0) :≡ con (pos 0)) tt
 some-or-none r a (c ∷ l) h = elim (sign (cross r c +ℤ a)) [
   | negative k ↦ absurd (omega (zarith, h .0))
-  | null k ↦ ⊎-elim (λ s. inl (pos-is (step r a c (sumᵖ l) (length l)) (more (cross r c +ℤ a) (cross r (sumᵖ l) +ℤ a *ℤ pos (length l)) k s)))
+  | null k ↦ ⊎-elim (λ s. inl (pos-is (step r a c (sumᵖ l) (length l)) (more k s)))
       (λ s. inr ((k, s .0), step r a c (sumᵖ l) (length l) ∙ (λ i. k i +ℤ s .1 i))) (some-or-none r a l (h .1))
   | positive k ↦ inl (pos-is (step r a c (sumᵖ l) (length l)) (pos-add k (⊎-elim (λ s. <-≤ s) (λ s. nn-is (s .1) (≤ℤ-refl (pos 0))) (some-or-none r a l (h .1)))))
 ]
@@ -119,8 +119,8 @@ some-or-none r a (c ∷ l) h = elim (sign (cross r c +ℤ a)) [
     step : (r : Pt) (a : ℤ) (c s : Pt) (n : ℕ) → cross r (c +ᵖ s) +ℤ a *ℤ pos (suc n) ≡ (cross r c +ℤ a) +ℤ (cross r s +ℤ a *ℤ pos n)
     step r a c s n = ap (λ k. cross r (c +ᵖ s) +ℤ a *ℤ k) (next n) ∙ apart r a c s (pos n)
 
-    more : (x y : ℤ) → x ≡ pos 0 → pos 0 <ℤ y → pos 0 <ℤ (x +ℤ y)
-    more x y e h = omega (zarith, add-parts x y)
+    more : {x y : ℤ} → x ≡ pos 0 → pos 0 <ℤ y → pos 0 <ℤ (x +ℤ y)
+    more {x} {y} e h = omega (zarith, add-parts x y)
 
 pub record Mid (l : List Pt) : Type 0 where
   pub q : ℤ

@@ -21,9 +21,9 @@ use Rattle.cover.proofs.Strict.{forms, forms-nonzero, strict-forms, for
 
 -- ---- a point strictly inside one contour
 
-pub inner-of-some : (L : List (List Pt)) (q : ℤ) (z : Pt) → pos 0 <ℤ q → Any (λ l. StrictlyInside l q z) L → Inner L q z
-inner-of-some L q z hq h = any-find L h (λ l among s.
-    let y = steady (forms l) q z hq (strict-forms l q z s) in
+pub inner-of-some : {L : List (List Pt)} {q : ℤ} {z : Pt} → pos 0 <ℤ q → Any (λ l. StrictlyInside l q z) L → Inner L q z
+inner-of-some {L} {q} {z} hq h = any-find L h (λ l among s.
+    let y = steady (forms l) z hq (strict-forms l q z s) in
     record {
       n = y .n;
       above = y .above;
@@ -41,17 +41,17 @@ abbrev allForms : List (List Pt) → List Form
 allForms L = flatten (map forms L)
 
 all-nonzero : (L : List (List Pt)) → All (λ f. f .d ≡ O → ⊥) (allForms L)
-all-nonzero L = all-flatten (λ f. f .d ≡ O → ⊥) (map forms L) .1 (all-image (All (λ f. f .d ≡ O → ⊥)) forms L .1 (all-every (λ l. All (λ f. f .d ≡ O → ⊥) (forms l)) L forms-nonzero))
+all-nonzero L = all-flatten (λ f. f .d ≡ O → ⊥) (map forms L) .1 (all-image (All (λ f. f .d ≡ O → ⊥)) forms L .1 (all-every L forms-nonzero))
 
 covered-strict : (L : List (List Pt)) (q : ℤ) (z : Pt) → All (Off q z) (allForms L) → Covered L q z → Any (λ l. StrictlyInside l q z) L
 covered-strict L q z h c =
-    any-map2 (λ l. StrictlyInside l q z) L (λ l off i. off-strict l q z off i) (all-image (All (Off q z)) forms L .0 (all-flatten (Off q z) (map forms L) .0 h)) c
+    any-map2 L (λ l off i. off-strict l q z off i) (all-image (All (Off q z)) forms L .0 (all-flatten (Off q z) (map forms L) .0 h)) c
 
 -- ---- the second piece moved by z/q
 
 -- as near as before: both points moved back
-near-moved : {n : ℤ} (k q : ℤ) {u : Pt} (z : Pt) {p : ℤ} {w : Pt} → pos 0 <ℤ q → Near n (k *ℤ q) u p w → Near n (k *ℤ q) (u -ᵖ k ·ᵖ z) (p *ℤ q) (q ·ᵖ w -ᵖ p ·ᵖ z)
-near-moved {n} k q {u} z {p} {w} hq c = record { across = back (u .x) (z .x) (w .x) (c .across); upward = back (u .y) (z .y) (w .y) (c .upward) }
+near-moved : {n : ℤ} (k : ℤ) {q : ℤ} {u : Pt} (z : Pt) {p : ℤ} {w : Pt} → pos 0 <ℤ q → Near n (k *ℤ q) u p w → Near n (k *ℤ q) (u -ᵖ k ·ᵖ z) (p *ℤ q) (q ·ᵖ w -ᵖ p ·ᵖ z)
+near-moved {n} k {q} {u} z {p} {w} hq c = record { across = back (u .x) (z .x) (w .x) (c .across); upward = back (u .y) (z .y) (w .y) (c .upward) }
   where
     shift : (n k q u z p w : ℤ) → q *ℤ (n *ℤ ((k *ℤ q) *ℤ w -ℤ p *ℤ u)) ≡ n *ℤ ((k *ℤ q) *ℤ (q *ℤ w -ℤ p *ℤ z) -ℤ (p *ℤ q) *ℤ (u -ℤ k *ℤ z))
     shift = ring (int ∷ int ∷ int ∷ int ∷ int ∷ int ∷ int ∷ []) (λ n k q u z p w. q :* (n :* ((k :* q) :* w :- p :* u)) :≡ n :* ((k :* q) :* (q :* w :- p :* z) :- (p :* q) :* (u :- k :* z))) tt
@@ -72,13 +72,13 @@ near-moved {n} k q {u} z {p} {w} hq c = record { across = back (u .x) (z .x) (w 
 
 module _ (X Y : List (List Pt)) (q : ℤ) (z : Pt) (hq : pos 0 <ℤ q) where
   -- strictly inside a contour of each piece at w/p
-  common : (p : ℤ) (w : Pt) → pos 0 <ℤ p → Any (λ l. StrictlyInside l p w) X → Any (λ l. StrictlyInside l (p *ℤ q) (q ·ᵖ w -ᵖ p ·ᵖ z)) Y → SomePair (λ A B. Overlap A B q z) X Y
-  common p w hp x y =
+  common : {p : ℤ} (w : Pt) → pos 0 <ℤ p → Any (λ l. StrictlyInside l p w) X → Any (λ l. StrictlyInside l (p *ℤ q) (q ·ᵖ w -ᵖ p ·ᵖ z)) Y → SomePair (λ A B. Overlap A B q z) X Y
+  common {p} w hp x y =
       any-map X (λ A s. any-map Y (λ B t. record {
         k = p;
         u = q ·ᵖ w;
         above = hp;
-        first = subst (λ r. StrictlyInside A r (q ·ᵖ w)) (*ℤ-comm q p) (strict-scale A q p w hq s);
+        first = subst (λ r. StrictlyInside A r (q ·ᵖ w)) (*ℤ-comm q p) (strict-scale A p w hq s);
         second = t;
       }) y) x
 
@@ -90,14 +90,14 @@ module _ (X Y : List (List Pt)) (q : ℤ) (z : Pt) (hq : pos 0 <ℤ q) where
       let j : ℤ = o .second .n in
       let moved : Form → Form = movedForm q z in
       let w = general (allForms X ++ map moved (allForms Y))
-      (all-append (λ f. f .d ≡ O → ⊥) (allForms X) (map moved (allForms Y)) .1 (all-nonzero X, all-image (λ f. f .d ≡ O → ⊥) moved (allForms Y) .1 (all-map (allForms Y) (moved-nonzero q z hq) (all-nonzero Y))))
-      (box i r (o .u) ++ box j r (o .u)) r (o .u) hr (all-append (λ f. pos 0 <ℤ val f r (o .u)) (box i r (o .u)) (box j r (o .u)) .1 (box-own i r (o .u) hr, box-own j r (o .u) hr)) in
+      (all-append (λ f. f .d ≡ O → ⊥) (allForms X) (map moved (allForms Y)) .1 (all-nonzero X, all-image (λ f. f .d ≡ O → ⊥) moved (allForms Y) .1 (all-map (allForms Y) (moved-nonzero z hq) (all-nonzero Y))))
+      (box i r (o .u) ++ box j r (o .u)) (o .u) hr (all-append (λ f. pos 0 <ℤ val f r (o .u)) (box i r (o .u)) (box j r (o .u)) .1 (box-own i (o .u) hr, box-own j (o .u) hr)) in
       let near = all-append (λ f. pos 0 <ℤ val f (w .q) (w .z)) (box i r (o .u)) (box j r (o .u)) .0 (w .all) in
       let off = all-append (Off (w .q) (w .z)) (allForms X) (map moved (allForms Y)) .0 (w .off) in
-      let x : Covered X (w .q) (w .z) = o .first .near (w .q) (w .z) (w .above) (box-near i r (o .u) (w .q) (w .z) (near .0)) in
+      let x : Covered X (w .q) (w .z) = o .first .near (w .q) (w .z) (w .above) (box-near (near .0)) in
       let y : Covered Y (w .q *ℤ q) (q ·ᵖ w .z -ᵖ w .q ·ᵖ z) =
-      o .second .near (w .q *ℤ q) (q ·ᵖ w .z -ᵖ w .q ·ᵖ z) (pos-mul (w .above) hq) (near-moved (o .k) q z hq (box-near j r (o .u) (w .q) (w .z) (near .1))) in
-      common (w .q) (w .z) (w .above) (covered-strict X (w .q) (w .z) (off .0) x) (covered-strict Y (w .q *ℤ q) (q ·ᵖ w .z -ᵖ w .q ·ᵖ z) (from-moved (w .q) (w .z) (off .1)) y)
+      o .second .near (w .q *ℤ q) (q ·ᵖ w .z -ᵖ w .q ·ᵖ z) (pos-mul (w .above) hq) (near-moved (o .k) z hq (box-near (near .1))) in
+      common (w .z) (w .above) (covered-strict X (w .q) (w .z) (off .0) x) (covered-strict Y (w .q *ℤ q) (q ·ᵖ w .z -ᵖ w .q ·ᵖ z) (from-moved (w .q) (w .z) (off .1)) y)
     where
       from-moved : (p : ℤ) (w : Pt) → All (Off p w) (map (movedForm q z) (allForms Y)) → All (Off (p *ℤ q) (q ·ᵖ w -ᵖ p ·ᵖ z)) (allForms Y)
       from-moved p w h = all-map (allForms Y) (λ f k. subst (λ x. (pos 0 <ℤ x) ⊎ (x <ℤ pos 0)) (moved-val q z f p w) k) (all-image (Off p w) (movedForm q z) (allForms Y) .0 h)
@@ -110,8 +110,8 @@ module _ (X Y : List (List Pt)) (q : ℤ) (z : Pt) (hq : pos 0 <ℤ q) where
         k = o .k;
         u = o .u;
         above = o .above;
-        first = inner-of-some X (o .k *ℤ q) (o .u) hr (among-x (λ l. StrictlyInside l (o .k *ℤ q) (o .u)) (o .first));
-        second = inner-of-some Y (o .k *ℤ q) (o .u -ᵖ o .k ·ᵖ z) hr (among-y (λ l. StrictlyInside l (o .k *ℤ q) (o .u -ᵖ o .k ·ᵖ z)) (o .second));
+        first = inner-of-some hr (among-x (λ l. StrictlyInside l (o .k *ℤ q) (o .u)) (o .first));
+        second = inner-of-some hr (among-y (λ l. StrictlyInside l (o .k *ℤ q) (o .u -ᵖ o .k ·ᵖ z)) (o .second));
       }))
 
 pub wholes-overlap : WholesOverlap

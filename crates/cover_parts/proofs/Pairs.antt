@@ -73,10 +73,10 @@ unfolding anticlockwise
 polygon-ccw {l} p = ap (λ b. cond b (reverse l) l) (≤-ltZ {x = contourArea l} {y = pos 0} (<-≤ (polygon-area p)))
 
 pub polygon-once : {l : List Pt} → Polygon l → onceRound l ≡ true
-polygon-once {l} p = meets l (polygon-convex p) .1
+polygon-once {l} p = meets (polygon-convex p) .1
 
-pair-sum : (reflected : Bool) {A B : List Pt} → Polygon A → Polygon B → (q : ℤ) (z : Pt) → pos 0 <ℤ q → Inside (pairContour reflected A B) q z ↔ Sum reflected A B q z
-pair-sum reflected {A} {B} a b q z hq =
+pair-sum : (reflected : Bool) {A B : List Pt} → Polygon A → Polygon B → {q : ℤ} (z : Pt) → pos 0 <ℤ q → Inside (pairContour reflected A B) q z ↔ Sum reflected A B q z
+pair-sum reflected {A} {B} a b {q} z hq =
     subst₂ (λ C D. Inside (pairContour reflected A B) q z ↔ Sum reflected C D q z) (polygon-ccw a) (polygon-ccw b)
     (pair-covers reflected A B (polygon-once a) (polygon-once b) q z hq)
 
@@ -88,13 +88,13 @@ pairs-iff R S X Y f h k = any-iff (λ a. Any (R a) Y) (λ a. Any (S a) Y) X (all
 
 pub pairs-image : {A B C D : Type 0} (R : C → D → Type 0) (f : A → C) (g : B → D) (X : List A) (Y : List B) → SomePair R (map f X) (map g Y) ↔ SomePair (λ a b. R (f a) (g b)) X Y
 pairs-image R f g X Y = Iff·trans (any-image (λ c. Any (R c) (map g Y)) f X)
-    (any-iff (λ a. Any (R (f a)) (map g Y)) (λ a. Any (λ b. R (f a) (g b)) Y) X (all-every (λ a. Any (R (f a)) (map g Y) ↔ Any (λ b. R (f a) (g b)) Y) X (λ a. any-image (R (f a)) g Y)))
+    (any-iff (λ a. Any (R (f a)) (map g Y)) (λ a. Any (λ b. R (f a) (g b)) Y) X (all-every X (λ a. any-image (R (f a)) g Y)))
 
 -- the contours of all pairs, pair by pair
 pub any-pairs : (P : List Pt → Type 0) (reflected : Bool) (X Y : List (List Pt)) → Any P (pairsOf reflected X Y) ↔ SomePair (λ A B. P (pairContour reflected A B)) X Y
 unfolding pairsOf
 any-pairs P reflected X Y = Iff·trans (any-flatten P (map (λ A. map (pairContour reflected A) Y) X)) (Iff·trans (any-image (Any P) (λ A. map (pairContour reflected A) Y) X)
-    (any-iff (λ A. Any P (map (pairContour reflected A) Y)) (λ A. Any (λ B. P (pairContour reflected A B)) Y) X (all-every (λ A. Any P (map (pairContour reflected A) Y) ↔ Any (λ B. P (pairContour reflected A B)) Y) X (λ A. any-image P (pairContour reflected A) Y))))
+    (any-iff (λ A. Any P (map (pairContour reflected A) Y)) (λ A. Any (λ B. P (pairContour reflected A B)) Y) X (all-every X (λ A. any-image P (pairContour reflected A) Y))))
 
 -- ---- the theorem
 
@@ -107,7 +107,7 @@ pairs-cover reflected how m mesh how′ m′ mesh′ h k q z hq =
     let f : SameCover X S = split-parts-cover how m mesh h in
     let g : SameCover Y T = split-parts-cover how′ m′ mesh′ k in
     Iff·trans (any-pairs (λ l. Inside l q z) reflected X Y)
-    (Iff·trans (pairs-iff (λ A B. Inside (pairContour reflected A B) q z) (λ A B. Sum reflected A B q z) X Y (λ A B a b. pair-sum reflected a b q z hq) (split-polygons how m mesh h) (split-polygons how′ m′ mesh′ k))
+    (Iff·trans (pairs-iff (λ A B. Inside (pairContour reflected A B) q z) (λ A B. Sum reflected A B q z) X Y (λ A B a b. pair-sum reflected a b z hq) (split-polygons how m mesh h) (split-polygons how′ m′ mesh′ k))
     (Iff·trans (sums reflected X Y q z)
     (Iff·trans (sum-same hq f g, sum-same hq (same-back X S f) (same-back Y T g))
     (Iff·trans (Iff·symm (sums reflected S T q z)) (pairs-image (λ A B. Sum reflected A B q z) triangleContour triangleContour mesh mesh′)))))

@@ -26,15 +26,15 @@ use Rattle.cover_parts.specs.Placed.{MeshesPlaced}
 use Rattle.cover_parts.proofs.Splits.{split-parts-cover}
 use Rattle.cover_parts.proofs.Pairs.{same-back, polygon-ccw, polygon-once, pairs-iff, pairs-image, any-pairs, pairs-cover}
 
-pair-overlap : {A B : List Pt} → Polygon A → Polygon B → (q : ℤ) (z : Pt) → pos 0 <ℤ q → StrictlyInside (pairContour true A B) q z ↔ Overlap A B q z
-pair-overlap {A} {B} a b q z hq =
+pair-overlap : {A B : List Pt} → Polygon A → Polygon B → {q : ℤ} (z : Pt) → pos 0 <ℤ q → StrictlyInside (pairContour true A B) q z ↔ Overlap A B q z
+pair-overlap {A} {B} a b {q} z hq =
     subst₂ (λ C D. StrictlyInside (pairContour true A B) q z ↔ Overlap C D q z) (polygon-ccw a) (polygon-ccw b) (pair-meets A B (polygon-once a) (polygon-once b) q z hq .1)
 
 -- strictly inside a contour of a pair of polygons is where the polygons, as wholes, overlap
-polygons-overlap : (X Y : List (List Pt)) → All Polygon X → All Polygon Y → (q : ℤ) (z : Pt) → pos 0 <ℤ q → Any (λ l. StrictlyInside l q z) (pairsOf true X Y) ↔ Overlapping X Y q z
-polygons-overlap X Y a b q z hq =
+polygons-overlap : {X Y : List (List Pt)} → All Polygon X → All Polygon Y → (q : ℤ) (z : Pt) → pos 0 <ℤ q → Any (λ l. StrictlyInside l q z) (pairsOf true X Y) ↔ Overlapping X Y q z
+polygons-overlap {X} {Y} a b q z hq =
     Iff·trans (any-pairs (λ l. StrictlyInside l q z) true X Y)
-    (Iff·trans (pairs-iff (λ A B. StrictlyInside (pairContour true A B) q z) (λ A B. Overlap A B q z) X Y (λ A B p r. pair-overlap p r q z hq) a b)
+    (Iff·trans (pairs-iff (λ A B. StrictlyInside (pairContour true A B) q z) (λ A B. Overlap A B q z) X Y (λ A B p r. pair-overlap p r z hq) a b)
     (Iff·symm (wholes-overlap X Y q z hq)))
 
 pairs-convex : (X Y : List (List Pt)) → All Polygon X → All Polygon Y → All (λ l. strictlyConvex l ≡ true) (pairsOf true X Y)
@@ -53,12 +53,12 @@ meshes-placed how m mesh how′ m′ mesh′ h k q z hq =
     let f : SameCover X S = split-parts-cover how m mesh h in
     let g : SameCover Y T = split-parts-cover how′ m′ mesh′ k in
     let wholes : Any (λ l. StrictlyInside l q z) (pairsOf true X Y) ↔ Overlapping S T q z =
-    Iff·trans (polygons-overlap X Y (split-polygons how m mesh h) (split-polygons how′ m′ mesh′ k) q z hq) (same-overlap f g, same-overlap (same-back X S f) (same-back Y T g)) in
+    Iff·trans (polygons-overlap (split-polygons how m mesh h) (split-polygons how′ m′ mesh′ k) q z hq) (same-overlap f g, same-overlap (same-back X S f) (same-back Y T g)) in
     record {
       convex = pairs-convex X Y (split-polygons how m mesh h) (split-polygons how′ m′ mesh′ k);
       meets = Iff·trans (pairs-cover true how m mesh how′ m′ mesh′ h k q z hq)
           (pairs-iff (λ s t. Sum true (triangleContour s) (triangleContour t) q z) (λ s t. Meet (triangleContour s) (triangleContour t) q z) mesh mesh′
-          (λ s t a b. sum-meet (triangleContour s) (triangleContour t) q z) (all-every (λ s. Unit {0}) mesh (λ s. tt)) (all-every (λ t. Unit {0}) mesh′ (λ t. tt)));
+          (λ s t a b. sum-meet (triangleContour s) (triangleContour t) q z) (all-every {P = λ s. Unit {0}} mesh (λ s. tt)) (all-every {P = λ t. Unit {0}} mesh′ (λ t. tt)));
       overlaps = Iff·trans wholes (Iff·trans (wholes-overlap S T q z hq) (pairs-image (λ s t. Overlap s t q z) triangleContour triangleContour mesh mesh′));
       wholes = wholes;
     }

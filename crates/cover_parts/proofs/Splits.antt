@@ -28,21 +28,21 @@ use Rattle.cover_parts.proofs.Centred.{centroid-covers}
 
 -- ---- one contour
 
-by-covers : (how : ConvexSplitStrategy) (m : ℕ) {l : List Pt} → 3 ≤ m → Polygon l → (q : ℤ) (z : Pt) → pos 0 <ℤ q → Covered (splitBy how m l) q z ↔ Inside l q z
+by-covers : (how : ConvexSplitStrategy) {m : ℕ} {l : List Pt} → 3 ≤ m → Polygon l → {q : ℤ} (z : Pt) → pos 0 <ℤ q → Covered (splitBy how m l) q z ↔ Inside l q z
 unfolding centredParts
-by-covers EarClipping m h p q z hq = ear-covers m h p q z hq
-by-covers Fan m h p q z hq = fan-covers m h p q z hq
-by-covers Centroid m {l = []} h p q z hq = absurd (omega (arith, p .long))
-by-covers Centroid m {l = c ∷ l} h p q z hq =
+by-covers EarClipping {m} h p {q} z hq = ear-covers h p z hq
+by-covers Fan {m} h p {q} z hq = fan-covers h p z hq
+by-covers Centroid {l = []} h p z hq = absurd (omega (arith, p .long))
+by-covers Centroid {m} {l = c ∷ l} h p {q} z hq =
     by-test (centreServes (centreOf c (c ∷ l)) (c ∷ l))
-    (λ e. rw e (centroid-covers m (centreOf c (c ∷ l)) c l h p (serves-left (centreOf c (c ∷ l)) (c ∷ l) e) q z hq)) (λ e. rw e (fan-covers m h p q z hq))
+    (λ e. rw e (centroid-covers (centreOf c (c ∷ l)) l h p (serves-left (centreOf c (c ∷ l)) (c ∷ l) e) z hq)) (λ e. rw e (fan-covers h p z hq))
 
-contour-covers : (how : ConvexSplitStrategy) (m : ℕ) {l : List Pt} → 3 ≤ m → Polygon l → (q : ℤ) (z : Pt) → pos 0 <ℤ q → Covered (splitContour how m l) q z ↔ Inside l q z
+contour-covers : (how : ConvexSplitStrategy) {m : ℕ} {l : List Pt} → 3 ≤ m → Polygon l → {q : ℤ} (z : Pt) → pos 0 <ℤ q → Covered (splitContour how m l) q z ↔ Inside l q z
 unfolding splitContour
-contour-covers how m {l} h p q z hq = by-test (leb (length l) m) (λ e. rw e any-one) (λ e. rw e (by-covers how m h p q z hq))
+contour-covers how {m} {l} h p {q} z hq = by-test (leb (length l) m) (λ e. rw e any-one) (λ e. rw e (by-covers how h p z hq))
 
 pub split-covers : SplitCovers
-split-covers how m l h s q z hq = Iff·trans (contour-covers how m h (convex-polygon l (test-convex l s)) q z hq) (Iff·symm any-one)
+split-covers how m l h s q z hq = Iff·trans (contour-covers how h (convex-polygon (test-convex l s)) z hq) (Iff·symm any-one)
 
 -- ---- a mesh
 
@@ -51,5 +51,5 @@ unfolding splitParts
 split-parts-cover how m mesh h q z hq =
     Iff·trans (any-flatten (λ l. Inside l q z) (map (splitContour how (raised m)) (parts mesh)))
     (Iff·trans (any-image (Any (λ l. Inside l q z)) (splitContour how (raised m)) (parts mesh))
-    (Iff·trans (any-iff (λ l. Covered (splitContour how (raised m) l) q z) (λ l. Inside l q z) (parts mesh) (all-map (parts mesh) (λ l p. contour-covers how (raised m) (omega arith) p q z hq) (parts-polygons mesh h)))
+    (Iff·trans (any-iff (λ l. Covered (splitContour how (raised m) l) q z) (λ l. Inside l q z) (parts mesh) (all-map (parts mesh) (λ l p. contour-covers how {m = raised m} (omega arith) p z hq) (parts-polygons mesh h)))
     (parts-cover mesh h q z hq)))

@@ -28,9 +28,9 @@ true-false : true ≡ false → ⊥
 true-false q = let z : _≡_ {A = ℕ} 0 1 = ap (λ t. cond t 0 1) q in omega arith
 
 -- what a reading tells of its test and its number
-pub is-right : (t : Bool) (n : ℕ) {r : Reading} → r ≡ told t n → r .right ≡ true → (t ≡ true) × (r .bits ≡ n)
-is-right true n e h = (refl, ap (λ q. q .bits) e)
-is-right false n e h = absurd (true-false (sym h ∙ ap (λ q. q .right) e))
+pub is-right : (t : Bool) {n : ℕ} {r : Reading} → r ≡ told t n → r .right ≡ true → (t ≡ true) × (r .bits ≡ n)
+is-right true e h = (refl, ap (λ q. q .bits) e)
+is-right false e h = absurd (true-false (sym h ∙ ap (λ q. q .right) e))
 
 pub is-wrong : {t : Bool} (n : ℕ) {r : Reading} → r ≡ told t n → r .right ≡ false → (t ≡ false) × (r ≡ record { right = false; bits = 0 })
 is-wrong {t = true} n e h = absurd (true-false (sym (ap (λ q. q .right) e) ∙ h))
@@ -99,7 +99,7 @@ module _ (l : List ℕ) (h : getD l 0 0 ≡ 45) where
   pub behind-minus : {n : Reading} {m : ℕ} → n ≡ numberRead 2147483648 (take (length l - 1) (drop 1 l)) → n .right ≡ true → m ≡ unsigned (negℤ (pos (n .bits)))
       → record { right = true; bits = m } ≡ coordinateRead l
   behind-minus e r q =
-      let w = is-right _ _ (e ∙ ap (numberRead 2147483648) (tail-whole l)) r in
+      let w = is-right _ (e ∙ ap (numberRead 2147483648) (tail-whole l)) r in
       told-right (minus .0 ∙ w .0) (q ∙ ap (λ v. unsigned (negℤ (pos v))) (w .1) ∙ ap unsigned (sym (minus .1)))
 
   pub no-number-behind : {n : Reading} → n ≡ numberRead 2147483648 (take (length l - 1) (drop 1 l)) → n .right ≡ false → n ≡ coordinateRead l
@@ -108,7 +108,7 @@ module _ (l : List ℕ) (h : getD l 0 0 ≡ 45) where
       told-wrong _ (minus .0 ∙ w .0) (w .1)
 
 -- a number that was read is no larger than it may be
-pub read-at-most : (most : ℕ) (l : List ℕ) {n : Reading} → n ≡ numberRead most l → n .right ≡ true → n .bits ≤ most
-read-at-most most l e r =
-    let w = is-right (isNumber most l) (valueOf l) e r in
+pub read-at-most : {most : ℕ} (l : List ℕ) {n : Reading} → n ≡ numberRead most l → n .right ≡ true → n .bits ≤ most
+read-at-most {most} l e r =
+    let w = is-right (isNumber most l) {n = valueOf l} e r in
     omega (arith, w .1, at-most most l (w .0))

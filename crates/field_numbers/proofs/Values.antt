@@ -49,12 +49,12 @@ value-more v l i h e =
 
 -- ---- how large
 
-pub larger : (v d i : ℕ) → v < 10 ^ i → d < 10 → 10 * v + d < 10 ^ (i + 1)
-larger v d i h k = rw add-one (omega (arith, pow-suc 10 i))
+pub larger : {v d : ℕ} (i : ℕ) → v < 10 ^ i → d < 10 → 10 * v + d < 10 ^ (i + 1)
+larger i h k = rw add-one (omega (arith, pow-suc 10 i))
 
 -- of nine digits or fewer
-pub nine-digits : (v i : ℕ) → v < 10 ^ i → i < 10 → v < 1000000000
-nine-digits v i h k = omega (arith, pow-le-pow-right {n = 10} (omega arith) {i = i} {j = 9} (omega arith))
+pub nine-digits : {v : ℕ} (i : ℕ) → v < 10 ^ i → i < 10 → v < 1000000000
+nine-digits i h k = omega (arith, pow-le-pow-right {n = 10} (omega arith) {i = i} {j = 9} (omega arith))
 
 -- ---- below 0
 

@@ -35,16 +35,16 @@ module _ (p : ℕ → Bool) where
 
   -- ---- a byte more
 
-  pub run-more : (t : List ℕ) (i : ℕ) → i < length t → p (getD t i 0) ≡ true → i + runLength p (drop i t) ≡ i + 1 + runLength p (drop (i + 1) t)
-  run-more t i h e =
+  pub run-more : (t : List ℕ) {i : ℕ} → i < length t → p (getD t i 0) ≡ true → i + runLength p (drop i t) ≡ i + 1 + runLength p (drop (i + 1) t)
+  run-more t {i} h e =
       let d : drop i t ≡ getD t i 0 ∷ drop (i + 1) t = rw add-one (drop-cons t i 0 h) in
       omega (arith, ap (runLength p) d ∙ run-in (getD t i 0) (drop (i + 1) t) e)
 
-  pub run-stop : (t : List ℕ) (i : ℕ) → i < length t → p (getD t i 0) ≡ false → i + runLength p (drop i t) ≡ i
-  run-stop t i h e = omega (arith, ap (runLength p) (drop-cons t i 0 h) ∙ run-out (getD t i 0) (drop (suc i) t) e)
+  pub run-stop : (t : List ℕ) {i : ℕ} → i < length t → p (getD t i 0) ≡ false → i + runLength p (drop i t) ≡ i
+  run-stop t {i} h e = omega (arith, ap (runLength p) (drop-cons t i 0 h) ∙ run-out (getD t i 0) (drop (suc i) t) e)
 
-  pub run-past : (t : List ℕ) (i : ℕ) → length t ≤ i → i + runLength p (drop i t) ≡ i
-  run-past t i h = omega (arith, ap (runLength p) (drop-of-length-le t h) ∙ run-none)
+  pub run-past : (t : List ℕ) {i : ℕ} → length t ≤ i → i + runLength p (drop i t) ≡ i
+  run-past t h = omega (arith, ap (runLength p) (drop-of-length-le t h) ∙ run-none)
 
   -- a run as long as the list has every byte
   pub run-whole : (l : List ℕ) → runLength p l ≡ length l → (i : ℕ) → i < length l → p (getD l i 0) ≡ true

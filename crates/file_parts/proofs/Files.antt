@@ -140,8 +140,8 @@ module _ (bytes : List ℕ) (rows : List (List ℤ)) (s : List ℕ) (c : List �
 -- ---- any file
 
 -- the first k of n equal rows
-pub length-first : {A : Type 0} (k n : ℕ) (a : A) → k ≤ n → length (take k (replicate n a)) ≡ k
-length-first k n a h = length-take-le k (replicate n a) (omega (arith, length-replicate n a))
+pub length-first : {A : Type 0} {k : ℕ} (n : ℕ) (a : A) → k ≤ n → length (take k (replicate n a)) ≡ k
+length-first {k} n a h = length-take-le k (replicate n a) (omega (arith, length-replicate n a))
 
 pub header-left : (bytes s : List ℕ) (c : List ℤ) {f : ℕ} → f ≡ firstFault (headerKinds bytes) → (f ≡ 0 → ⊥) → {r : Counts} → r ≡ record { fault = f; parts = 0; corners = 0 } → Left bytes s c r s c
 header-left bytes s c {f} e h er =

@@ -28,7 +28,7 @@ module _ (bytes : List ℕ) where
 
   pub accepted-mesh : fileFault bytes ≡ 0 → firstFault (meshKinds (meshOf bytes)) ≡ 0
   unfolding fileFault
-  accepted-mesh e = first-none 13 _ _ (omega arith) (first-none 1 _ _ (omega arith) (first-none 13 _ _ (omega arith) e .1) .1) .1
+  accepted-mesh e = first-none _ _ (omega arith) (first-none _ _ (omega arith) (first-none _ _ (omega arith) e .1) .1) .1
 
 -- a sound header: its length and its count
 pub record Sound (bytes : List ℕ) : Type 0 where
@@ -46,7 +46,7 @@ unbroken bytes e =
 
 pub sound : (bytes : List ℕ) → firstFault (headerKinds bytes) ≡ 0 → Sound bytes
 sound bytes e =
-    let a = first-none 13 _ _ (omega arith) e in
-    let b = first-none 1 _ _ (omega arith) (a .1) in
-    let c = first-none 13 _ _ (omega arith) (b .1) in
+    let a = first-none _ _ (omega arith) e in
+    let b = first-none _ _ (omega arith) (a .1) in
+    let c = first-none _ _ (omega arith) (b .1) in
     record { enough = ltb-false (length bytes) 20 (a .0); few = ltb-false maxTriangles (triangleCount bytes) (b .0); whole = unbroken bytes (c .0) }

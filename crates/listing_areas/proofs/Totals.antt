@@ -47,8 +47,8 @@ area-most (p ∷ ps) zero h = omega arith
 area-most (p ∷ ps) (suc k) h = omega (arith, area-most ps k (omega arith))
 
 -- and the total is above 0 where there is a part
-pub area-some : (ps : List (List Pt)) → All (λ p. ltZ (pos 0) (contourArea p) ≡ true) ps → (k : ℕ) → k < length ps → 0 < areaOf (getD ps k [])
-area-some ps h k l = of (contourArea (getD ps k [])) (all-getD (λ p. ltZ (pos 0) (contourArea p) ≡ true) ps [] h k l)
+pub area-some : (ps : List (List Pt)) → All (λ p. ltZ (pos 0) (contourArea p) ≡ true) ps → {k : ℕ} → k < length ps → 0 < areaOf (getD ps k [])
+area-some ps h {k} l = of (contourArea (getD ps k [])) (all-getD (λ p. ltZ (pos 0) (contourArea p) ≡ true) ps [] h k l)
   where
     of : (z : ℤ) → ltZ (pos 0) z ≡ true → 0 < natAbs z
     of z e = omega (zneeds, e, abs-parts z)
@@ -56,11 +56,11 @@ area-some ps h k l = of (contourArea (getD ps k [])) (all-getD (λ p. ltZ (pos 0
 -- ---- part k
 
 -- an area above 0 and at most the total is measured
-pub part-measurable : {starts : List ℕ} {corners : List ℤ} → Listable starts corners → (k : ℕ) → k < partCount starts → Measurable (partNumbers starts corners k)
-part-measurable {starts = s} {corners = c} h k l =
+pub part-measurable : {starts : List ℕ} {corners : List ℤ} → Listable starts corners → {k : ℕ} → k < partCount starts → Measurable (partNumbers starts corners k)
+part-measurable {starts = s} {corners = c} h {k} l =
     let ps : List (List Pt) = tableParts s c in
     let inside : k < length ps = omega (arith, count-parts s c (h .whole)) in
-    let e : getD ps k [] ≡ pointsOf (partNumbers s c k) = sym (part-is s c k l) in
+    let e : getD ps k [] ≡ pointsOf (partNumbers s c k) = sym (part-is s c l) in
     record {
       ranged = part-ranged s c k (h .ranged);
       above = subst (λ p. leZ (pos 0) (contourArea p) ≡ true) e (above (contourArea (getD ps k [])) (all-getD (λ p. ltZ (pos 0) (contourArea p) ≡ true) ps [] (h .above) k inside));
@@ -73,8 +73,8 @@ part-measurable {starts = s} {corners = c} h k l =
 -- ---- a share
 
 -- the product's high word is below the total
-pub high-below : (a t : ℕ) {high : ℕ} (low : ℕ) → high * 2 ^ 64 + low ≡ a * 10000 → a ≤ t → 0 < t → high < t
-high-below a t low e h k = omega arith
+pub high-below : {a t : ℕ} {high : ℕ} (low : ℕ) → high * 2 ^ 64 + low ≡ a * 10000 → a ≤ t → 0 < t → high < t
+high-below low e h k = omega arith
 
 pub share-is : (a : ℕ) {t : ℕ} {q : Quotient} {n : ℕ} → n ≡ a * 10000 → Divided n t q → q .quotient ≡ shareOf t a
 share-is a {t} {q} {n} e g = sym (div-eq-of-lt-le {k = q .quotient} t {m = a * 10000} (omega (arith, e, g .whole, g .rest)) (omega (arith, e, g .whole, g .rest)))

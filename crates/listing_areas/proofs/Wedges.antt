@@ -30,24 +30,24 @@ use Rattle.listing_areas.specs.Areas.{Wraps}
 pub wraps-up : (t : ℕ) (z : ℤ) {n r : ℕ} → n ≡ natAbs z → ltZ z (pos 0) ≡ false → r ≡ (t + n) % 2 ^ 64 → Wraps (pos t +ℤ z) r
 wraps-up t z {n} {r} e h p = record {
   turns = negℤ (pos ((t + n) / 2 ^ 64));
-  same = of t z n r ((t + n) / 2 ^ 64) e h (div-add-mod' (t + n) (2 ^ 64)) p;
+  same = of t z ((t + n) / 2 ^ 64) e h (div-add-mod' (t + n) (2 ^ 64)) p;
 }
   where
-    of : (t : ℕ) (z : ℤ) (n r q : ℕ) → n ≡ natAbs z → ltZ z (pos 0) ≡ false → q * 2 ^ 64 + (t + n) % 2 ^ 64 ≡ t + n → r ≡ (t + n) % 2 ^ 64
+    of : (t : ℕ) (z : ℤ) {n r : ℕ} (q : ℕ) → n ≡ natAbs z → ltZ z (pos 0) ≡ false → q * 2 ^ 64 + (t + n) % 2 ^ 64 ≡ t + n → r ≡ (t + n) % 2 ^ 64
         → pos r ≡ (pos t +ℤ z) +ℤ negℤ (pos q) *ℤ pos (2 ^ 64)
-    of t z n r q e h d p =
+    of t z q e h d p =
         omega (zneeds, h, abs-parts z, add-parts (pos t) z, add-parts (pos t +ℤ z) (negℤ (pos q) *ℤ pos (2 ^ 64)), mul-parts (negℤ (pos q)) (pos (2 ^ 64)), neg-parts (pos q))
 
 -- r + n = t + (r + n) / W · W
 pub wraps-down : {t : ℕ} (z : ℤ) {n r : ℕ} → n ≡ natAbs z → ltZ z (pos 0) ≡ true → (r + n) % 2 ^ 64 ≡ t → Wraps (pos t +ℤ z) r
 wraps-down {t} z {n} {r} e h p = record {
   turns = pos ((r + n) / 2 ^ 64);
-  same = of t z n r ((r + n) / 2 ^ 64) e h (div-add-mod' (r + n) (2 ^ 64)) p;
+  same = of z r ((r + n) / 2 ^ 64) e h (div-add-mod' (r + n) (2 ^ 64)) p;
 }
   where
-    of : (t : ℕ) (z : ℤ) (n r q : ℕ) → n ≡ natAbs z → ltZ z (pos 0) ≡ true → q * 2 ^ 64 + (r + n) % 2 ^ 64 ≡ r + n → (r + n) % 2 ^ 64 ≡ t
+    of : {t : ℕ} (z : ℤ) {n : ℕ} (r q : ℕ) → n ≡ natAbs z → ltZ z (pos 0) ≡ true → q * 2 ^ 64 + (r + n) % 2 ^ 64 ≡ r + n → (r + n) % 2 ^ 64 ≡ t
         → pos r ≡ (pos t +ℤ z) +ℤ pos q *ℤ pos (2 ^ 64)
-    of t z n r q e h d p =
+    of {t} z r q e h d p =
         omega (zneeds, h, abs-parts z, add-parts (pos t) z, add-parts (pos t +ℤ z) (pos q *ℤ pos (2 ^ 64)), mul-parts (pos q) (pos (2 ^ 64)))
 
 -- ---- the sum so far
@@ -93,26 +93,26 @@ wedge-left l i h =
     rest = drop-cons l (i + 1) O h
 
 pub fanning-start : (l : List Pt) → Fanning l 0 1
-fanning-start l = record { turns = pos 0; same = of (leftAt l 1) (contourArea l) (all-left l) }
+fanning-start l = record { turns = pos 0; same = of (all-left l) }
   where
-    of : (a b : ℤ) → a ≡ b → pos 0 +ℤ a ≡ b +ℤ pos 0 *ℤ pos (2 ^ 64)
-    of a b e = omega (zarith, add-parts (pos 0) a, add-parts b (pos 0 *ℤ pos (2 ^ 64)), mul-parts (pos 0) (pos (2 ^ 64)))
+    of : {a b : ℤ} → a ≡ b → pos 0 +ℤ a ≡ b +ℤ pos 0 *ℤ pos (2 ^ 64)
+    of {a} {b} e = omega (zarith, add-parts (pos 0) a, add-parts b (pos 0 *ℤ pos (2 ^ 64)), mul-parts (pos 0) (pos (2 ^ 64)))
 
 pub fanning-turn : {l : List Pt} {t i r : ℕ} {z : ℤ} → i + 1 < length l → z ≡ areaTwo (getD l 0 O) (getD l i O) (getD l (i + 1) O) → Fanning l t i → Wraps (pos t +ℤ z) r → Fanning l r (i + 1)
 fanning-turn {l} {t} {i} {r} {z} h e f w = record {
   turns = f .turns +ℤ w .turns;
   same =
-      of (pos t) (pos r) z (leftAt l i) (leftAt l (i + 1)) (contourArea l) (f .turns *ℤ pos (2 ^ 64)) (w .turns *ℤ pos (2 ^ 64)) (wedge-left l i h ∙ ap (λ k. leftAt l (i + 1) +ℤ k) (sym e)) (f .same) (w .same)
+      of (pos t) z (leftAt l (i + 1)) (contourArea l) (f .turns *ℤ pos (2 ^ 64)) (w .turns *ℤ pos (2 ^ 64)) (wedge-left l i h ∙ ap (λ k. leftAt l (i + 1) +ℤ k) (sym e)) (f .same) (w .same)
       ∙ ap (λ k. contourArea l +ℤ k) (sym (*ℤ-distr-r (f .turns) (w .turns) (pos (2 ^ 64))));
 }
   where
-    of : (t r z a b s j k : ℤ) → a ≡ b +ℤ z → t +ℤ a ≡ s +ℤ j → r ≡ (t +ℤ z) +ℤ k → r +ℤ b ≡ s +ℤ (j +ℤ k)
-    of t r z a b s j k p q o =
+    of : (t : ℤ) {r : ℤ} (z : ℤ) {a : ℤ} (b s j k : ℤ) → a ≡ b +ℤ z → t +ℤ a ≡ s +ℤ j → r ≡ (t +ℤ z) +ℤ k → r +ℤ b ≡ s +ℤ (j +ℤ k)
+    of t {r} z {a} b s j k p q o =
         omega (zarith, add-parts b z, add-parts t a, add-parts s j, add-parts t z, add-parts (t +ℤ z) k, add-parts r b, add-parts j k, add-parts s (j +ℤ k))
 
 -- at the end no turn is left over, for both are at least 0 and below 2^64
 pub fanning-end : {l : List Pt} {t i : ℕ} → length l ≤ i + 1 → leZ (pos 0) (contourArea l) ≡ true → natAbs (contourArea l) < 2 ^ 63 → t < 2 ^ 64 → Fanning l t i → t ≡ natAbs (contourArea l)
-fanning-end {l} {t} {i} h a b f g = of t (leftAt l i) (contourArea l) (g .turns) (none-left l i h) (g .same) a b f
+fanning-end {l} {t} {i} h a b f g = of (contourArea l) (g .turns) (none-left l i h) (g .same) a b f
   where
-    of : (t : ℕ) (z s k : ℤ) → z ≡ pos 0 → pos t +ℤ z ≡ s +ℤ k *ℤ pos (2 ^ 64) → leZ (pos 0) s ≡ true → natAbs s < 2 ^ 63 → t < 2 ^ 64 → t ≡ natAbs s
-    of t z s k p q a b f = omega (zneeds, a, abs-parts s, abs-parts k, add-parts (pos t) z, add-parts s (k *ℤ pos (2 ^ 64)), mul-parts k (pos (2 ^ 64)))
+    of : {t : ℕ} {z : ℤ} (s k : ℤ) → z ≡ pos 0 → pos t +ℤ z ≡ s +ℤ k *ℤ pos (2 ^ 64) → leZ (pos 0) s ≡ true → natAbs s < 2 ^ 63 → t < 2 ^ 64 → t ≡ natAbs s
+    of {t} {z} s k p q a b f = omega (zneeds, a, abs-parts s, abs-parts k, add-parts (pos t) z, add-parts s (k *ℤ pos (2 ^ 64)), mul-parts k (pos (2 ^ 64)))

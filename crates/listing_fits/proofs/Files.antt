@@ -46,10 +46,10 @@ module _ (how : ConvexSplitStrategy) (m : ℕ) (mesh : Mesh) (h : firstFault (me
   ps = splitParts how m mesh
 
   split-plain : All Plain ps
-  split-plain = all-map2 ps (λ l p g. record { some = above (contourArea l) (polygon-area p); words = all-map l word g }) (split-polygons how m mesh h) (split-on-grid how m mesh h)
+  split-plain = all-map2 ps (λ l p g. record { some = above (polygon-area p); words = all-map l word g }) (split-polygons how m mesh h) (split-on-grid how m mesh h)
     where
-      above : (z : ℤ) → pos 0 <ℤ z → 0 < natAbs z
-      above z k = omega (zarith, abs-parts z)
+      above : {z : ℤ} → pos 0 <ℤ z → 0 < natAbs z
+      above {z} k = omega (zarith, abs-parts z)
 
       word : (p : Pt) → onGrid p ≡ true → Word32s p
       word p g = let b = on-grid-both p g in record { x-fits = coordinate-fits (b .0); y-fits = coordinate-fits (b .1) }

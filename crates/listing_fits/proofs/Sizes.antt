@@ -24,20 +24,20 @@ unfolding headLine
 head-size ps h k l = simp length-append (omega (arith, decimal-below 3 (length ps) (omega arith), decimal-below 3 (length (flatten ps)) (omega arith), decimal-below 18 (totalArea ps) (omega arith)))
 
 -- a share is at most the whole
-share-most : (total a : ℕ) → a ≤ total → 0 < total → shareOf total a < 100000
-share-most total a h k = div-lt-iff-lt-mul {k = total} {x = a * 10000} {y = 100000} k .1 (omega arith)
+share-most : {total a : ℕ} → a ≤ total → 0 < total → shareOf total a < 100000
+share-most {total} {a} h k = div-lt-iff-lt-mul {k = total} {x = a * 10000} {y = 100000} k .1 (omega arith)
 
 -- 4 digits, 4, 19 and 5, three spaces, the corners and the end of the line
-pub part-size : (total k : ℕ) (p : List Pt) → k ≤ maxParts → length p ≤ 6 * maxTriangles → areaOf p ≤ total → total < 2 ^ 63 → 0 < total → All Word32s p → length (partLine total k p) ≤ 36 + 26 * length p
+pub part-size : {total : ℕ} (k : ℕ) (p : List Pt) → k ≤ maxParts → length p ≤ 6 * maxTriangles → areaOf p ≤ total → total < 2 ^ 63 → 0 < total → All Word32s p → length (partLine total k p) ≤ 36 + 26 * length p
 unfolding partLine
-part-size total k p h l a t z w =
+part-size {total} k p h l a t z w =
     simp length-append
     (omega (
       arith,
       decimal-below 3 k (omega arith),
       decimal-below 3 (length p) (omega arith),
       decimal-below 18 (areaOf p) (omega arith),
-      decimal-below 4 (shareOf total (areaOf p)) (share-most total (areaOf p) a z),
+      decimal-below 4 (shareOf total (areaOf p)) (share-most a z),
       corners-size p w,
     ))
 
@@ -46,15 +46,15 @@ pub record Plain (p : List Pt) : Type 0 where
   pub some : 0 < areaOf p
   pub words : All Word32s p
 
-pub lines-size : (total k : ℕ) (ps : List (List Pt)) → k + length ps ≤ maxParts → length (flatten ps) ≤ 6 * maxTriangles → totalArea ps ≤ total → total < 2 ^ 63 → All Plain ps → length (partLines total k ps) ≤ 36 * length ps + 26 * length (flatten ps)
+pub lines-size : {total : ℕ} (k : ℕ) (ps : List (List Pt)) → k + length ps ≤ maxParts → length (flatten ps) ≤ 6 * maxTriangles → totalArea ps ≤ total → total < 2 ^ 63 → All Plain ps → length (partLines total k ps) ≤ 36 * length ps + 26 * length (flatten ps)
 unfolding partLines totalArea flatten
-lines-size total k [] h l a t w = omega arith
-lines-size total k (p ∷ ps) h l a t w =
+lines-size k [] h l a t w = omega arith
+lines-size {total} k (p ∷ ps) h l a t w =
     let n = length-append p (flatten ps) in
-    let one = part-size total k p (omega arith) (omega (arith, n)) (omega (arith, a)) t (omega (arith, a, w .0 .some)) (w .0 .words) in
-    omega (arith, n, one, length-append (partLine total k p) (partLines total (suc k) ps), lines-size total (suc k) ps (omega arith) (omega (arith, n)) (omega (arith, a)) t (w .1))
+    let one = part-size k p (omega arith) (omega (arith, n)) (omega (arith, a)) t (omega (arith, a, w .0 .some)) (w .0 .words) in
+    omega (arith, n, one, length-append (partLine total k p) (partLines total (suc k) ps), lines-size (suc k) ps (omega arith) (omega (arith, n)) (omega (arith, a)) t (w .1))
 
 pub listing-size : (ps : List (List Pt)) → length ps ≤ maxParts → length (flatten ps) ≤ 6 * maxTriangles → totalArea ps < 2 ^ 63 → All Plain ps → length (listingOf ps) ≤ listingRoom
 unfolding listingOf
 listing-size ps h k l w =
-    omega (arith, length-append (headLine ps) (partLines (totalArea ps) 0 ps), head-size ps h k l, lines-size (totalArea ps) 0 ps (omega arith) k (omega arith) l w)
+    omega (arith, length-append (headLine ps) (partLines (totalArea ps) 0 ps), head-size ps h k l, lines-size 0 ps (omega arith) k (omega arith) l w)

@@ -55,9 +55,9 @@ part-start {k} {part} {total} {n = n} {area = area} {share = share} h g e f = pu
 
 pub part-room : {s : List ℕ} {c : List ℤ} {k total : ℕ} {out : List ℕ} {at : ℕ} {part : List ℤ} → part ≡ partNumbers s c k → LineRoom s c k total out at → PartRoom k part total out at
 part-room {s} {c} {k} {total} {out} {at} {part} e h = subst (λ l. PartRoom k l total out at) (sym e) (record {
-  measurable = part-measurable (h .listable) k (h .inside);
+  measurable = part-measurable (h .listable) (h .inside);
   within = omega (arith, ap areaOf here, area-most ps k inside, h .sum);
-  some = omega (arith, area-some ps (h .listable .above) k inside, area-most ps k inside, h .sum);
+  some = omega (arith, area-some ps (h .listable .above) inside, area-most ps k inside, h .sum);
   room = subst (λ p. at + length (partLine total k p) ≤ length out) (sym here) (h .room);
 })
   where
@@ -65,14 +65,14 @@ part-room {s} {c} {k} {total} {out} {at} {part} e h = subst (λ l. PartRoom k l 
     ps = tableParts s c
 
     here : pointsOf (partNumbers s c k) ≡ getD ps k []
-    here = part-is s c k (h .inside)
+    here = part-is s c (h .inside)
 
     inside : k < length ps
     inside = omega (arith, count-parts s c (h .listable .whole), h .inside)
 
 -- and what was put is that line
 pub part-put : (s : List ℕ) (c : List ℤ) {k : ℕ} (total : ℕ) {out out′ : List ℕ} {at r : ℕ} {part : List ℤ} → part ≡ partNumbers s c k → k < partCount s → PutText (partLine total k (pointsOf part)) at out out′ r → PutText (partLine total k (getD (tableParts s c) k [])) at out out′ r
-part-put s c {k} total {out} {out′} {at} {r} e h p = subst (λ l. PutText (partLine total k l) at out out′ r) (ap pointsOf e ∙ part-is s c k h) p
+part-put s c {k} total {out} {out′} {at} {r} e h p = subst (λ l. PutText (partLine total k l) at out out′ r) (ap pointsOf e ∙ part-is s c h) p
 
 -- ---- all part lines
 
@@ -90,20 +90,20 @@ lines-make total k (p ∷ ps) = ap (λ t. partLine total k p ++ t) (lines-make t
 abbrev pub linesFrom : ℕ → List (List Pt) → ℕ → List (List ℕ)
 linesFrom total ps k = lineList total k (drop k ps)
 
-lines-turn : (total : ℕ) (ps : List (List Pt)) (k : ℕ) → k < length ps → linesFrom total ps k ≡ partLine total k (getD ps k []) ∷ linesFrom total ps (k + 1)
+lines-turn : (total : ℕ) (ps : List (List Pt)) {k : ℕ} → k < length ps → linesFrom total ps k ≡ partLine total k (getD ps k []) ∷ linesFrom total ps (k + 1)
 unfolding lineList
-lines-turn total ps k h = rw (add-one, drop-cons ps k [] h)
+lines-turn total ps {k} h = rw (add-one, drop-cons ps k [] h)
 
-lines-end : (total : ℕ) (ps : List (List Pt)) (k : ℕ) → length ps ≤ k → linesFrom total ps k ≡ []
+lines-end : (total : ℕ) (ps : List (List Pt)) {k : ℕ} → length ps ≤ k → linesFrom total ps k ≡ []
 unfolding lineList
-lines-end total ps k h = rw (drop-of-length-le ps {i = k} h)
+lines-end total ps {k} h = rw (drop-of-length-le ps {i = k} h)
 
 module _ {whole : List ℕ} {from : ℕ} {old : List ℕ} (total : ℕ) (ps : List (List Pt)) (k : ℕ) {out : List ℕ} {at : ℕ} (g : Putting whole from old (linesFrom total ps k) out at) where
   pub lines-next : k < length ps → Putting whole from old (partLine total k (getD ps k []) ∷ linesFrom total ps (k + 1)) out at
-  lines-next h = subst (λ r. Putting whole from old r out at) (lines-turn total ps k h) g
+  lines-next h = subst (λ r. Putting whole from old r out at) (lines-turn total ps h) g
 
   pub lines-done : length ps ≤ k → PutText whole from old out at
-  lines-done h = putting-end (subst (λ r. Putting whole from old r out at) (lines-end total ps k h) g)
+  lines-done h = putting-end (subst (λ r. Putting whole from old r out at) (lines-end total ps h) g)
 
 -- ---- after the first line, in the room that it left
 

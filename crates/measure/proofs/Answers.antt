@@ -32,19 +32,19 @@ use Rattle.measure.specs.Measured.{areaRefused, areaTold, areaBehind, bo
 
 -- ---- 64 bits
 
-above-in : (n : ℕ) → n < 2 ^ 63 → inWord (pos n) ≡ true
-above-in n h = ≤-leZ {x = pos n} {y = pos 9223372036854775807} (omega zarith)
+above-in : {n : ℕ} → n < 2 ^ 63 → inWord (pos n) ≡ true
+above-in {n} h = ≤-leZ {x = pos n} {y = pos 9223372036854775807} (omega zarith)
 
-above-out : (n : ℕ) → 2 ^ 63 ≤ n → inWord (pos n) ≡ false
-above-out n h = <-leZ {x = pos n} {y = pos 9223372036854775807} (omega zarith)
+above-out : {n : ℕ} → 2 ^ 63 ≤ n → inWord (pos n) ≡ false
+above-out {n} h = <-leZ {x = pos n} {y = pos 9223372036854775807} (omega zarith)
 
-below-in : (n : ℕ) → n ≤ 2 ^ 63 → inWord (negℤ (pos n)) ≡ true
-below-in n h =
+below-in : {n : ℕ} → n ≤ 2 ^ 63 → inWord (negℤ (pos n)) ≡ true
+below-in {n} h =
     rw (≤-ltZ {x = negℤ (pos n)} {y = negsuc 9223372036854775807} (omega (zarith, neg-parts (pos n))))
     (≤-leZ {x = negℤ (pos n)} {y = pos 9223372036854775807} (omega (zarith, neg-parts (pos n))))
 
-below-out : (n : ℕ) → 2 ^ 63 < n → inWord (negℤ (pos n)) ≡ false
-below-out n h = rw (<-ltZ {x = negℤ (pos n)} {y = negsuc 9223372036854775807} (omega (zarith, neg-parts (pos n))))
+below-out : {n : ℕ} → 2 ^ 63 < n → inWord (negℤ (pos n)) ≡ false
+below-out {n} h = rw (<-ltZ {x = negℤ (pos n)} {y = negsuc 9223372036854775807} (omega (zarith, neg-parts (pos n))))
 
 told-in : {z : ℤ} {u : ℤ} → inWord z ≡ true → u ≡ z → record { fault = 0; «area_two» = u } ≡ areaTold z
 unfolding areaTold
@@ -54,32 +54,32 @@ told-out : (z : ℤ) → inWord z ≡ false → areaRefused faultTotal ≡ areaT
 unfolding areaTold
 told-out z h = rw h
 
-pub above-told : (n : ℕ) {u : ℤ} → n < 2 ^ 63 → u ≡ pos n → record { fault = 0; «area_two» = u } ≡ areaTold (pos n)
-above-told n h e = told-in (above-in n h) e
+pub above-told : {n : ℕ} {u : ℤ} → n < 2 ^ 63 → u ≡ pos n → record { fault = 0; «area_two» = u } ≡ areaTold (pos n)
+above-told {n} h e = told-in (above-in h) e
 
 pub above-refused : (n : ℕ) → 2 ^ 63 ≤ n → areaRefused faultTotal ≡ areaTold (pos n)
-above-refused n h = told-out (pos n) (above-out n h)
+above-refused n h = told-out (pos n) (above-out h)
 
 pub below-told : (n : ℕ) {u : ℤ} → n ≤ 2 ^ 63 → u ≡ negℤ (pos n) → record { fault = 0; «area_two» = u } ≡ areaTold (negℤ (pos n))
-below-told n h e = told-in (below-in n h) e
+below-told n h e = told-in (below-in h) e
 
 pub below-refused : (n : ℕ) → 2 ^ 63 < n → areaRefused faultTotal ≡ areaTold (negℤ (pos n))
-below-refused n h = told-out (negℤ (pos n)) (below-out n h)
+below-refused n h = told-out (negℤ (pos n)) (below-out h)
 
 -- a high word is past 64 bits, with either sign
 pub high-refused : (p : SignedProduct) → (p .words .high ≡ 0 → ⊥) → areaRefused faultTotal ≡ areaTold (value p)
-high-refused p h = of (p .negative) (p .words .high) (p .words .low) h
+high-refused p h = of (p .negative) (p .words .low) h
   where
-    of : (s : Bool) (high low : ℕ) → (high ≡ 0 → ⊥) → areaRefused faultTotal ≡ areaTold (signed s (twoWords high low))
-    of true high low h = below-refused (twoWords high low) (omega arith)
-    of false high low h = above-refused (twoWords high low) (omega arith)
+    of : (s : Bool) {high : ℕ} (low : ℕ) → (high ≡ 0 → ⊥) → areaRefused faultTotal ≡ areaTold (signed s (twoWords high low))
+    of true {high} low h = below-refused (twoWords high low) (omega arith)
+    of false {high} low h = above-refused (twoWords high low) (omega arith)
 
 -- without one the low word is the size
 pub value-below : (p : SignedProduct) → p .words .high ≡ 0 → p .negative ≡ true → value p ≡ negℤ (pos (p .words .low))
 value-below p h e = rw (e, h) (ap (λ n. negℤ (pos n)) (zero-add (p .words .low)))
 
-pub value-above : (p : SignedProduct) → p .words .high ≡ 0 → p .negative ≡ false → value p ≡ pos (p .words .low)
-value-above p h e = rw (e, h) (ap pos (zero-add (p .words .low)))
+pub value-above : {p : SignedProduct} → p .words .high ≡ 0 → p .negative ≡ false → value p ≡ pos (p .words .low)
+value-above {p} h e = rw (e, h) (ap pos (zero-add (p .words .low)))
 
 -- ---- the faults
 
@@ -98,7 +98,7 @@ module _ (c : List ℤ) where
 
   pub contour-ranged : contourFault c ≡ 0 → offRange c ≡ false
   unfolding contourFault
-  contour-ranged e = first-none faultRange _ [] (omega arith) (first-none faultRules _ _ (omega arith) e .1) .0
+  contour-ranged e = first-none _ [] (omega arith) (first-none _ _ (omega arith) e .1) .0
 
 module _ (s : List ℕ) (c : List ℤ) where
   pub table-7 : resultBroken s c ≡ true → faultRules ≡ tableFault s c
@@ -116,8 +116,8 @@ module _ (s : List ℕ) (c : List ℤ) where
   pub table-accepted : tableFault s c ≡ 0 → Placeable s c
   unfolding tableFault
   table-accepted h =
-      let f = first-none faultRules _ _ (omega arith) h in
-      record { whole = f .0; ranged = first-none faultRange _ [] (omega arith) (f .1) .0 }
+      let f = first-none _ _ (omega arith) h in
+      record { whole = f .0; ranged = first-none _ [] (omega arith) (f .1) .0 }
 
   module _ (k : ℕ) where
     -- a fault of the table is told before 12
@@ -140,9 +140,9 @@ module _ (s : List ℕ) (c : List ℤ) where
     pub part-accepted : partFault s c k ≡ 0 → Placeable s c × (k < partCount s)
     unfolding partFault
     part-accepted h =
-        let f = first-none faultRules _ _ (omega arith) h in
-        let g = first-none faultRange _ _ (omega arith) (f .1) in
-        (record { whole = f .0; ranged = g .0 }, leb-false _ k (first-none faultPart _ [] (omega arith) (g .1) .0))
+        let f = first-none _ _ (omega arith) h in
+        let g = first-none _ _ (omega arith) (f .1) in
+        (record { whole = f .0; ranged = g .0 }, leb-false _ k (first-none _ [] (omega arith) (g .1) .0))
 
 -- ---- answers
 

@@ -26,22 +26,22 @@ module _ (test : ℕ → Triangle → Bool) (rows : List (List ℤ)) where
   pub pass-start : Pass test rows 0
   pass-start = record { rest = refl }
 
-  turn : (k : ℕ) → k < length rows → someFrom test k (drop k (rowsMesh rows)) ≡ cond (test k (rowTriangle (getD rows k []))) true (someFrom test (suc k) (drop (suc k) (rowsMesh rows)))
-  turn k h =
-      some-turn test (rowsMesh rows) k (omega (arith, length-rows rows))
+  turn : {k : ℕ} → k < length rows → someFrom test k (drop k (rowsMesh rows)) ≡ cond (test k (rowTriangle (getD rows k []))) true (someFrom test (suc k) (drop (suc k) (rowsMesh rows)))
+  turn {k} h =
+      some-turn test (rowsMesh rows) (omega (arith, length-rows rows))
       ∙ ap (λ t. cond (test k t) true (someFrom test (suc k) (drop (suc k) (rowsMesh rows)))) (triangle-row rows k h)
 
   pub pass-found : {k : ℕ} → k < length rows → Pass test rows k → test k (rowTriangle (getD rows k [])) ≡ true → true ≡ some test (rowsMesh rows)
-  pass-found {k} h p e = sym (p .rest ∙ turn k h ∙ rw e)
+  pass-found {k} h p e = sym (p .rest ∙ turn h ∙ rw e)
 
   pub pass-next : {k : ℕ} → k < length rows → Pass test rows k → test k (rowTriangle (getD rows k [])) ≡ false → Pass test rows (k + 1)
-  pass-next {k} h p e = record { rest = p .rest ∙ turn k h ∙ rw (e, add-one) }
+  pass-next {k} h p e = record { rest = p .rest ∙ turn h ∙ rw (e, add-one) }
 
   pub pass-end : {k : ℕ} → length rows ≤ k → Pass test rows k → false ≡ some test (rowsMesh rows)
-  pass-end {k} h p = sym (p .rest ∙ some-end test (rowsMesh rows) k (omega (arith, length-rows rows)))
+  pass-end {k} h p = sym (p .rest ∙ some-end test (rowsMesh rows) (omega (arith, length-rows rows)))
 
 -- ---- a row
 
 -- where no coordinate is off the grid, each row's are on it
-pub row-on-grid : (rows : List (List ℤ)) (k : ℕ) → k < length rows → offGrid (rowsMesh rows) ≡ false → RowOnGrid (getD rows k [])
-row-on-grid rows k h e = record { on = λ i. ap (λ t. onGrid (vertex t i)) (sym (triangle-row rows k h)) ∙ grid-rule (rowsMesh rows) e k i (omega (arith, length-rows rows)) }
+pub row-on-grid : (rows : List (List ℤ)) {k : ℕ} → k < length rows → offGrid (rowsMesh rows) ≡ false → RowOnGrid (getD rows k [])
+row-on-grid rows {k} h e = record { on = λ i. ap (λ t. onGrid (vertex t i)) (sym (triangle-row rows k h)) ∙ grid-rule (rowsMesh rows) e i (omega (arith, length-rows rows)) }

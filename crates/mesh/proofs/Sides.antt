@@ -24,8 +24,8 @@ from-false test j (t ∷ m) zero h l = ap (λ i. test i t) (omega arith) ∙ eit
 from-false test j (t ∷ m) (suc k) h l =
     ap (λ i. test i (triangleAt m k)) (omega arith) ∙ from-false test (suc j) m k (either-false (test j t) (someFrom test (suc j) m) h .1) (omega arith)
 
-pub some-false : (test : ℕ → Triangle → Bool) (m : Mesh) (k : ℕ) → some test m ≡ false → k < length m → test k (triangleAt m k) ≡ false
-some-false test m k h l = ap (λ i. test i (triangleAt m k)) (omega arith) ∙ from-false test 0 m k h l
+pub some-false : (test : ℕ → Triangle → Bool) (m : Mesh) {k : ℕ} → some test m ≡ false → k < length m → test k (triangleAt m k) ≡ false
+some-false test m {k} h l = ap (λ i. test i (triangleAt m k)) (omega arith) ∙ from-false test 0 m k h l
 
 side-false : (test : ℕ → Bool) (i : ℕ) → i < 3 → someSide test ≡ false → test i ≡ false
 side-false test zero l h = either-false (test 0) _ h .0
@@ -37,21 +37,21 @@ shared-false : (t : Triangle) (test : ℕ → ℕ → Bool) (i : ℕ) → (neigh
 shared-false t test i d h = ap (λ s. cond s false (test i (neighbour t i))) (sym (ne-eqb (neighbour t i) none d)) ∙ h
 
 -- no side of any triangle that has a neighbour there
-pub mesh-side-false : (test : ℕ → Triangle → ℕ → ℕ → Bool) (m : Mesh) (k i : ℕ) → k < length m → i < 3 → (neighbour (triangleAt m k) i ≡ none → ⊥)
+pub mesh-side-false : (test : ℕ → Triangle → ℕ → ℕ → Bool) (m : Mesh) {k i : ℕ} → k < length m → i < 3 → (neighbour (triangleAt m k) i ≡ none → ⊥)
     → some (λ k t. someSide (shared t (test k t))) m ≡ false → test k (triangleAt m k) i (neighbour (triangleAt m k) i) ≡ false
-mesh-side-false test m k i l s d h =
+mesh-side-false test m {k} {i} l s d h =
     shared-false (triangleAt m k) (test k (triangleAt m k)) i d
-    (side-false (shared (triangleAt m k) (test k (triangleAt m k))) i s (some-false (λ k t. someSide (shared t (test k t))) m k h l))
+    (side-false (shared (triangleAt m k) (test k (triangleAt m k))) i s (some-false (λ k t. someSide (shared t (test k t))) m h l))
 
 -- ---- a loop over the triangles: from triangle k on
 
-pub some-turn : (test : ℕ → Triangle → Bool) (m : Mesh) (k : ℕ) → k < length m → someFrom test k (drop k m) ≡ cond (test k (triangleAt m k)) true (someFrom test (suc k) (drop (suc k) m))
+pub some-turn : (test : ℕ → Triangle → Bool) (m : Mesh) {k : ℕ} → k < length m → someFrom test k (drop k m) ≡ cond (test k (triangleAt m k)) true (someFrom test (suc k) (drop (suc k) m))
 unfolding someFrom
-some-turn test m k h = ap (someFrom test k) (drop-cons m k noTriangle h)
+some-turn test m {k} h = ap (someFrom test k) (drop-cons m k noTriangle h)
 
-pub some-end : (test : ℕ → Triangle → Bool) (m : Mesh) (k : ℕ) → length m ≤ k → someFrom test k (drop k m) ≡ false
+pub some-end : (test : ℕ → Triangle → Bool) (m : Mesh) {k : ℕ} → length m ≤ k → someFrom test k (drop k m) ≡ false
 unfolding someFrom
-some-end test m k h = ap (someFrom test k) (drop-of-length-le m h)
+some-end test m {k} h = ap (someFrom test k) (drop-of-length-le m h)
 
 -- ---- the side that names a neighbour
 
@@ -93,16 +93,16 @@ opposite-side t n =
     by-test (eqb (t .n0) n) (λ a. rw a (omega arith)) (λ a. rw a (by-test (eqb (t .n1) n) (λ b. rw b (omega arith)) (λ b. rw b (omega arith))))
 
 -- no other side names it
-pub opposite-only : (t : Triangle) (n i : ℕ) → named t n ≡ 1 → i < 3 → neighbour t i ≡ n → i ≡ opposite t n
+pub opposite-only : (t : Triangle) {n : ℕ} (i : ℕ) → named t n ≡ 1 → i < 3 → neighbour t i ≡ n → i ≡ opposite t n
 unfolding opposite neighbour named
-opposite-only t n zero h l e = rw (eq-eqb (t .n0) n e)
-opposite-only t n (suc zero) h l e =
+opposite-only t {n} zero h l e = rw (eq-eqb (t .n0) n e)
+opposite-only t {n} (suc zero) h l e =
     by-test (eqb (t .n0) n) (λ a. absurd (two (eqb (t .n2) n) (rw (a, eq-eqb (t .n1) n e) at h))) (λ a. rw (a, eq-eqb (t .n1) n e))
   where
     two : (s : Bool) → 1 + 1 + cond s 1 0 ≡ 1 → ⊥
     two true g = omega (arith, g)
     two false g = omega (arith, g)
-opposite-only t n (suc (suc zero)) h l e =
+opposite-only t {n} (suc (suc zero)) h l e =
     by-test (eqb (t .n0) n) (λ a. absurd (two (eqb (t .n1) n) (rw (a, eq-eqb (t .n2) n e) at h)))
     (λ a. by-test (eqb (t .n1) n) (λ b. absurd (last (rw (a, b, eq-eqb (t .n2) n e) at h))) (λ b. rw (a, b)))
   where
@@ -112,4 +112,4 @@ opposite-only t n (suc (suc zero)) h l e =
 
     last : 0 + 1 + 1 ≡ 1 → ⊥
     last g = omega (arith, g)
-opposite-only t n (suc (suc (suc i))) h l e = absurd (omega arith)
+opposite-only t (suc (suc (suc i))) h l e = absurd (omega arith)

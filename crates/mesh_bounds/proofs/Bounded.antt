@@ -77,13 +77,13 @@ unfolding withinBounds
 within-all h k l m = rw (≤-leZ h, ≤-leZ k, ≤-leZ l, ≤-leZ m)
 
 -- what four properties give, of each point
-all-four : {A B C D : Pt → Type 0} (E : Pt → Type 0) (l : List Pt) → ((p : Pt) → A p → B p → C p → D p → E p) → All A l → All B l → All C l → All D l → All E l
-all-four E [] f a b c d = tt
-all-four E (p ∷ l) f a b c d = (f p (a .0) (b .0) (c .0) (d .0), all-four E l f (a .1) (b .1) (c .1) (d .1))
+all-four : {A B C D : Pt → Type 0} {E : Pt → Type 0} (l : List Pt) → ((p : Pt) → A p → B p → C p → D p → E p) → All A l → All B l → All C l → All D l → All E l
+all-four [] f a b c d = tt
+all-four {E} (p ∷ l) f a b c d = (f p (a .0) (b .0) (c .0) (d .0), all-four l f (a .1) (b .1) (c .1) (d .1))
 
 extremes-bound : (p : Pt) (l : List Pt) → Bounding (extremes (pointBounds p) (p ∷ l)) (p ∷ l)
 extremes-bound p l = record {
-  within = all-four _ (p ∷ l) (λ q a b c d. within-all a b c d) (least-below (λ q. q .x) (p .x) (p ∷ l) .1) (greatest-above (λ q. q .x) (p .x) (p ∷ l) .1) (least-below (λ q. q .y) (p .y) (p ∷ l) .1) (greatest-above (λ q. q .y) (p .y) (p ∷ l) .1);
+  within = all-four (p ∷ l) (λ q a b c d. within-all a b c d) (least-below (λ q. q .x) (p .x) (p ∷ l) .1) (greatest-above (λ q. q .x) (p .x) (p ∷ l) .1) (least-below (λ q. q .y) (p .y) (p ∷ l) .1) (greatest-above (λ q. q .y) (p .y) (p ∷ l) .1);
   least-x = ⊎-elim (λ e. inl (sym e)) (λ r. r) (least-some (λ q. q .x) (p .x) (p ∷ l));
   greatest-x = ⊎-elim (λ e. inl (sym e)) (λ r. r) (greatest-some (λ q. q .x) (p .x) (p ∷ l));
   least-y = ⊎-elim (λ e. inl (sym e)) (λ r. r) (least-some (λ q. q .y) (p .y) (p ∷ l));

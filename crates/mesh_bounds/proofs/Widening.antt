@@ -51,9 +51,9 @@ pub rows-done : (rows : List (List ℤ)) (b : IntRect) (k : ℕ) → length rows
 unfolding widenedBy verticesOf rowsMesh
 rows-done rows b k h = rw (drop-of-length-le rows h)
 
-pub rows-more : (rows : List (List ℤ)) (d : List ℤ) (b : IntRect) (k : ℕ) → k < length rows → {b′ : IntRect} → b′ ≡ widenedBy b (corners (rowTriangle (getD rows k d))) → widenedBy b (verticesOf (rowsMesh (drop k rows))) ≡ widenedBy b′ (verticesOf (rowsMesh (drop (k + 1) rows)))
+pub rows-more : (rows : List (List ℤ)) (d : List ℤ) (b : IntRect) {k : ℕ} → k < length rows → {b′ : IntRect} → b′ ≡ widenedBy b (corners (rowTriangle (getD rows k d))) → widenedBy b (verticesOf (rowsMesh (drop k rows))) ≡ widenedBy b′ (verticesOf (rowsMesh (drop (k + 1) rows)))
 unfolding verticesOf rowsMesh
-rows-more rows d b k h {b′} e =
+rows-more rows d b {k} h {b′} e =
     rw (drop-cons rows k d h, add-one)
     (widened-append b (corners (rowTriangle (getD rows k d))) (verticesOf (rowsMesh (drop (suc k) rows))) ∙ ap (λ x. widenedBy x (verticesOf (rowsMesh (drop (suc k) rows)))) (sym e))
 

@@ -49,9 +49,9 @@ shares-side m k t zero l h = both-true (sharesEdge m k (t .n0) (t .v1) (t .v2)) 
 shares-side m k t (suc zero) l h = both-true (sharesEdge m k (t .n1) (t .v2) (t .v0)) _ (both-true (sharesEdge m k (t .n0) (t .v1) (t .v2)) _ h .1) .0
 shares-side m k t (suc (suc i)) l h = both-true (sharesEdge m k (t .n1) (t .v2) (t .v0)) _ (both-true (sharesEdge m k (t .n0) (t .v1) (t .v2)) _ h .1) .1
 
-shares-earlier : (m : Mesh) (k n : ℕ) (a b : Pt) → n < k → sharesEdge m k n a b ≡ true → sharesBack (triangleAt m n) k a b ≡ true
+shares-earlier : (m : Mesh) {k n : ℕ} (a b : Pt) → n < k → sharesEdge m k n a b ≡ true → sharesBack (triangleAt m n) k a b ≡ true
 unfolding sharesEdge
-shares-earlier m k n a b l h = rw (lt-ltb n k l) at h
+shares-earlier m {k} {n} a b l h = rw (lt-ltb n k l) at h
 
 -- ---- all triangles
 
@@ -78,10 +78,10 @@ no-side test a b c = rw (a, b, c)
 
 none-shared : (test : ℕ → Triangle → ℕ → ℕ → Bool) (m : Mesh) → ((k i : ℕ) → k < length m → i < 3 → (neighbour (triangleAt m k) i ≡ none → ⊥) → test k (triangleAt m k) i (neighbour (triangleAt m k) i) ≡ false)
     → some (λ k t. someSide (shared t (test k t))) m ≡ false
-none-shared test m f = none-of (λ k t. someSide (shared t (test k t))) m (λ k l. no-side (shared (triangleAt m k) (test k (triangleAt m k))) (side k 0 l (omega arith)) (side k 1 l (omega arith)) (side k 2 l (omega arith)))
+none-shared test m f = none-of (λ k t. someSide (shared t (test k t))) m (λ k l. no-side (shared (triangleAt m k) (test k (triangleAt m k))) (side 0 l (omega arith)) (side 1 l (omega arith)) (side 2 l (omega arith)))
   where
-    side : (k i : ℕ) → k < length m → i < 3 → shared (triangleAt m k) (test k (triangleAt m k)) i ≡ false
-    side k i l h = by-test (eqb (neighbour (triangleAt m k) i) none) (λ e. rw e) (λ e. rw e (f k i l h (eqb-false (neighbour (triangleAt m k) i) none e)))
+    side : {k : ℕ} (i : ℕ) → k < length m → i < 3 → shared (triangleAt m k) (test k (triangleAt m k)) i ≡ false
+    side {k} i l h = by-test (eqb (neighbour (triangleAt m k) i) none) (λ e. rw e) (λ e. rw e (f k i l h (eqb-false (neighbour (triangleAt m k) i) none e)))
 
 -- ---- a clean mesh
 
@@ -93,15 +93,15 @@ module _ (m : Mesh) (c : clean m ≡ true) (few : length m ≤ maxTriangles) whe
   edges = both-true (linkedFrom m 0 m) _ (passes .1)
 
   rows : ((k : ℕ) → k < length m → Sound (triangleAt m k)) × ((pos 0 +ℤ sumℤ (map triangleArea m)) ≤ℤ pos 9223372036854775807)
-  rows = sound-rows (pos 0) m (omega zarith) (passes .0)
+  rows = sound-rows m (omega zarith) (passes .0)
 
-  links : (k : ℕ) → k < length m → sharesAll m k (triangleAt m k) ≡ true
-  links k h = subst (λ j. sharesAll m j (triangleAt m k) ≡ true) (omega arith) (linked-rows m 0 m (edges .0) k h)
+  links : {k : ℕ} → k < length m → sharesAll m k (triangleAt m k) ≡ true
+  links {k} h = subst (λ j. sharesAll m j (triangleAt m k) ≡ true) (omega arith) (linked-rows m 0 m (edges .0) k h)
 
   earlier : (k i : ℕ) → k < length m → i < 3 → neighbour (triangleAt m k) i < k → Meets k (triangleAt m k) i (triangleAt m (neighbour (triangleAt m k) i))
   earlier k i l h e =
       let t = triangleAt m k in
-      let b = shares-back (triangleAt m (neighbour t i)) k (vertex t (after i)) (vertex t (before i)) (shares-earlier m k (neighbour t i) (vertex t (after i)) (vertex t (before i)) e (shares-side m k t i h (links k l))) in
+      let b = shares-back (triangleAt m (neighbour t i)) k (vertex t (after i)) (vertex t (before i)) (shares-earlier m (vertex t (after i)) (vertex t (before i)) e (shares-side m k t i h (links l))) in
       record { names = b .0; begins = b .1 .0; ends = b .1 .1 }
 
   sides : Shared m

@@ -23,8 +23,8 @@ pub packs : {p q : Pt} {i j : ℕ} → p ≡ q → SFits w32 (p .x) → SFits w3
 packs {i = i} {j = j} e f g h k = subst (λ z. Packs z (i + j * upper)) e (record { x-fits = f; y-fits = g; is = λ w. h w + k w * upper })
 
 -- equal numbers have equal halves
-halves : (i j k l : ℕ) → i < 4294967296 → k < 4294967296 → i + j * upper ≡ k + l * upper → (i ≡ k) × (j ≡ l)
-halves i j k l g h e = (omega arith, omega arith)
+halves : {i : ℕ} (j : ℕ) {k : ℕ} (l : ℕ) → i < 4294967296 → k < 4294967296 → i + j * upper ≡ k + l * upper → (i ≡ k) × (j ≡ l)
+halves j l g h e = (omega arith, omega arith)
 
 -- the lower half has 32 bits
 lower : {p : Pt} {a : ℕ} → Packs p a → unsigned (p .x) < 4294967296
@@ -32,7 +32,7 @@ lower {p} h = ofZ-fits w32 (p .x) (h .x-fits) .fits
 
 one-point : {p q : Pt} {a b : ℕ} → Packs p a → Packs q b → a ≡ b → p ≡ q
 one-point {p} {q} g h e =
-    let s = halves (unsigned (p .x)) (unsigned (p .y)) (unsigned (q .x)) (unsigned (q .y)) (lower g) (lower h) (sym (g .is) ∙ e ∙ h .is) in
+    let s = halves (unsigned (p .y)) (unsigned (q .y)) (lower g) (lower h) (sym (g .is) ∙ e ∙ h .is) in
     pt-eq (bits-eq (g .x-fits) (h .x-fits) (s .0)) (bits-eq (g .y-fits) (h .y-fits) (s .1))
 
 pub packs-eq : {p q : Pt} {a b : ℕ} → Packs p a → Packs q b → eqb a b ≡ eqPt p q

@@ -39,8 +39,8 @@ module _ (m : Mesh) (test : ℕ → ℕ → Bool) where
   abbrev pub passes : ℕ → Bool
   passes c = test (c / 3) (neighbour (triangleAt m (c / 3)) (c % 3))
 
-  passes-side : (k i : ℕ) {c : ℕ} → i < 3 → c ≡ 3 * k + i → passes c ≡ test k (neighbour (triangleAt m k) i)
-  passes-side k i {c} h e =
+  passes-side : (k : ℕ) {i : ℕ} {c : ℕ} → i < 3 → c ≡ 3 * k + i → passes c ≡ test k (neighbour (triangleAt m k) i)
+  passes-side k {i} {c} h e =
       let d : c / 3 ≡ k = omega arith in
       let r : c % 3 ≡ i = omega arith in
       λ z. test (d z) (neighbour (triangleAt m (d z)) (r z))
@@ -48,7 +48,7 @@ module _ (m : Mesh) (test : ℕ → ℕ → Bool) where
   counted-row : (k : ℕ) {t : Triangle} → triangleAt m k ≡ t → sidesWith test k t + counted passes (3 * k) ≡ counted passes (3 * suc k)
   unfolding counted sidesWith neighbour
   counted-row k {t} e =
-      let at : (i c : ℕ) → i < 3 → c ≡ 3 * k + i → passes c ≡ test k (neighbour t i) = λ i c h q. passes-side k i h q ∙ ap (λ u. test k (neighbour u i)) e in
+      let at : (i c : ℕ) → i < 3 → c ≡ 3 * k + i → passes c ≡ test k (neighbour t i) = λ i c h q. passes-side k h q ∙ ap (λ u. test k (neighbour u i)) e in
       let n : 3 * suc k ≡ suc (suc (suc (3 * k))) = omega arith in
       let a = at 0 (3 * k) (omega arith) (omega arith) in
       let b = at 1 (suc (3 * k)) (omega arith) (omega arith) in
@@ -76,8 +76,8 @@ module _ (m : Mesh) (few : length m ≤ maxTriangles) (area : (k : ℕ) → k < 
   back k i = opposite (triangleAt m (named k i)) k
 
   -- sides of two triangles that meet one side begin at one point of one triangle
-  same-side : (k i l j : ℕ) → k < length m → i < 3 → named k i < k → l < length m → j < 3 → named l j < l → named k i ≡ named l j → back k i ≡ back l j → (k ≡ l) × (i ≡ j)
-  same-side k i l j hk hi ek hl hj el en eb =
+  same-side : {k i l j : ℕ} → k < length m → i < 3 → named k i < k → l < length m → j < 3 → named l j < l → named k i ≡ named l j → back k i ≡ back l j → (k ≡ l) × (i ≡ j)
+  same-side {k} {i} {l} {j} hk hi ek hl hj el en eb =
       let a = earlier k i hk hi ek in
       let b = earlier l j hl hj el in
       let e : k ≡ l = sym (a .names) ∙ (λ z. neighbour (triangleAt m (en z)) (eb z)) ∙ b .names in
@@ -98,13 +98,13 @@ module _ (m : Mesh) (few : length m ≤ maxTriangles) (area : (k : ℕ) → k < 
       let a = earlier k i (omega arith) (omega arith) l in
       let b = opposite-side (triangleAt m n) k in
       let later : namesAfter n k ≡ true = rw (le-ltb k n (omega arith), ne-eqb k none (omega arith)) in
-      (omega arith, passes-side m namesAfter n (back k i) b refl ∙ ap (namesAfter n) (a .names) ∙ later)
+      (omega arith, passes-side m namesAfter n b refl ∙ ap (namesAfter n) (a .names) ∙ later)
 
   apart : (b c : ℕ) → b < 3 * length m → c < 3 * length m → passes m namesBefore b ≡ true → passes m namesBefore c ≡ true → across b ≡ across c → b ≡ c
   apart b c hb hc eb ec e =
       let ob = opposite-side (triangleAt m (named (b / 3) (b % 3))) (b / 3) in
       let oc = opposite-side (triangleAt m (named (c / 3) (c % 3))) (c / 3) in
-      let s = same-side (b / 3) (b % 3) (c / 3) (c % 3) (omega arith) (omega arith) (ltb-true _ (b / 3) eb) (omega arith) (omega arith) (ltb-true _ (c / 3) ec) (omega arith) (omega arith) in
+      let s = same-side (omega arith) (omega arith) (ltb-true _ (b / 3) eb) (omega arith) (omega arith) (ltb-true _ (c / 3) ec) (omega arith) (omega arith) in
       omega (arith, s .0, s .1)
 
   no-more : counted (passes m namesAfter) (3 * length m) ≤ counted (passes m namesBefore) (3 * length m)
@@ -130,7 +130,7 @@ module _ (m : Mesh) (few : length m ≤ maxTriangles) (area : (k : ℕ) → k < 
 
     met-by : n ≤ named n j → MetBy
     met-by g =
-        let o = onto (passes m namesBefore) (passes m namesAfter) across (3 * length m) into apart no-more (3 * n + j) (omega arith) (passes-side m namesAfter n j h refl ∙ rw (le-ltb (named n j) n g, ne-eqb (named n j) none d)) in
+        let o = onto (passes m namesBefore) (passes m namesAfter) across (3 * length m) into apart no-more (omega arith) (passes-side m namesAfter n h refl ∙ rw (le-ltb (named n j) n g, ne-eqb (named n j) none d)) in
         let k = o .0 / 3 in
         let i = o .0 % 3 in
         let b = opposite-side (triangleAt m (named k i)) k in
@@ -157,7 +157,7 @@ module _ (m : Mesh) (few : length m ≤ maxTriangles) (area : (k : ℕ) → k < 
         let t = triangleAt m k in
         let w = s .later in
         let o = first-names t (s .i) (s .names) in
-        let f : opposite t n ≡ s .i = same-side k (opposite t n) k (s .i) (s .in-mesh) (opposite-side t n) (omega (arith, o, w)) (s .in-mesh) (s .side) (omega (arith, s .names, w)) (o ∙ sym (s .names)) (ap (λ u. opposite (triangleAt m u) k) (o ∙ sym (s .names))) .1 in (
+        let f : opposite t n ≡ s .i = same-side (s .in-mesh) (opposite-side t n) (omega (arith, o, w)) (s .in-mesh) (s .side) (omega (arith, s .names, w)) (o ∙ sym (s .names)) (ap (λ u. opposite (triangleAt m u) k) (o ∙ sym (s .names))) .1 in (
           omega (arith, s .is, s .in-mesh),
           subst (λ u. Meets n (triangleAt m n) j (triangleAt m u)) (sym (s .is)) (record {
             names = o;

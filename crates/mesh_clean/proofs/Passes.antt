@@ -36,25 +36,25 @@ module _ (rows : List (List ℤ)) where
   pub linking-start : {s : Seen} → s .before ≡ 0 → s .after ≡ 0 → Linking rows 0 s
   linking-start e f = record { rest = refl; before = omega arith; after = omega arith; few-before = omega arith; few-after = omega arith }
 
-  none-left : (test : ℕ → ℕ → Bool) (k : ℕ) → length rows ≤ k → sidesFrom test k (drop k m) ≡ 0
+  none-left : (test : ℕ → ℕ → Bool) {k : ℕ} → length rows ≤ k → sidesFrom test k (drop k m) ≡ 0
   unfolding sidesFrom
-  none-left test k h = ap (sidesFrom test k) (past-rows rows k h)
+  none-left test {k} h = ap (sidesFrom test k) (past-rows rows h)
 
   pub linking-end : {k : ℕ} {s : Seen} → length rows ≤ k → Linking rows k s → eqb (s .before) (s .after) ≡ linked m
   unfolding linkedFrom
   linking-end {k} {s} h g =
-      let b : s .before ≡ sidesFrom namesBefore 0 m = omega (arith, g .before, none-left namesBefore k h) in
-      let a : s .after ≡ sidesFrom namesAfter 0 m = omega (arith, g .after, none-left namesAfter k h) in
-      (λ i. eqb (b i) (a i)) ∙ sym (rw (g .rest ∙ ap (linkedFrom m k) (past-rows rows k h)))
+      let b : s .before ≡ sidesFrom namesBefore 0 m = omega (arith, g .before, none-left namesBefore h) in
+      let a : s .after ≡ sidesFrom namesAfter 0 m = omega (arith, g .after, none-left namesAfter h) in
+      (λ i. eqb (b i) (a i)) ∙ sym (rw (g .rest ∙ ap (linkedFrom m k) (past-rows rows h)))
 
   module _ (k : ℕ) (h : k < length rows) {s : Seen} (g : Linking rows k s) {r : Seen} (c : RowCounted m k (triangleAt m k) s r) where
     linking-turn : linkedFrom m 0 m ≡ cond (sharesAll m k (triangleAt m k)) (linkedFrom m (suc k) (drop (suc k) m)) false
     unfolding linkedFrom
-    linking-turn = g .rest ∙ ap (linkedFrom m k) (next-row rows k h)
+    linking-turn = g .rest ∙ ap (linkedFrom m k) (next-row rows h)
 
     counted-turn : (test : ℕ → ℕ → Bool) → sidesFrom test k (drop k m) ≡ sidesWith test k (triangleAt m k) + sidesFrom test (k + 1) (drop (k + 1) m)
     unfolding sidesFrom
-    counted-turn test = ap (sidesFrom test k) (next-row rows k h) ∙ rw add-one
+    counted-turn test = ap (sidesFrom test k) (next-row rows h) ∙ rw add-one
 
     pub linking-row : r .shared ≡ false → false ≡ linked m
     linking-row e = let f : linkedFrom m 0 m ≡ false = linking-turn ∙ rw (sym (c .shared) ∙ e) in sym (rw f)

@@ -83,8 +83,8 @@ pub record Shared (m : Mesh) : Type 0 where
 
 module _ (m : Mesh) (s : Shared m) where
   -- two sides with one neighbour run from one point, so they are one
-  names-once : (k i j : ℕ) → k < length m → i < 3 → j < 3 → (neighbour (triangleAt m k) i ≡ none → ⊥) → neighbour (triangleAt m k) j ≡ neighbour (triangleAt m k) i → j ≡ i
-  names-once k i j l hi hj d e =
+  names-once : {k i j : ℕ} → k < length m → i < 3 → j < 3 → (neighbour (triangleAt m k) i ≡ none → ⊥) → neighbour (triangleAt m k) j ≡ neighbour (triangleAt m k) i → j ≡ i
+  names-once {k} {i} {j} l hi hj d e =
       let t = triangleAt m k in
       let p : vertex t (after j) ≡ vertex t (after i) = s .meets k j l hj (λ z. d (sym e ∙ z)) .begins ∙ ap (λ n. vertex (triangleAt m n) (before (opposite (triangleAt m n) k))) e ∙ sym (s .meets k i l hi d .begins) in
       sym (round j hj) ∙ ap before (vertices t (s .area k l) (after j) (after i) (after-side j) (after-side i) p) ∙ round i hi
@@ -97,13 +97,13 @@ module _ (m : Mesh) (s : Shared m) where
     n = neighbour t i
 
     pub named-once : named t n ≡ 1
-    named-once = alone t i h (λ j g e. names-once k i j l h g d e)
+    named-once = alone t i h (λ j g e. names-once l h g d e)
 
     pub named-back : named (triangleAt m n) k ≡ 1
     named-back =
         let u = triangleAt m n in
         let e = s .meets k i l h d .names in
-        ap (named u) (sym e) ∙ alone u (opposite u k) (opposite-side u k) (λ j g q. names-once n (opposite u k) j (s .in-mesh k i l h d) (opposite-side u k) g (λ z. omega (arith, z, e, s .few)) q)
+        ap (named u) (sym e) ∙ alone u (opposite u k) (opposite-side u k) (λ j g q. names-once (s .in-mesh k i l h d) (opposite-side u k) g (λ z. omega (arith, z, e, s .few)) q)
 
     -- else a side would run as one of the same triangle does, the other way round
     pub not-self : n ≡ k → ⊥

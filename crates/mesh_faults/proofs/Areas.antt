@@ -40,21 +40,21 @@ module _ (rows : List (List ℤ)) where
   unfolding meshArea
   sum-start = record { low = omega zarith; high = omega zarith; whole = omega (zarith, add-parts (pos 0) (rest rows 0)) }
 
-  turn : (k : ℕ) → k < length rows → rest rows k ≡ triangleArea (rowTriangle (getD rows k [])) +ℤ rest rows (suc k)
-  turn k h =
+  turn : {k : ℕ} → k < length rows → rest rows k ≡ triangleArea (rowTriangle (getD rows k [])) +ℤ rest rows (suc k)
+  turn {k} h =
       ap (λ l. sumℤ (map triangleArea l)) (drop-cons (rowsMesh rows) k noTriangle (omega (arith, length-rows rows)))
       ∙ sum-cons (triangleArea (triangleAt (rowsMesh rows) k)) (map triangleArea (drop (suc k) (rowsMesh rows)))
       ∙ ap (λ t. triangleArea t +ℤ rest rows (suc k)) (triangle-row rows k h)
 
   module _ (f : flat (rowsMesh rows) ≡ false) where
-    pub row-above : (k : ℕ) → k < length rows → pos 0 ≤ℤ triangleArea (rowTriangle (getD rows k []))
-    row-above k h = omega (zarith, area-rule (rowsMesh rows) f k (omega (arith, length-rows rows)), ap triangleArea (triangle-row rows k h))
+    pub row-above : {k : ℕ} → k < length rows → pos 0 ≤ℤ triangleArea (rowTriangle (getD rows k []))
+    row-above {k} h = omega (zarith, area-rule (rowsMesh rows) f {k = k} (omega (arith, length-rows rows)), ap triangleArea (triangle-row rows k h))
 
     rest-low : (k : ℕ) → pos 0 ≤ℤ rest rows k
     rest-low k =
         sum-low (drop k (rowsMesh rows))
         (getD-all (λ t. pos 0 ≤ℤ triangleArea t) (drop k (rowsMesh rows)) noTriangle
-        (λ i h. omega (zarith, area-rule (rowsMesh rows) f (k + i) (omega (arith, h, length-drop k (rowsMesh rows))), ap triangleArea (getD-drop k (rowsMesh rows) i noTriangle))))
+        (λ i h. omega (zarith, area-rule (rowsMesh rows) f {k = k + i} (omega (arith, h, length-drop k (rowsMesh rows))), ap triangleArea (getD-drop k (rowsMesh rows) i noTriangle))))
 
     module _ (k : ℕ) (h : k < length rows) {z : ℤ} (s : Sum rows k z) where
       abbrev area : ℤ
@@ -62,15 +62,15 @@ module _ (rows : List (List ℤ)) where
 
       pub sum-next : (z +ℤ area) ≤ℤ pos 9223372036854775807 → Sum rows (k + 1) (z +ℤ area)
       sum-next g = record {
-        low = omega (zarith, s .low, row-above k h, add-parts z area);
+        low = omega (zarith, s .low, row-above h, add-parts z area);
         high = g;
-        whole = s .whole ∙ omega (zarith, turn k h, add-parts z (rest rows k), add-parts area (rest rows (suc k)), add-parts z area, add-parts (z +ℤ area) (rest rows (suc k)), ap (rest rows) (add-one k), add-parts (z +ℤ area) (rest rows (k + 1)));
+        whole = s .whole ∙ omega (zarith, turn h, add-parts z (rest rows k), add-parts area (rest rows (suc k)), add-parts z area, add-parts (z +ℤ area) (rest rows (suc k)), ap (rest rows) (add-one k), add-parts (z +ℤ area) (rest rows (k + 1)));
       }
 
       pub sum-past : pos 9223372036854775807 <ℤ (z +ℤ area) → true ≡ tooLarge (rowsMesh rows)
       unfolding tooLarge
       sum-past g =
-          sym (<-ltZ {x = pos 9223372036854775807} {y = meshArea (rowsMesh rows)} (omega (zarith, g, s .whole, rest-low (suc k), turn k h, add-parts z (rest rows k), add-parts area (rest rows (suc k)), add-parts z area)))
+          sym (<-ltZ {x = pos 9223372036854775807} {y = meshArea (rowsMesh rows)} (omega (zarith, g, s .whole, rest-low (suc k), turn h, add-parts z (rest rows k), add-parts area (rest rows (suc k)), add-parts z area)))
 
   pub sum-end : {k : ℕ} {z : ℤ} → length rows ≤ k → Sum rows k z → false ≡ tooLarge (rowsMesh rows)
   unfolding tooLarge sumℤ

@@ -17,8 +17,8 @@ true-false q = let z : _≡_ {A = ℕ} 0 1 = ap (λ t. cond t 0 1) q in omega ar
 
 -- ---- one word
 
-pub put-word : {t : Bool} (at w : ℕ) (old : List ℕ) → at + 1 ≤ length old → t ≡ true → Put t (w ∷ []) at old (set old at w) true
-put-word at w old h e =
+pub put-word : {t : Bool} {at : ℕ} (w : ℕ) {old : List ℕ} → at + 1 ≤ length old → t ≡ true → Put t (w ∷ []) at old (set old at w) true
+put-word {at} w {old} h e =
     record {
       answer = sym e;
       front = λ q. rw add-one (take-suc-set old at w (omega arith));

@@ -40,9 +40,9 @@ same-eq (a ∷ l) (b ∷ m) e =
     (λ q. absurd (true-false (sym (rw q at e))))
 
 -- a test that tells equality is `sameBytes`
-pub same-test : (l m : List ℕ) (r : Bool) → (r ≡ true → l ≡ m) × (l ≡ m → r ≡ true) → r ≡ sameBytes l m
-same-test l m true h = sym (ap (λ k. sameBytes k m) (h .0 refl) ∙ same-refl m)
-same-test l m false h =
+pub same-test : {l m : List ℕ} (r : Bool) → (r ≡ true → l ≡ m) × (l ≡ m → r ≡ true) → r ≡ sameBytes l m
+same-test {m} true h = sym (ap (λ k. sameBytes k m) (h .0 refl) ∙ same-refl m)
+same-test {l} {m} false h =
     by-test (sameBytes l m)
     (λ e. absurd (true-false (sym (h .1 (same-eq l m e)))))
     (λ e. sym e)

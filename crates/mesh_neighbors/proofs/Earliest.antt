@@ -33,9 +33,9 @@ or a b = cond a true b
 abbrev Later : ℕ → ℕ → Type 0
 Later n x = (x ≡ 0 → ⊥) → n < x
 
-same : (n : ℕ) → 0 < n → earlier n n ≡ n
+same : {n : ℕ} → 0 < n → earlier n n ≡ n
 unfolding earlier
-same n h = rw (ne-eqb n 0 (omega arith), le-ltb n n (omega arith))
+same {n} h = rw (ne-eqb n 0 (omega arith), le-ltb n n (omega arith))
 
 before : {n x : ℕ} → 0 < n → Later n x → earlier n x ≡ n
 unfolding earlier
@@ -48,18 +48,18 @@ after {n} {x} h l =
     (λ e. rw (e, ne-eqb n 0 (omega arith), le-ltb x n (omega (arith, l (eqb-false x 0 e)))))
 
 one-told : {n : ℕ} → 0 < n → (a b : Bool) {x y : ℕ} → Later n x → Later n y → cond (or a b) n (earlier x y) ≡ earlier (cond a n x) (cond b n y)
-one-told {n} h true true k l = sym (same n h)
+one-told {n} h true true k l = sym (same h)
 one-told h true false k l = sym (before h l)
 one-told h false true k l = sym (after h k)
 one-told h false false k l = refl
 
-later-last : (n m : ℕ) → n < m → (c : Bool) → Later n (cond c m 0)
-later-last n m h true e = h
-later-last n m h false e = absurd (e refl)
+later-last : {n m : ℕ} → n < m → (c : Bool) → Later n (cond c m 0)
+later-last h true e = h
+later-last h false e = absurd (e refl)
 
-later-next : {n : ℕ} (m : ℕ) → n < m → (b : Bool) {x : ℕ} → Later n x → Later n (cond b m x)
-later-next m h true l e = h
-later-next m h false l e = l e
+later-next : {n : ℕ} {m : ℕ} → n < m → (b : Bool) {x : ℕ} → Later n x → Later n (cond b m x)
+later-next h true l e = h
+later-next h false l e = l e
 
 last-told : (a b : Bool) → _≡_ {A = ℕ} (cond (or a b) 5 0) (earlier (cond a 5 0) (cond b 5 0))
 unfolding earlier
@@ -75,9 +75,9 @@ both-told a b c a′ b′ c′ =
     let x : ℕ = cond c 5 0 in
     let y : ℕ = cond c′ 5 0 in
     ap (λ w. cond (or a a′) 3 (cond (or b b′) 4 w)) (last-told c c′)
-    ∙ ap (cond (or a a′) 3) (one-told (omega arith) b b′ (later-last 4 5 (omega arith) c) (later-last 4 5 (omega arith) c′))
+    ∙ ap (cond (or a a′) 3) (one-told (omega arith) b b′ (later-last (omega arith) c) (later-last (omega arith) c′))
     ∙ one-told (omega arith) a a′
-    (later-next 4 (omega arith) b (later-last 3 5 (omega arith) c)) (later-next 4 (omega arith) b′ (later-last 3 5 (omega arith) c′))
+    (later-next (omega arith) b (later-last (omega arith) c)) (later-next (omega arith) b′ (later-last (omega arith) c′))
 
 -- ---- three sides
 
@@ -117,11 +117,11 @@ module _ (m : Mesh) where
 
   left-turn : (test : ℕ → Triangle → Bool) {k : ℕ} (b : Bool) → k < length m → Left test k b → Left test (k + 1) (or b (test k (triangleAt m k)))
   left-turn test {k} b h e =
-      e ∙ ap (or b) (some-turn test m k h) ∙ or-assoc b (test k (triangleAt m k)) (someFrom test (suc k) (drop (suc k) m))
+      e ∙ ap (or b) (some-turn test m h) ∙ or-assoc b (test k (triangleAt m k)) (someFrom test (suc k) (drop (suc k) m))
       ∙ ap (λ n. or (or b (test k (triangleAt m k))) (someFrom test n (drop n m))) (sym (add-one k))
 
   left-end : (test : ℕ → Triangle → Bool) {k : ℕ} (b : Bool) → length m ≤ k → Left test k b → some test m ≡ b
-  left-end test {k} b h e = e ∙ ap (or b) (some-end test m k h) ∙ or-false b
+  left-end test {k} b h e = e ∙ ap (or b) (some-end test m h) ∙ or-false b
 
   -- the faults of the triangles before k
   pub record Judged (k fault : ℕ) : Type 0 where

@@ -108,9 +108,9 @@ kinds false false false true true = refl
 kinds false false false true false = refl
 kinds false false false false y = refl
 
-pub side-kinds : (m : Mesh) (k i : ℕ) → i < 3 → sideFault m k (neighbour (triangleAt m k) i) (neighbour (triangleAt m k) (after i)) (neighbour (triangleAt m k) (before i)) (vertex (triangleAt m k) (after i)) (vertex (triangleAt m k) (before i)) ≡ kindsAt m k i
+pub side-kinds : (m : Mesh) (k : ℕ) {i : ℕ} → i < 3 → sideFault m k (neighbour (triangleAt m k) i) (neighbour (triangleAt m k) (after i)) (neighbour (triangleAt m k) (before i)) (vertex (triangleAt m k) (after i)) (vertex (triangleAt m k) (before i)) ≡ kindsAt m k i
 unfolding sideFault firstFault runsOppositely
-side-kinds m k i h =
+side-kinds m k {i} h =
     let t = triangleAt m k in
     let n = neighbour t i in
     let u = triangleAt m n in
@@ -120,8 +120,8 @@ side-kinds m k i h =
     (sym (named-once t i h))
 
 -- the same of a row's numbers and points
-pub side-read : (rows : List (List ℤ)) (k i : ℕ) → k < length rows → i < 3 → {n o p r : ℕ} {a b : Pt} → n ≡ neighbour (rowTriangle (getD rows k [])) i → o ≡ neighbour (rowTriangle (getD rows k [])) (after i) → p ≡ neighbour (rowTriangle (getD rows k [])) (before i) → a ≡ vertex (rowTriangle (getD rows k [])) (after i) → b ≡ vertex (rowTriangle (getD rows k [])) (before i) → r ≡ sideFault (rowsMesh rows) k n o p a b → r ≡ kindsAt (rowsMesh rows) k i
-side-read rows k i h l en eo ep ea eb er =
+pub side-read : (rows : List (List ℤ)) {k i : ℕ} → k < length rows → i < 3 → {n o p r : ℕ} {a b : Pt} → n ≡ neighbour (rowTriangle (getD rows k [])) i → o ≡ neighbour (rowTriangle (getD rows k [])) (after i) → p ≡ neighbour (rowTriangle (getD rows k [])) (before i) → a ≡ vertex (rowTriangle (getD rows k [])) (after i) → b ≡ vertex (rowTriangle (getD rows k [])) (before i) → r ≡ sideFault (rowsMesh rows) k n o p a b → r ≡ kindsAt (rowsMesh rows) k i
+side-read rows {k} {i} h l en eo ep ea eb er =
     let w = sym (triangle-row rows k h) in
     er ∙ (λ j. sideFault (rowsMesh rows) k (en j) (eo j) (ep j) (ea j) (eb j))
-    ∙ ap (λ t. sideFault (rowsMesh rows) k (neighbour t i) (neighbour t (after i)) (neighbour t (before i)) (vertex t (after i)) (vertex t (before i))) w ∙ side-kinds (rowsMesh rows) k i l
+    ∙ ap (λ t. sideFault (rowsMesh rows) k (neighbour t i) (neighbour t (after i)) (neighbour t (before i)) (vertex t (after i)) (vertex t (before i))) w ∙ side-kinds (rowsMesh rows) k l

@@ -37,9 +37,9 @@ accepted-header bytes e = append-first (headerKinds bytes) (meshKinds (meshOf by
 
 -- ---- within bounds
 
-in-bounds : (b : IntRect) (p : Pt) → withinBounds b p ≡ true → In b p
+in-bounds : {b : IntRect} {p : Pt} → withinBounds b p ≡ true → In b p
 unfolding withinBounds
-in-bounds b p h =
+in-bounds {b} {p} h =
     let a = both-true (leZ (b .«min_x») (p .x)) _ h in
     let c = both-true (leZ (p .x) (b .«max_x»)) _ (a .1) in
     let d = both-true (leZ (b .«min_y») (p .y)) _ (c .1) in
@@ -59,7 +59,7 @@ not-broken b l h k a = rw (≤-ltZ h, ≤-ltZ k) (none-outside b l a)
 all-within : (m : Mesh) → All (In (meshBounds m)) (verticesOf m)
 unfolding verticesOf
 all-within [] = tt
-all-within (t ∷ m) = all-map (verticesOf (t ∷ m)) (λ p h. in-bounds (meshBounds (t ∷ m)) p h) (mesh-bounded t m .within)
+all-within (t ∷ m) = all-map (verticesOf (t ∷ m)) (λ p h. in-bounds h) (mesh-bounded t m .within)
 
 least-first : (m : Mesh) → (meshBounds m .«min_x» ≤ℤ meshBounds m .«max_x») × (meshBounds m .«min_y» ≤ℤ meshBounds m .«max_y»)
 unfolding verticesOf boundsOf

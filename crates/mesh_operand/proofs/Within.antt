@@ -39,11 +39,11 @@ vertex-has P (t ∷ m) h zero (suc (suc i)) l = h .1 .1 .0
 vertex-has P (t ∷ m) h (suc k) i l = vertex-has P m (h .1 .1 .1) k i (omega (arith, l))
 
 -- a part is not empty, for its doubled area is above 0
-centre-in : (b : IntRect) {l : List Pt} → Summable l → All (In b) l → In b (roundedCentre l)
-centre-in b {l = []} s h = unfold contourArea neighbours sumℤ in differ (s .above)
-centre-in b {l = c ∷ l} s h = centre-within c l s (b .«min_x») (b .«max_x») (b .«min_y») (b .«max_y») h
+centre-in : {b : IntRect} {l : List Pt} → Summable l → All (In b) l → In b (roundedCentre l)
+centre-in {l = []} s h = unfold contourArea neighbours sumℤ in differ (s .above)
+centre-in {b} {l = c ∷ l} s h = centre-within s h
 
 pub split-within : (how : ConvexSplitStrategy) (m : ℕ) (mesh : Mesh) (b : IntRect) → firstFault (meshKinds mesh) ≡ 0 → All (In b) (verticesOf mesh) → All (All (In b)) (splitParts how m mesh)
 split-within how m mesh b h v =
-    all-split {P = λ l. Summable l × All (In b) l} (All (In b)) how m mesh (λ l s. split-corners (In b) how (raised m) l (s .1) (centre-in b (s .0) (s .1)))
+    all-split {P = λ l. Summable l × All (In b) l} (All (In b)) how m mesh (λ l s. split-corners (In b) how (raised m) l (s .1) (centre-in (s .0) (s .1)))
     (all-map2 (parts mesh) (λ l x y. (x, y)) (parts-summable mesh h) (parts-vertices (In b) mesh (accepted mesh h) (vertex-has (In b) mesh v)))

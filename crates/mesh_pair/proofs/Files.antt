@@ -20,23 +20,23 @@ no-word : (l : List ℕ) → length l ≡ 0 → getD l 0 0 ≡ 0
 no-word [] e = refl
 no-word (x ∷ l) e = absurd (omega (arith, e))
 
-pub cut-none : (bytes : List ℕ) → length bytes < 4 → Cut bytes 0
+pub cut-none : {bytes : List ℕ} → length bytes < 4 → Cut bytes 0
 unfolding leftFile rightFile
-cut-none bytes h =
+cut-none {bytes} h =
     let z : wordAt bytes 0 ≡ 0 = no-word (wordsOf bytes) (omega (arith, length-words bytes)) in
     record { inside = omega arith; left = ap (λ n. take n bytes) (sym z); right = ap (λ n. drop n bytes) (sym z) }
 
-pub cut-past : (bytes : List ℕ) {total : ℕ} → total ≡ wordAt bytes 0 → length bytes < total → Cut bytes (length bytes)
+pub cut-past : {bytes : List ℕ} {total : ℕ} → total ≡ wordAt bytes 0 → length bytes < total → Cut bytes (length bytes)
 unfolding leftFile rightFile
-cut-past bytes {total} e h = record {
+cut-past {bytes} {total} e h = record {
   inside = omega arith;
   left = take-length bytes ∙ sym (take-all (wordAt bytes 0) bytes (omega (arith, e)));
   right = drop-of-length-le bytes {i = length bytes} (omega arith) ∙ sym (drop-of-length-le bytes {i = wordAt bytes 0} (omega (arith, e)));
 }
 
-pub cut-at : (bytes : List ℕ) {total : ℕ} → total ≡ wordAt bytes 0 → total ≤ length bytes → Cut bytes total
+pub cut-at : {bytes : List ℕ} {total : ℕ} → total ≡ wordAt bytes 0 → total ≤ length bytes → Cut bytes total
 unfolding leftFile rightFile
-cut-at bytes e h = record { inside = h; left = ap (λ n. take n bytes) e; right = ap (λ n. drop n bytes) e }
+cut-at {bytes} e h = record { inside = h; left = ap (λ n. take n bytes) e; right = ap (λ n. drop n bytes) e }
 
 -- ---- both
 

@@ -28,15 +28,15 @@ negative-fits : (n : ℕ) → n ≤ 2147483648 → SFits w32 (negℤ (pos n))
 negative-fits zero h = record { sfits = omega arith }
 negative-fits (suc n) h = record { sfits = omega arith }
 
-positive-fits : (n : ℕ) → n ≤ 2147483647 → SFits w32 (pos n)
-positive-fits n h = record { sfits = omega arith }
+positive-fits : {n : ℕ} → n ≤ 2147483647 → SFits w32 (pos n)
+positive-fits h = record { sfits = omega arith }
 
 coordinate-fits : (l : List ℕ) → isCoordinate l ≡ true → SFits w32 (coordinateOf l)
 unfolding isCoordinate coordinateOf
 coordinate-fits l e =
     by-test (hasMinus l)
     (λ m. rw m (negative-fits (valueOf (drop 1 l)) (at-most 2147483648 (drop 1 l) (rw m at e))))
-    (λ m. rw m (positive-fits (valueOf l) (at-most 2147483647 l (rw m at e))))
+    (λ m. rw m (positive-fits (at-most 2147483647 l (rw m at e))))
 
 -- the bits of a number that fits
 pub unsigned-small : (z : ℤ) → SFits w32 z → Word (unsigned z)

@@ -83,8 +83,8 @@ all-triangles : (ls : List (List ℕ)) → All (λ l. isTriangle l ≡ true) ls 
 all-triangles [] h = tt
 all-triangles (l ∷ ls) h = (triangle-fits l (h .0), all-triangles ls (h .1))
 
-pub read-back : (text : List ℕ) → wrongLine text ≡ 0 → ReadBack text
-read-back text e =
+pub read-back : {text : List ℕ} → wrongLine text ≡ 0 → ReadBack text
+read-back {text} e =
     let r = right-text text e in
     let l = limit-small (firstLine text) (r .0) in
     let s = split-small (fieldOf 2 (firstLine text)) in

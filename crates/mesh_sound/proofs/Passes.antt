@@ -34,15 +34,15 @@ sound-parts t h =
     let e = not-then (triangleOff t) _ h in
     record { on-grid = e .0; above = not-true (leZ (triangleArea t) (pos 0)) (e .1) }
 
-pub sound-rows : (z : ℤ) (l : List Triangle) → z ≤ℤ pos 9223372036854775807 → soundFrom z l ≡ true
+pub sound-rows : {z : ℤ} (l : List Triangle) → z ≤ℤ pos 9223372036854775807 → soundFrom z l ≡ true
     → ((i : ℕ) → i < length l → Sound (triangleAt l i)) × ((z +ℤ sumℤ (map triangleArea l)) ≤ℤ pos 9223372036854775807)
 unfolding soundFrom sumℤ
-sound-rows z [] g h = ((λ i l. absurd (omega arith)), omega (zarith, add-parts z (pos 0)))
-sound-rows z (t ∷ l) g h =
+sound-rows {z} [] g h = ((λ i l. absurd (omega arith)), omega (zarith, add-parts z (pos 0)))
+sound-rows {z} (t ∷ l) g h =
     let s = sumℤ (map triangleArea l) in
     let e = both-true (sound t) _ h in
     let f = not-then (ltZ (pos 9223372036854775807) (z +ℤ triangleArea t)) (soundFrom (z +ℤ triangleArea t) l) (e .1) in
-    let r = sound-rows (z +ℤ triangleArea t) l (ltZ-≤ _ _ (f .0)) (f .1) in
+    let r = sound-rows l (ltZ-≤ _ _ (f .0)) (f .1) in
     (at (e .0) (r .0), omega (zarith, r .1, add-parts (z +ℤ triangleArea t) s, add-parts z (triangleArea t), add-parts z (triangleArea t +ℤ s), add-parts (triangleArea t) s))
   where
     at : sound t ≡ true → ((i : ℕ) → i < length l → Sound (triangleAt l i)) → (i : ℕ) → i < suc (length l) → Sound (triangleAt (t ∷ l) i)
@@ -52,7 +52,7 @@ sound-rows z (t ∷ l) g h =
 -- a row that is not off the grid is on it
 pub on-grid : (row : List ℤ) → triangleOff (rowTriangle row) ≡ false → RowOnGrid row
 unfolding offGrid someFrom rowsMesh
-on-grid row e = row-on-grid (row ∷ []) 0 (omega arith) (rw e)
+on-grid row e = row-on-grid (row ∷ []) {k = 0} (omega arith) (rw e)
 
 -- ---- the pass
 
@@ -67,18 +67,18 @@ module _ (rows : List (List ℤ)) where
   abbrev m : Mesh
   m = rowsMesh rows
 
-  pub past-rows : (k : ℕ) → length rows ≤ k → drop k m ≡ []
-  past-rows k h = drop-of-length-le m {i = k} (omega (arith, length-rows rows))
+  pub past-rows : {k : ℕ} → length rows ≤ k → drop k m ≡ []
+  past-rows {k} h = drop-of-length-le m {i = k} (omega (arith, length-rows rows))
 
-  pub next-row : (k : ℕ) → k < length rows → drop k m ≡ triangleAt m k ∷ drop (suc k) m
-  next-row k h = drop-cons m k noTriangle (omega (arith, length-rows rows))
+  pub next-row : {k : ℕ} → k < length rows → drop k m ≡ triangleAt m k ∷ drop (suc k) m
+  next-row {k} h = drop-cons m k noTriangle (omega (arith, length-rows rows))
 
   pub going-start : Going rows 0 (pos 0)
   going-start = record { low = omega zarith; rest = refl }
 
   pub going-end : {k : ℕ} {z : ℤ} → length rows ≤ k → Going rows k z → true ≡ soundFrom (pos 0) m
   unfolding soundFrom
-  going-end {k} {z} h g = sym (g .rest ∙ ap (soundFrom z) (past-rows k h))
+  going-end {k} {z} h g = sym (g .rest ∙ ap (soundFrom z) (past-rows h))
 
   module _ (k : ℕ) (h : k < length rows) where
     abbrev t : Triangle
@@ -96,7 +96,7 @@ module _ (rows : List (List ℤ)) where
     module _ {z : ℤ} (g : Going rows k z) where
       turn : soundFrom (pos 0) m ≡ cond (sound t) (cond (ltZ top (z +ℤ area)) false (soundFrom (z +ℤ area) (drop (suc k) m))) false
       unfolding soundFrom
-      turn = g .rest ∙ ap (soundFrom z) (next-row k h ∙ ap (λ u. u ∷ drop (suc k) m) (triangle-row rows k h))
+      turn = g .rest ∙ ap (soundFrom z) (next-row h ∙ ap (λ u. u ∷ drop (suc k) m) (triangle-row rows k h))
 
       pub going-row : sound t ≡ false → false ≡ soundFrom (pos 0) m
       going-row e = sym (turn ∙ rw e)

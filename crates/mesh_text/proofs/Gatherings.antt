@@ -57,24 +57,24 @@ module _ (l : List ℕ) (ls : List (List ℕ)) where
 
 -- ---- a line's words
 
-pub fits-many : (k : ℕ) (l : List ℕ) → (k ≡ 0 → ⊥) → maxWritten < k → fits k l ≡ false
+pub fits-many : {k : ℕ} (l : List ℕ) → (k ≡ 0 → ⊥) → maxWritten < k → fits k l ≡ false
 unfolding fits
-fits-many k l h g = rw (ne-eqb k 0 h, lt-ltb maxWritten k g)
+fits-many {k} l h g = rw (ne-eqb k 0 h, lt-ltb maxWritten k g)
 
 pub fits-few : (k : ℕ) (l : List ℕ) → fits k l ≡ true → k ≤ maxWritten
 fits-few k l e =
     by-test (eqb k 0)
     (λ z. omega (arith, eqb-true k 0 z))
-    (λ z. by-test (ltb maxWritten k) (λ g. absurd (true-false (sym e ∙ fits-many k l (eqb-false k 0 z) (ltb-true maxWritten k g)))) (λ g. ltb-false maxWritten k g))
+    (λ z. by-test (ltb maxWritten k) (λ g. absurd (true-false (sym e ∙ fits-many l (eqb-false k 0 z) (ltb-true maxWritten k g)))) (λ g. ltb-false maxWritten k g))
 
 pub put-first : {k : ℕ} (l : List ℕ) {old new : List ℕ} {r : Bool} → k ≡ 0 → Put (isHead l) (headWords l) 0 old new r → Put (fits k l) (lineWords k l) (rowWidth * k - fewer) old new r
 unfolding fits lineWords
 put-first l {old} {new} {r} e p = subst (λ j. Put (fits j l) (lineWords j l) (rowWidth * j - fewer) old new r) (sym e) p
 
-pub put-next : (k : ℕ) (l : List ℕ) {old new : List ℕ} {r : Bool} → (k ≡ 0 → ⊥) → k ≤ maxWritten → Put (isTriangle l) (triangleWords (triangleOf l)) (rowWidth * k - fewer) old new r
+pub put-next : {k : ℕ} (l : List ℕ) {old new : List ℕ} {r : Bool} → (k ≡ 0 → ⊥) → k ≤ maxWritten → Put (isTriangle l) (triangleWords (triangleOf l)) (rowWidth * k - fewer) old new r
     → Put (fits k l) (lineWords k l) (rowWidth * k - fewer) old new r
 unfolding fits lineWords
-put-next k l h g p = rw (ne-eqb k 0 h, le-ltb maxWritten k g) p
+put-next {k} l h g p = rw (ne-eqb k 0 h, le-ltb maxWritten k g) p
 
 pub fits-head : (l : List ℕ) → fits 0 l ≡ true → isHead l ≡ true
 unfolding fits

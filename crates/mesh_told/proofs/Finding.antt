@@ -23,8 +23,8 @@ pub record Seeking (text : List ℕ) (n from left count : ℕ) : Type 0 where
   pub near : count ≤ from
   pub within : from ≤ length text + 1
 
-pub seeking-begins : (text : List ℕ) (n : ℕ) {from : ℕ} → from ≡ markEnd text → from ≤ length text → Seeking text n from n 0
-seeking-begins text n e h = record { said = ap (λ m. saidAt n 0 (linesOf (drop m text))) (sym e); near = omega arith; within = omega arith }
+pub seeking-begins : {text : List ℕ} (n : ℕ) {from : ℕ} → from ≡ markEnd text → from ≤ length text → Seeking text n from n 0
+seeking-begins {text} n e h = record { said = ap (λ m. saidAt n 0 (linesOf (drop m text))) (sym e); near = omega arith; within = omega arith }
 
 module _ {text : List ℕ} {n from left count : ℕ} (g : Seeking text n from left count) where
   module _ {e : ℕ} (h : from < length text) (q : e ≡ from + runLength (inRun run.Line) (drop from text)) (u : e ≤ length text) where

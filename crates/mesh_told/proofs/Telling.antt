@@ -31,11 +31,11 @@ use Rattle.mesh_told.specs.Search.{Sought}
 
 -- ---- a field shown
 
-pub shown-all : (n : ℕ) → n ≤ 40 → n ≡ shownOf n
-shown-all n h = rw (le-ltb 40 n h)
+pub shown-all : {n : ℕ} → n ≤ 40 → n ≡ shownOf n
+shown-all {n} h = rw (le-ltb 40 n h)
 
-pub shown-part : (n : ℕ) → 40 < n → 40 ≡ shownOf n
-shown-part n h = rw (lt-ltb 40 n h)
+pub shown-part : {n : ℕ} → 40 < n → 40 ≡ shownOf n
+shown-part {n} h = rw (lt-ltb 40 n h)
 
 pub shown-few : (n : ℕ) → (shownOf n ≤ 40) × (shownOf n ≤ n)
 shown-few n =
@@ -152,9 +152,9 @@ told : (t : Converted) (text : List ℕ) {out out′ : List ℕ} {r : ℕ} → t
     → PutText (toldOf t text) 0 out out′ r × Counts r out′
 told t text h p = (p, put-within p (omega (arith, told-room t text)))
 
-pub told-written : (t : Converted) (text : List ℕ) {out : List ℕ} {n : ℕ} → t ≡ converted.Written n → PutText (toldOf t text) 0 out out 0 × Counts 0 out
+pub told-written : {t : Converted} (text : List ℕ) {out : List ℕ} {n : ℕ} → t ≡ converted.Written n → PutText (toldOf t text) 0 out out 0 × Counts 0 out
 unfolding toldOf
-told-written t text {out} e = (put-as (sym (ap (λ c. toldOf c text) e)) (put-none 0 out (omega arith)), (omega arith, refl))
+told-written text {out} e = (put-as (sym (ap (λ c. toldOf c text) e)) (put-none 0 out (omega arith)), (omega arith, refl))
 
 module _ (t : Converted) (text : List ℕ) {out : List ℕ} (h : toldRoom ≤ length out) where
   pub told-wrong : {n r : ℕ} {out′ : List ℕ} → t ≡ converted.Wrong n → PutText (wrongTold text n) 0 out out′ r → PutText (toldOf t text) 0 out out′ r × Counts r out′

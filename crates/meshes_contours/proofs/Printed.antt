@@ -36,8 +36,8 @@ files-good bytes e =
     by-test (eqb (meshesFault bytes) 0) (λ t. eqb-true (meshesFault bytes) 0 t) (λ t. ap (λ b. cond b (resultFault (reflectedOf bytes) (leftOperand (drop 4 bytes)) (rightOperand (drop 4 bytes))) (meshesFault bytes)) (sym t) ∙ e)
 
 -- a part of an accepted file meets demand 3's premise
-part-meets : (file : List ℕ) → fileFault file ≡ 0 → (i : ℕ) → i < length (fileParts file) → PartMeets (getD (fileParts file) i [])
-part-meets file h i k = all-getD PartMeets (fileParts file) [] (split-meets-premise (strategyOf (splitNumber file)) (cornerLimit file) (meshOf file) (accepted-mesh file h)) i k
+part-meets : (file : List ℕ) → fileFault file ≡ 0 → {i : ℕ} → i < length (fileParts file) → PartMeets (getD (fileParts file) i [])
+part-meets file h {i} k = all-getD PartMeets (fileParts file) [] (split-meets-premise (strategyOf (splitNumber file)) (cornerLimit file) (meshOf file) (accepted-mesh file h)) i k
 
 module _ (bytes : List ℕ) (e : contoursFault bytes ≡ 0) where
   abbrev K : ℕ → ℕ → List Pt
@@ -53,7 +53,7 @@ module _ (bytes : List ℕ) (e : contoursFault bytes ≡ 0) where
   exact : (i j : ℕ) → i < length (leftParts bytes) → j < length (rightParts bytes) → Exact (reflectedOf bytes) (getD (leftParts bytes) i []) (getD (rightParts bytes) j []) (K i j)
   exact i j hi hj =
       let h = both-accepted (drop 4 bytes) (files-accepted bytes (files-good bytes e)) in
-      exact-pair (reflectedOf bytes) (getD (leftParts bytes) i []) (getD (rightParts bytes) j []) (part-meets (leftFile (drop 4 bytes)) (h .0) i hi) (part-meets (rightFile (drop 4 bytes)) (h .1) j hj)
+      exact-pair (reflectedOf bytes) (part-meets (leftFile (drop 4 bytes)) (h .0) hi) (part-meets (rightFile (drop 4 bytes)) (h .1) hj)
 
 pub every-printed-exact : EveryPrintedExact
 every-printed-exact bytes e = record { contour = K bytes e; text = printed-text bytes e; exact = exact bytes e }

@@ -101,7 +101,7 @@ module _ (op : ℕ) (lb : IntRect) (ls : List ℕ) (lc : List ℤ) (rb : IntRect
 module _ (bytes : List ℕ) where
   pub enough : operationFault bytes ≡ 0 → 4 ≤ length bytes
   unfolding operationFault
-  enough e = ltb-false (length bytes) 4 (first-none 13 _ _ (omega arith) e .0)
+  enough e = ltb-false (length bytes) 4 (first-none _ _ (omega arith) e .0)
 
   abbrev pub Answered : List ℕ → Stored → List ℕ → Type 0
   Answered old r new = (r ≡ jobAnswer bytes) × ((new ≡ written (meshesFault bytes) (jobOf bytes) old) × Counted (r .length) new)
@@ -137,8 +137,8 @@ module _ (bytes : List ℕ) where
 
       -- the corners as the code takes them
       module _ {lf rf : List ℤ} (el : lf ≡ frontCorners (t .left .corners) lc) (er : rf ≡ frontCorners (t .right .corners) rc) where
-        pub job-room : (old : List ℕ) → 114748 ≤ length old → JobRoom (take (t .left .parts + 1) ls) lf (take (t .right .parts + 1) rs) rf old
-        job-room old h =
+        pub job-room : {old : List ℕ} → 114748 ≤ length old → JobRoom (take (t .left .parts + 1) ls) lf (take (t .right .parts + 1) rs) rf old
+        job-room h =
             let l = k .left-held y in
             let r = k .right-held y in
             let a = length-take-le (t .left .parts + 1) ls (l .starts-in) in
@@ -175,5 +175,5 @@ module _ (bytes : List ℕ) where
             let n : size ≡ length (jobOf bytes) = p .after ∙ sym (length-wordBytes W) ∙ ap length (words-are e) in
             let b : new ≡ written (meshesFault bytes) (jobOf bytes) old = p .bytes ∙ put-front W old ∙ ap (λ x. overlay x old) (words-are e) ∙ sym (accepted-buffer (meshesFault bytes) none (jobOf bytes) old) in
             let a : record { fault = t .fault; length = size } ≡ jobAnswer bytes = rw (eq-eqb (meshesFault bytes) 0 none) (λ i. record { fault = y i; length = n i }) in
-            let c : length W ≤ 28687 = few-words op (t .left .bounds) _ _ (t .right .bounds) _ _ old (job-room old h) in
+            let c : length W ≤ 28687 = few-words op (t .left .bounds) _ _ (t .right .bounds) _ _ old (job-room h) in
             (a, (b, counted size new (omega (arith, p .after, c, put-kept 0 W old (omega (arith, c)) (p .bytes)))))

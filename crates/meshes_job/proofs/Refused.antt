@@ -33,8 +33,8 @@ pub operation-accepted : (bytes : List ℕ) → meshesFault bytes ≡ 0 → word
 unfolding meshesFault operationFault
 operation-accepted bytes e =
     let o = neither (operationFault bytes) (filesFault (drop 4 bytes)) e .0 in
-    let a = first-none 13 (ltb (length bytes) 4) _ (omega arith) o in
-    ltb-false 1 (wordAt bytes 0) (first-none 13 (ltb 1 (wordAt bytes 0)) _ (omega arith) (a .1) .0)
+    let a = first-none (ltb (length bytes) 4) _ (omega arith) o in
+    ltb-false 1 (wordAt bytes 0) (first-none (ltb 1 (wordAt bytes 0)) _ (omega arith) (a .1) .0)
 
 pub both-accepted : (files : List ℕ) → filesFault files ≡ 0 → (fileFault (leftFile files) ≡ 0) × (fileFault (rightFile files) ≡ 0)
 unfolding filesFault

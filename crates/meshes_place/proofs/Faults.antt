@@ -35,8 +35,8 @@ module _ (bytes : List ℕ) where
   pub point-good : pointFault bytes ≡ 0 → (8 ≤ length bytes) × (onGrid (placeOf bytes) ≡ true)
   unfolding pointFault
   point-good e =
-      let a = first-none 13 (ltb (length bytes) 8) _ (omega arith) e in
-      let b = first-none 2 (not (onGrid (placeOf bytes))) _ (omega arith) (a .1) in
+      let a = first-none (ltb (length bytes) 8) _ (omega arith) e in
+      let b = first-none (not (onGrid (placeOf bytes))) _ (omega arith) (a .1) in
       (ltb-false (length bytes) 8 (a .0), not-false (onGrid (placeOf bytes)) (b .0))
 
   -- as the machine holds it

@@ -20,8 +20,8 @@ use Rattle.minkowski.specs.declared.PairCounts.{PairCounts}
 use Rattle.minkowski.specs.Pairs.{pairCountsOf}
 use Rattle.minkowski_answer.specs.Answer.{refusalOf, PairsAnswered}
 
-refused-counts : (f : ℕ) → (f ≡ 0 → ⊥) → (ps : List (List Pt)) (b : IntRect) → pairCountsOf f ps b ≡ refusalOf f
-refused-counts f h ps b = rw (ne-eqb f 0 h)
+refused-counts : {f : ℕ} → (f ≡ 0 → ⊥) → (ps : List (List Pt)) (b : IntRect) → pairCountsOf f ps b ≡ refusalOf f
+refused-counts {f} h ps b = rw (ne-eqb f 0 h)
 
 accepted-counts : {f : ℕ} → f ≡ 0 → (ps : List (List Pt)) (b : IntRect) → pairCountsOf f ps b ≡ record { fault = 0; contours = length ps; corners = length (flatten ps); bounds = b }
 accepted-counts {f} e ps b = rw (eq-eqb f 0 e)
@@ -32,7 +32,7 @@ module _ (ps : List (List Pt)) (b : IntRect) (s : List ℕ) (c : List ℤ) where
   refused {f} {F} e d h =
       let n : F ≡ 0 → ⊥ = λ q. d (e ∙ q) in
       record {
-        counts = h ∙ ap refusalOf e ∙ sym (refused-counts F n ps b);
+        counts = h ∙ ap refusalOf e ∙ sym (refused-counts n ps b);
         starts = sym (refused-buffer F n (startsOf ps) s);
         corners = sym (refused-buffer F n (cornersOf ps) c);
       }

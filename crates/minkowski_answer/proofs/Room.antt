@@ -22,8 +22,8 @@ more-corners {room} n e h = ltb-true room n (sym e ∙ h)
 pub no-more : {room : ℕ} (n : ℕ) {r : Bool} → r ≡ ltb room n → r ≡ false → n ≤ room
 no-more {room} n e h = ltb-false room n (sym e ∙ h)
 
-pub most-fit : (room : ℕ) {n : ℕ} (most : ℕ) → n ≤ most → most ≤ room → false ≡ ltb room n
-most-fit room {n} most h k = sym (le-ltb room n (omega arith))
+pub most-fit : {room : ℕ} {n : ℕ} {most : ℕ} → n ≤ most → most ≤ room → false ≡ ltb room n
+most-fit {room} {n} h k = sym (le-ltb room n (omega arith))
 
 -- ---- the walks of two operands
 

@@ -32,24 +32,24 @@ pub record Piece (ps : List (List Pt)) (n m : ℕ) (c : List (List Pt)) : Type 0
   pub more : take (n + m) ps ≡ take n ps ++ c
   pub whole : ps ≡ take n ps ++ (c ++ drop (n + m) ps)
 
-piece-whole : (ps : List (List Pt)) (n m : ℕ) (c : List (List Pt)) → take (n + m) ps ≡ take n ps ++ c → Piece ps n m c
-piece-whole ps n m c e = record { more = e; whole = sym (take-append-drop (n + m) ps) ∙ ap (λ l. l ++ drop (n + m) ps) e ∙ append-assoc (take n ps) c (drop (n + m) ps) }
+piece-whole : {ps : List (List Pt)} {n m : ℕ} {c : List (List Pt)} → take (n + m) ps ≡ take n ps ++ c → Piece ps n m c
+piece-whole {ps} {n} {m} {c} e = record { more = e; whole = sym (take-append-drop (n + m) ps) ∙ ap (λ l. l ++ drop (n + m) ps) e ∙ append-assoc (take n ps) c (drop (n + m) ps) }
 
-take-next : (ps : List (List Pt)) (n : ℕ) → n < length ps → take (n + 1) ps ≡ take n ps ++ (getD ps n [] ∷ [])
-take-next ps n h = ap (λ m. take m ps) (add-one n) ∙ take-suc ps n [] h
+take-next : (ps : List (List Pt)) {n : ℕ} → n < length ps → take (n + 1) ps ≡ take n ps ++ (getD ps n [] ∷ [])
+take-next ps {n} h = ap (λ m. take m ps) (add-one n) ∙ take-suc ps n [] h
 
-pub one-piece : (ps : List (List Pt)) (n : ℕ) → n < length ps → Piece ps n 1 (getD ps n [] ∷ [])
-one-piece ps n h = piece-whole ps n 1 (getD ps n [] ∷ []) (take-next ps n h)
+pub one-piece : {ps : List (List Pt)} {n : ℕ} → n < length ps → Piece ps n 1 (getD ps n [] ∷ [])
+one-piece {ps} {n} h = piece-whole (take-next ps h)
 
 pub four-piece : (ps : List (List Pt)) (n : ℕ) → n + 3 < length ps → Piece ps n 4 (fourFrom ps n)
-four-piece ps n h = piece-whole ps n 4 (fourFrom ps n) (
+four-piece ps n h = piece-whole (
     on (n + 3) (n + 4) (omega arith) (omega arith) ∙ ap (λ l. l ++ (getD ps (n + 3) [] ∷ [])) (
     on (n + 2) (n + 3) (omega arith) (omega arith) ∙ ap (λ l. l ++ (getD ps (n + 2) [] ∷ [])) (
-    on (n + 1) (n + 2) (omega arith) (omega arith) ∙ ap (λ l. l ++ (getD ps (n + 1) [] ∷ [])) (take-next ps n (omega arith))))
+    on (n + 1) (n + 2) (omega arith) (omega arith) ∙ ap (λ l. l ++ (getD ps (n + 1) [] ∷ [])) (take-next ps {n = n} (omega arith))))
     ∙ four (take n ps) (getD ps n []) (getD ps (n + 1) []) (getD ps (n + 2) []) (getD ps (n + 3) []))
   where
     on : (i j : ℕ) → i + 1 ≡ j → i < length ps → take j ps ≡ take i ps ++ (getD ps i [] ∷ [])
-    on i j e h = ap (λ m. take m ps) (sym e) ∙ take-next ps i h
+    on i j e h = ap (λ m. take m ps) (sym e) ∙ take-next ps h
 
     four : {A : Type 0} (l : List A) (a b c d : A) → (((l ++ (a ∷ [])) ++ (b ∷ [])) ++ (c ∷ [])) ++ (d ∷ []) ≡ l ++ (a ∷ b ∷ c ∷ d ∷ [])
     four l a b c d = simp append-assoc
@@ -117,8 +117,8 @@ to-start left right ps starts out = record { order = order-start left right 0; s
 
 module _ (left right : ℕ) {ps : List (List Pt)} (e : length ps ≡ left * right) (f : left * right < 2 ^ 64) {s₀ s : List ℕ} {o₀ o : List ℤ} (t : Place) (a : PutTo left right ps s₀ o₀ t s o) where
   -- m pairs are left, and the next contours have room
-  pub to-more : (m : ℕ) → t .n + m ≤ left * right → More left right m t
-  to-more m h = record { order = a .order; some = h; few = f }
+  pub to-more : {m : ℕ} → t .n + m ≤ left * right → More left right m t
+  to-more h = record { order = a .order; some = h; few = f }
 
   pub to-room : {m : ℕ} {c : List (List Pt)} → Piece ps (t .n) m c → PairsRoom ps s₀ 0 o₀ 0 → PairsRoom c s (t .n) o (t .k)
   to-room p r = piece-room p (a .put) r
@@ -128,8 +128,8 @@ module _ (left right : ℕ) {ps : List (List Pt)} (e : length ps ≡ left * righ
   to-next p h b = record { order = b .place .order; some = omega (arith, b .place .number, h); put = piece-more p (a .put) (b .put) (b .place .number) }
 
   -- all are put
-  pub to-end : (s₁ : List ℕ) → left * right ≤ t .n → 0 < length s₁ → s₀ ≡ set s₁ 0 0 → AllPut ps s₁ o₀ s o (t .k)
-  to-end s₁ h l z = all-put s₁ l z (subst (λ l. PairsPut l s₀ 0 o₀ 0 s (t .n) o (t .k)) (take-all (t .n) ps (omega (arith, e, h))) (a .put))
+  pub to-end : {s₁ : List ℕ} → left * right ≤ t .n → 0 < length s₁ → s₀ ≡ set s₁ 0 0 → AllPut ps s₁ o₀ s o (t .k)
+  to-end {s₁} h l z = all-put s₁ l z (subst (λ l. PairsPut l s₀ 0 o₀ 0 s (t .n) o (t .k)) (take-all (t .n) ps (omega (arith, e, h))) (a .put))
 
 -- whatever was put before, more is put since
 pub record Since (left right : ℕ) (ps : List (List Pt)) (t : Place) (s : List ℕ) (o : List ℤ) (t′ : Place) (s′ : List ℕ) (o′ : List ℤ) : Type 0 where
@@ -140,8 +140,8 @@ pub room-started : {ps : List (List Pt)} {s : List ℕ} {s₀ : List ℕ} {o : L
 room-started {s} e r = record { for-starts = omega (arith, r .for-starts, ap length e, length-set s 0 0); for-corners = r .for-corners; small = r .small }
 
 -- work buffers that are so long
-pub rooms-long : (points : List (List ℤ)) {n : ℕ} → 2 * mostEdges points ≤ n → {wb wc wd : List ℤ} → length wb ≡ n → length wc ≡ n → length wd ≡ n → PairRooms points wb wc wd
-rooms-long points h e f g = record { second = omega (arith, h, e); third = omega (arith, h, f); fourth = omega (arith, h, g) }
+pub rooms-long : {points : List (List ℤ)} {n : ℕ} → 2 * mostEdges points ≤ n → {wb wc wd : List ℤ} → length wb ≡ n → length wc ≡ n → length wd ≡ n → PairRooms points wb wc wd
+rooms-long h e f g = record { second = omega (arith, h, e); third = omega (arith, h, f); fourth = omega (arith, h, g) }
 
 -- work buffers of the same lengths have the same room
 pub rooms-same : {points : List (List ℤ)} {wb wc wd wb′ wc′ wd′ : List ℤ} → PairRooms points wb wc wd → length wb′ ≡ length wb → length wc′ ≡ length wc → length wd′ ≡ length wd → PairRooms points wb′ wc′ wd′

@@ -141,8 +141,8 @@ module _ (firsts : List ℕ) (points : List (List ℤ)) (numbers : List ℕ) (le
         }
 
     -- what is told of it
-    pub bounds-within : (room : ℕ) → s .k ≤ room → Above room (allCorners firsts points left right) (s .k)
-    bounds-within room h = record { most = bounds-most; exact = λ g. absurd (omega (arith, g, h)) }
+    pub bounds-within : {room : ℕ} → s .k ≤ room → Above room (allCorners firsts points left right) (s .k)
+    bounds-within h = record { most = bounds-most; exact = λ g. absurd (omega (arith, g, h)) }
 
     pub bounds-exact : (room : ℕ) → left * right ≤ s .n → Above room (allCorners firsts points left right) (s .k)
     bounds-exact room h = let e = bounds-end h in record { most = omega (arith, e); exact = λ g. e }

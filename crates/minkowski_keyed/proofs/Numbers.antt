@@ -18,17 +18,17 @@ use Rattle.pair_numbers.proofs.Close.{operands-keyed}
 use Rattle.minkowski_work.specs.Scratch.{Call, Accepted, walkKinds, BothWalked}
 use Rattle.minkowski_work.proofs.Walked.{left-judged, right-judged}
 
-unrefused-call : (x : Call) → Accepted x → firstFault (walkKinds (x .reflected) (x .left) (x .right)) ≡ 0 → Unrefused (x .reflected) (x .left) (x .right)
-unrefused-call x e h =
-    let a = first-none 7 (tableBroken (x .left .starts) (x .left .corners)) _ (omega arith) e in
-    let b = first-none 7 (tableBroken (x .right .starts) (x .right .corners)) _ (omega arith) (a .1) in
-    let c = first-none 2 (operandOff (x .left)) _ (omega arith) (b .1) in
-    let d = first-none 2 (operandOff (x .right)) _ (omega arith) (c .1) in
-    let f = first-none 9 _ _ (omega arith) (d .1) in
-    let g = first-none 9 _ _ (omega arith) (f .1) in
-    let i = first-none 8 _ _ (omega arith) h in
-    let j = first-none 8 _ _ (omega arith) (i .1) in
-    let k = first-none 10 _ _ (omega arith) (j .1) in
+unrefused-call : {x : Call} → Accepted x → firstFault (walkKinds (x .reflected) (x .left) (x .right)) ≡ 0 → Unrefused (x .reflected) (x .left) (x .right)
+unrefused-call {x} e h =
+    let a = first-none (tableBroken (x .left .starts) (x .left .corners)) _ (omega arith) e in
+    let b = first-none (tableBroken (x .right .starts) (x .right .corners)) _ (omega arith) (a .1) in
+    let c = first-none (operandOff (x .left)) _ (omega arith) (b .1) in
+    let d = first-none (operandOff (x .right)) _ (omega arith) (c .1) in
+    let f = first-none _ _ (omega arith) (d .1) in
+    let g = first-none _ _ (omega arith) (f .1) in
+    let i = first-none _ _ (omega arith) h in
+    let j = first-none _ _ (omega arith) (i .1) in
+    let k = first-none _ _ (omega arith) (j .1) in
     record { left-table = a .0; right-table = b .0; left-bounds = f .0; right-bounds = g .0; result-bounds = k .0 }
 
 module _ (x : Call) (e : Accepted x) {points : List (List ℤ)} {firsts : List ℕ} (w : BothWalked x points firsts) (few : length points < 2 ^ 32) where
@@ -48,4 +48,4 @@ module _ (x : Call) (e : Accepted x) {points : List (List ℤ)} {firsts : List �
       {numbers : List ℕ} → firstFault (walkKinds (x .reflected) (x .left) (x .right)) ≡ 0 → length points ≤ length numbers → NumberedTo (left + right) (walksIn firsts points (left + right)) firsts numbers left →
       Keyed firsts points numbers left right
   keyed {numbers} h room n =
-      operands-keyed (x .reflected) (x .left) (x .right) firsts points left right (w .lefts) (w .rights) (unrefused-call x e h) (w .walks) few room n
+      operands-keyed (x .reflected) (x .left) (x .right) firsts points left right (w .lefts) (w .rights) (unrefused-call e h) (w .walks) few room n

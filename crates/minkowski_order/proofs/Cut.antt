@@ -85,12 +85,12 @@ module _ (firsts : List ℕ) (points : List (List ℤ)) (numbers : List ℕ) (le
     walks = cut-walks;
     few = omega (arith, cut-few, points-size, k .few);
     size = omega (arith, cut-few, cut-many);
-    numbered = record { at = λ n i hn hi. getD-take (getD firsts (left + right) 0) numbers (getD firsts n 0 + i) 0 (below n i hn hi) ∙ subst (λ ws. i < length (getD ws n []) → getD numbers (getD firsts n 0 + i) 0 ≡ numberOf (ltb n left) (getD ws n []) i) (sym walks-same) (λ hi. k .numbered .at n i hn hi) hi };
+    numbered = record { at = λ n i hn hi. getD-take (getD firsts (left + right) 0) numbers (getD firsts n 0 + i) 0 (below hn hi) ∙ subst (λ ws. i < length (getD ws n []) → getD numbers (getD firsts n 0 + i) 0 ≡ numberOf (ltb n left) (getD ws n []) i) (sym walks-same) (λ hi. k .numbered .at n i hn hi) hi };
     close = λ p q hp hq. subst (λ ws. Close (getD ws p []) (getD ws (left + q) [])) (sym walks-same) (k .close p q hp hq);
   }
     where
-      below : (n i : ℕ) → n < left + right → i < length (walkIn firsts cutPoints (left + right) n) → getD firsts n 0 + i < getD firsts (left + right) 0
-      below n i hn hi = omega (arith, walk-ends n cut-walks hn, walk-placed firsts cutPoints (left + right) n cut-walks hn .within, cut-few)
+      below : {n i : ℕ} → n < left + right → i < length (walkIn firsts cutPoints (left + right) n) → getD firsts n 0 + i < getD firsts (left + right) 0
+      below {n} hn hi = omega (arith, walk-ends cut-walks hn, walk-placed firsts cutPoints (left + right) n cut-walks hn .within, cut-few)
 
   -- each of its points is of a walk
   cut-grid : Grid cutPoints

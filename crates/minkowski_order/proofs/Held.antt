@@ -89,14 +89,14 @@ module _ (points : List (List ℤ)) (numbers : List ℕ) where
         (λ e. by-test (eqb g n)
         (λ h. let k : length b ≡ 0 = omega (arith, eg, eqb-true g n h) in
         rw (e, h) (held-none a b (ap (mergedOf a) (no-length b k) ∙ merged-none a) (none-second (eqb (length a) 0) (length a + length b - 2) (eq-eqb (length b) 0 k))))
-        (λ h. rw (e, h) (held-some (some f (length a) ef (eqb-false f m e)) (some g (length b) eg (eqb-false g n h)))))
+        (λ h. rw (e, h) (held-some (some (length a) ef (eqb-false f m e)) (some (length b) eg (eqb-false g n h)))))
       where
         none-second : (s : Bool) {t : Bool} (k : ℕ) → t ≡ true → cond s 0 (cond t 0 k) ≡ 0
         none-second true k e = refl
         none-second false k e = ap (λ t. cond t 0 k) e
 
-        some : (f : ℕ) {m : ℕ} (k : ℕ) → f + k ≡ m → (f ≡ m → ⊥) → 0 < k
-        some f k e h = omega arith
+        some : {f : ℕ} {m : ℕ} (k : ℕ) → f + k ≡ m → (f ≡ m → ⊥) → 0 < k
+        some k e h = omega arith
 
 -- ---- those of two operands
 
@@ -111,8 +111,8 @@ edges-short n a b h k l = at (eqb (length a) 0) (eqb (length b) 0)
     at false false = omega (arith, h, k, l)
 
 -- a walk ends where the next begins
-pub walk-ends : {firsts : List ℕ} {points : List (List ℤ)} {all : ℕ} (n : ℕ) → Walks firsts points all → n < all → getD firsts n 0 + length (walkIn firsts points all n) ≡ getD firsts (n + 1) 0
-walk-ends {firsts} {points} {all} n w h =
+pub walk-ends : {firsts : List ℕ} {points : List (List ℤ)} {all : ℕ} {n : ℕ} → Walks firsts points all → n < all → getD firsts n 0 + length (walkIn firsts points all n) ≡ getD firsts (n + 1) 0
+walk-ends {firsts} {points} {all} {n} w h =
     let p = walk-placed firsts points all n w h in
     let m = getD firsts (n + 1) 0 - getD firsts n 0 in
     let rest = drop (getD firsts n 0) points in
@@ -133,7 +133,7 @@ module _ (firsts : List ℕ) (points : List (List ℤ)) (numbers : List ℕ) (le
     part = take (getD firsts (n + 1) 0 - getD firsts n 0) (drop (getD firsts n 0) points)
 
     ends : getD firsts n 0 + length walk ≡ getD firsts (n + 1) 0
-    ends = walk-ends n (k .walks) h
+    ends = walk-ends (k .walks) h
 
     walk-lies : (number : List Pt → ℕ → ℕ) → ((i : ℕ) → numberOf (ltb n left) walk i ≡ number walk i) → Lies number points numbers (getD firsts n 0) walk
     walk-lies number e = record {

@@ -87,9 +87,9 @@ pair-inside true l r A B ha hb =
 
 -- ---- on the grid, where the bounds are
 
-between : {a b : ℤ} (z : ℤ) → inRange a ≡ true → inRange b ≡ true → a ≤ℤ z → z ≤ℤ b → inRange z ≡ true
+between : {a b : ℤ} {z : ℤ} → inRange a ≡ true → inRange b ≡ true → a ≤ℤ z → z ≤ℤ b → inRange z ≡ true
 unfolding inRange
-between {a} {b} z ha hb h k = rw (<-leZ {x = z} {y = negsuc 1073741823} (omega (zarith, abs-parts a, in-range-coordinate a ha .abs)), <-ltZ {x = z} {y = pos 1073741824} (omega (zarith, abs-parts b, in-range-coordinate b hb .abs)))
+between {a} {b} {z} ha hb h k = rw (<-leZ {x = z} {y = negsuc 1073741823} (omega (zarith, abs-parts a, in-range-coordinate a ha .abs)), <-ltZ {x = z} {y = pos 1073741824} (omega (zarith, abs-parts b, in-range-coordinate b hb .abs)))
 
 inside-grid : {b : IntRect} {p : Pt} → offRange (boundsList b) ≡ false → InBounds b p → onGrid p ≡ true
 unfolding offRange onGrid
@@ -98,7 +98,7 @@ inside-grid {b} {p} h i =
     let u = was-taken (inRange (b .«max_x»)) _ (t .1) in
     let v = was-taken (inRange (b .«min_y»)) _ (u .1) in
     let w = was-taken (inRange (b .«max_y»)) _ (v .1) in
-    rw (between (p .x) (t .0) (u .0) (i .left) (i .right), between (p .y) (v .0) (w .0) (i .low) (i .high))
+    rw (between (t .0) (u .0) (i .left) (i .right), between (v .0) (w .0) (i .low) (i .high))
 
 -- ---- all pairs of accepted operands
 
@@ -113,15 +113,15 @@ pub record Unrefused (reflected : Bool) (l r : Operand) : Type 0 where
 pub unrefused : (reflected : Bool) (l r : Operand) (s c : ℕ) → pairsFault reflected l r s c ≡ 0 → Unrefused reflected l r
 unfolding pairsFault
 unrefused reflected l r s c h =
-    let h1 = first-none 7 _ _ (omega arith) h in
-    let h2 = first-none 7 _ _ (omega arith) (h1 .1) in
-    let h3 = first-none 2 _ _ (omega arith) (h2 .1) in
-    let h4 = first-none 2 _ _ (omega arith) (h3 .1) in
-    let h5 = first-none 9 _ _ (omega arith) (h4 .1) in
-    let h6 = first-none 9 _ _ (omega arith) (h5 .1) in
-    let h7 = first-none 8 _ _ (omega arith) (h6 .1) in
-    let h8 = first-none 8 _ _ (omega arith) (h7 .1) in
-    let h9 = first-none 10 _ _ (omega arith) (h8 .1) in
+    let h1 = first-none _ _ (omega arith) h in
+    let h2 = first-none _ _ (omega arith) (h1 .1) in
+    let h3 = first-none _ _ (omega arith) (h2 .1) in
+    let h4 = first-none _ _ (omega arith) (h3 .1) in
+    let h5 = first-none _ _ (omega arith) (h4 .1) in
+    let h6 = first-none _ _ (omega arith) (h5 .1) in
+    let h7 = first-none _ _ (omega arith) (h6 .1) in
+    let h8 = first-none _ _ (omega arith) (h7 .1) in
+    let h9 = first-none _ _ (omega arith) (h8 .1) in
     record { left-table = h1 .0; right-table = h2 .0; left-bounds = h5 .0; right-bounds = h6 .0; result-bounds = h9 .0 }
 
 -- the parts of an operand lie within its bounds

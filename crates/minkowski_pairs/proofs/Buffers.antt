@@ -22,9 +22,9 @@ result-is-pairs reflected l r s c h = contours-left (pairContours reflected l r)
 
 -- what stands for pair i, j is the pair's contour
 pair-stands :
-    (reflected : Bool) (l r : Operand) (s : List ℕ) (c : List ℤ) → pairsFault reflected l r (length s) (length c) ≡ 0 → (i j : ℕ) → i < length (operandParts l) → j < length (operandParts r) →
+    (reflected : Bool) (l r : Operand) (s : List ℕ) (c : List ℤ) → pairsFault reflected l r (length s) (length c) ≡ 0 → {i j : ℕ} → i < length (operandParts l) → j < length (operandParts r) →
     getD (resultContours reflected l r s c) (i * length (operandParts r) + j) [] ≡ pairContour reflected (getD (operandParts l) i []) (getD (operandParts r) j [])
-pair-stands reflected l r s c h i j hi hj = ap (λ ps. getD ps (i * length (operandParts r) + j) []) (result-is-pairs reflected l r s c h) ∙ each-pair reflected (operandParts l) (operandParts r) i j hi hj
+pair-stands reflected l r s c h {i} {j} hi hj = ap (λ ps. getD ps (i * length (operandParts r) + j) []) (result-is-pairs reflected l r s c h) ∙ each-pair reflected (operandParts l) (operandParts r) i j hi hj
 
 -- demand 3 of the contour that the two walks give
 pub emitted : (reflected : Bool) (A B : List Pt) → onceRound A ≡ true → onceRound B ≡ true → EmittedWhole reflected A B (pairContour reflected A B)
@@ -32,11 +32,11 @@ emitted reflected A B a b = record { walked = refl; reach = demand3 reflected A 
 
 pub table-reach : TableReach
 table-reach reflected l r s c h i j hi hj a b =
-    subst (EmittedWhole reflected _ _) (sym (pair-stands reflected l r s c h i j hi hj)) (emitted reflected (getD (operandParts l) i []) (getD (operandParts r) j []) a b)
+    subst (EmittedWhole reflected _ _) (sym (pair-stands reflected l r s c h hi hj)) (emitted reflected (getD (operandParts l) i []) (getD (operandParts r) j []) a b)
 
 pub table-de-berg : TableDeBerg
 table-de-berg l r s c h i j hi hj a b =
-    pair-stands _ l r s c h i j hi hj ∙ sum-is-de-berg (getD (operandParts l) i []) (getD (operandParts r) j []) a b
+    pair-stands _ l r s c h hi hj ∙ sum-is-de-berg (getD (operandParts l) i []) (getD (operandParts r) j []) a b
 
 pub pairs-shard : PairsShard
 unfolding pairsOf

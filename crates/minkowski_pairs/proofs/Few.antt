@@ -38,8 +38,8 @@ pairs-few reflected (a ∷ ls) rs =
     )
 
 -- 2,048 · 8,192 + 2,048 · 8,192 = 2^25
-pub pairs-small : (reflected : Bool) (ls rs : List (List Pt)) → Limits ls → Limits rs → length (flatten (pairsOf reflected ls rs)) < 2 ^ 32
-pairs-small reflected ls rs l r =
+pub pairs-small : (reflected : Bool) {ls rs : List (List Pt)} → Limits ls → Limits rs → length (flatten (pairsOf reflected ls rs)) < 2 ^ 32
+pairs-small reflected {ls} {rs} l r =
     omega (
       arith,
       pairs-few reflected ls rs,

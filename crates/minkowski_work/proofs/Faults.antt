@@ -96,10 +96,10 @@ off-neither o h =
 
 pub judged : (l r : Operand) → firstFault (operandKinds l r) ≡ 0 → Judged l × Judged r
 judged l r e =
-    let a = first-none 7 (tableBroken (l .starts) (l .corners)) _ (omega arith) e in
-    let b = first-none 7 (tableBroken (r .starts) (r .corners)) _ (omega arith) (a .1) in
-    let c = first-none 2 (operandOff l) _ (omega arith) (b .1) in
-    let d = first-none 2 (operandOff r) _ (omega arith) (c .1) in
+    let a = first-none (tableBroken (l .starts) (l .corners)) _ (omega arith) e in
+    let b = first-none (tableBroken (r .starts) (r .corners)) _ (omega arith) (a .1) in
+    let c = first-none (operandOff l) _ (omega arith) (b .1) in
+    let d = first-none (operandOff r) _ (omega arith) (c .1) in
     let p = off-neither l (c .0) in
     let q = off-neither r (d .0) in
     (record { sound = a .0; ranged = p .0; bounded = p .1 }, record { sound = b .0; ranged = q .0; bounded = q .1 })

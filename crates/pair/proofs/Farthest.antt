@@ -75,5 +75,5 @@ outline-self : (P : Pt) {E : List Pt} → Convex E → Outline P (cornersFrom P 
 outline-self P {E} c = record { convex = c; reaches = λ d. refl; corners = in-self (cornersFrom P E) }
 
 -- demand 3, of the contours of E from P and of F from Q
-pub farthest : (P Q : Pt) (E F : List Pt) → Convex E → Convex F → FarthestReach (P +ᵖ Q) (cornersFrom P E) (cornersFrom Q F) (cornersFrom (P +ᵖ Q) (join E F))
-farthest P Q E F e f = farthest-outlines (outline-self P e) (outline-self Q f)
+pub farthest : (P Q : Pt) {E F : List Pt} → Convex E → Convex F → FarthestReach (P +ᵖ Q) (cornersFrom P E) (cornersFrom Q F) (cornersFrom (P +ᵖ Q) (join E F))
+farthest P Q e f = farthest-outlines (outline-self P e) (outline-self Q f)

@@ -26,8 +26,8 @@ turned = arithℤ (pt ∷ pt ∷ []) (λ e f. crossE e f :≤ con (pos 0) ⇒ co
 
 module _ {M : List Pt} (c : Convex M) where
   -- f ≥ 0 left of e, so every edge is: those up to e, and those from f on
-  turn-next : {A : List Pt} (e f : Pt) (B : List Pt) → Split Lt M A (e ∷ f ∷ B) → pos 0 <ℤ cross e f
-  turn-next {A} e f B s = ⊎-elim (λ h. absurd (no (turned e f h))) (λ h. h) (≤-or-> (cross e f) (pos 0))
+  turn-next : {A : List Pt} {e f : Pt} {B : List Pt} → Split Lt M A (e ∷ f ∷ B) → pos 0 <ℤ cross e f
+  turn-next {A} {e} {f} {B} s = ⊎-elim (λ h. absurd (no (turned e f h))) (λ h. h) (≤-or-> (cross e f) (pos 0))
     where
       nB : All Nz (e ∷ f ∷ B)
       nB = split-all Nz s (c .nonzero) .1
@@ -42,8 +42,8 @@ module _ {M : List Pt} (c : Convex M) where
           (before-left ef (le-refl e) h, (h, all-map2 B (λ g n k. past-left (nB .0) (nB .1 .0) n ef (lt-le k) h) (nB .1 .1) (s .sorted .1 .0)))) (c .closed))
 
   -- the last edge a right of the first one f, so every edge is
-  turn-last : {f : Pt} → Nz f → All (Le f) M → {A : List Pt} (a : Pt) → Split Lt M A (a ∷ []) → pos 0 <ℤ cross a f
-  turn-last {f} nf fM {A} a s = ⊎-elim (λ h. absurd (no (turned a f h))) (λ h. h) (≤-or-> (cross a f) (pos 0))
+  turn-last : {f : Pt} → Nz f → All (Le f) M → {A : List Pt} {a : Pt} → Split Lt M A (a ∷ []) → pos 0 <ℤ cross a f
+  turn-last {f} nf fM {A} {a} s = ⊎-elim (λ h. absurd (no (turned a f h))) (λ h. h) (≤-or-> (cross a f) (pos 0))
     where
       between : All (λ g. Le f g × Le g a) M
       between = all-map2 M (λ g p q. (p, q)) fM (all-split (λ g. Le g a) s (all-map A (λ g k. lt-le k) (split-before s)) (le-refl a, tt))
@@ -53,13 +53,13 @@ module _ {M : List Pt} (c : Convex M) where
           c .wide f nf (all-line-right f M (all-map2 M (λ g n k. between-right nf n (split-all Nz s (c .nonzero) .1 .0) (k .0) (k .1) h) (c .nonzero) between) (c .closed))
 
   -- along the list from a, and to f at its end
-  turns-from : {f : Pt} → Nz f → All (Le f) M → {A : List Pt} (a : Pt) (B : List Pt) → Split Lt M A (a ∷ B) → All (λ t. pos 0 <ℤ cross (t .0) (t .1)) (links a (B ++ (f ∷ [])))
+  turns-from : {f : Pt} → Nz f → All (Le f) M → {A : List Pt} {a : Pt} (B : List Pt) → Split Lt M A (a ∷ B) → All (λ t. pos 0 <ℤ cross (t .0) (t .1)) (links a (B ++ (f ∷ [])))
   unfolding links
-  turns-from nf fM a [] s = (turn-last nf fM a s, tt)
-  turns-from nf fM a (b ∷ B) s = (turn-next a b B s, turns-from nf fM b B (split-next s))
+  turns-from nf fM {a} [] s = (turn-last nf fM s, tt)
+  turns-from nf fM {a} (b ∷ B) s = (turn-next s, turns-from nf fM B (split-next s))
 
 -- every turn round the list is to the left
 pub turns-left : {M : List Pt} → Convex M → Sorted Lt M → All (λ t. pos 0 <ℤ cross (t .0) (t .1)) (neighbours M)
 unfolding neighbours
 turns-left {M = []} c s = tt
-turns-left {M = e ∷ l} c s = turns-from c (c .nonzero .0) (le-refl e, all-map l (λ g k. lt-le k) (s .0)) e l (split-start s)
+turns-left {M = e ∷ l} c s = turns-from c (c .nonzero .0) (le-refl e, all-map l (λ g k. lt-le k) (s .0)) l (split-start s)

@@ -145,8 +145,8 @@ one-add a b {u = true} d e = λ i. cond (sym d i) a O +ᵖ cond (sym e i) b O
 one-add a b {u = false} d e = sym (+ᵖ-zero O) ∙ (λ i. cond (sym d i) a O +ᵖ cond (sym e i) b O)
 
 -- a run's first two edges added up
-grouped-two : {s f : Pt} (l : List Pt) {R : List Pt} → Nz s → Nz f → Same s f → Grouped ((s +ᵖ f) ∷ l) R → Grouped (s ∷ f ∷ l) R
-grouped-two {s} {f} l ns nf e g =
+grouped-two : {s f : Pt} {l : List Pt} {R : List Pt} → Nz s → Nz f → Same s f → Grouped ((s +ᵖ f) ∷ l) R → Grouped (s ∷ f ∷ l) R
+grouped-two {s} {f} {l} ns nf e g =
     let a : AddSame s f = add-same ns nf e in
     record {
       nonzero = g .nonzero;
@@ -172,23 +172,23 @@ grouped-next {s} ns sl g = record {
 }
 
 -- a run begun with direction d and sum s
-runs-is : (d s : Pt) (l : List Pt) → Nz d → Nz s → Same s d → All Nz l → All (Le d) l → Sorted Le l → Grouped (s ∷ l) (runs d s l)
-runs-is d s [] nd ns e nl dl al = unfold runs in record { nonzero = (ns, tt); strict = (tt, tt); above = λ c nc h. h; totals = λ p dp. refl; lines = λ v h. h }
-runs-is d s (f ∷ l) nd ns e nl dl al =
+runs-is : {d s : Pt} (l : List Pt) → Nz d → Nz s → Same s d → All Nz l → All (Le d) l → Sorted Le l → Grouped (s ∷ l) (runs d s l)
+runs-is [] nd ns e nl dl al = unfold runs in record { nonzero = (ns, tt); strict = (tt, tt); above = λ c nc h. h; totals = λ p dp. refl; lines = λ v h. h }
+runs-is {d} {s} (f ∷ l) nd ns e nl dl al =
     runs-by s l (Grouped (s ∷ f ∷ l)) (dl .0)
     (λ k. let t : Same s f = same-trans ns nd (nl .0) e k in
     let a : AddSame s f = add-same ns (nl .0) t in
-    grouped-two l ns (nl .0) t
-    (runs-is d (s +ᵖ f) l nd (a .nonzero) (same-trans (a .nonzero) (nl .0) nd (a .same) (same-sym k)) (nl .1) (dl .1) (al .1)))
+    grouped-two ns (nl .0) t
+    (runs-is l nd (a .nonzero) (same-trans (a .nonzero) (nl .0) nd (a .same) (same-sym k)) (nl .1) (dl .1) (al .1)))
     (λ k. let t : Lt s f = same-lt ns nd (nl .0) e k in
     grouped-next ns (t, all-map2 l (λ x n m. lt-le-trans ns (nl .0) n t m) (nl .1) (al .0))
-    (runs-is f f l (nl .0) (nl .0) (same-refl f) (nl .1) (al .0) (al .1)))
+    (runs-is l (nl .0) (nl .0) (same-refl f) (nl .1) (al .0) (al .1)))
 
 -- any weakly ascending list
 pub grouped-is : {l : List Pt} → All Nz l → Sorted Le l → Grouped l (grouped l)
 unfolding grouped
 grouped-is {l = []} n a = record { nonzero = tt; strict = tt; above = λ c nc h. tt; totals = λ p dp. refl; lines = λ v h. tt }
-grouped-is {l = e ∷ l} n a = runs-is e e l (n .0) (n .0) (same-refl e) (n .1) (a .0) (a .1)
+grouped-is {l = e ∷ l} n a = runs-is l (n .0) (n .0) (same-refl e) (n .1) (a .0) (a .1)
 
 -- ---- both
 

@@ -195,12 +195,12 @@ module _ (A B : List Pt) where
     | step e t k ru ↦
         subst (Ran A B s) (sym (ru n unset))
         (by-test (isZero e)
-        (λ z. rw z (skip e t (run n A B unset t) k z (run-unset n t (omega (arith, k .count)))))
-        (λ z. rw z (begun e t (run n A B (along e) t) k z (run-along n e t (omega (arith, k .count))))))
+        (λ z. rw z (skip k z (run-unset n t (omega (arith, k .count)))))
+        (λ z. rw z (begun k z (run-along n e t (omega (arith, k .count))))))
   ]
     where
-      skip : (e : Pt) (t : ConvexSum) (r : Run) → Stepped A B s e t → isZero e ≡ true → Ran A B t r → Ran A B s r
-      skip e t r k z a =
+      skip : {e : Pt} {t : ConvexSum} {r : Run} → Stepped A B s e t → isZero e ≡ true → Ran A B t r → Ran A B s r
+      skip {e} {t} {r} k z a =
           let still : sumPoint A B t ≡ sumPoint A B s = k .moves ∙ ap (λ v. sumPoint A B s +ᵖ v) (isZero-true e z) ∙ +ᵖ-zero (sumPoint A B s) in
           let same : toCome A B s ≡ toCome A B t = ap₂ (λ p l. cornersFrom p (grouped l)) (sym still) (ap live (k .order) ∙ live-zero e (ways A B t) z) in
           elim a [
@@ -208,8 +208,8 @@ module _ (A B : List Pt) where
             | went d u f c ↦ went d u (omega (arith, k .count)) (same ∙ c ∙ ap (λ p. p ∷ toCome A B (r .at)) still)
           ]
 
-      begun : (e : Pt) (t : ConvexSum) (r : Run) → Stepped A B s e t → isZero e ≡ false → Along A B e t r → Ran A B s r
-      begun e t r k z a =
+      begun : {e : Pt} {t : ConvexSum} {r : Run} → Stepped A B s e t → isZero e ≡ false → Along A B e t r → Ran A B s r
+      begun {e} {t} k z a =
           went e (a .heads) (omega (arith, a .fewer, k .count))
           (ap (λ l. cornersFrom (sumPoint A B s) (grouped l)) (ap live (k .order) ∙ live-keep e (ways A B t) z) ∙ a .corners (sumPoint A B s) e (k .moves))
 

@@ -98,14 +98,14 @@ pub record Valid (n : ℕ) (w : Place) : Type 0 where
 pub valid-next : {n : ℕ} {w : Place} → Valid n w → nextIndex n w < n
 unfolding nextIndex
 valid-next {n} {w} v =
-    cond-ind (w .segment) (cond (eqb (w .index) (w .start)) (w .end) (w .start)) _ (λ i. i < n)
-    (λ t. cond-ind (eqb (w .index) (w .start)) (w .end) (w .start) (λ i. i < n) (λ t. v .end) (λ t. v .start))
-    (λ t. cond-ind (w .reverse) (cond (eqb (w .index) 0) (n - 1) (w .index - 1)) (cond (eqb (suc (w .index)) n) 0 (suc (w .index))) (λ i. i < n)
-    (λ t. cond-ind (eqb (w .index) 0) (n - 1) (w .index - 1) (λ i. i < n) (λ t. omega (arith, v .index)) (λ t. omega (arith, v .index)))
-    (λ t. by-test (eqb (suc (w .index)) n) (λ e. rw e (omega (arith, v .index))) (λ e. rw e (further (w .index) e (v .index)))))
+    cond-ind (w .segment) (λ i. i < n)
+    (λ t. cond-ind (eqb (w .index) (w .start)) (λ i. i < n) (λ t. v .end) (λ t. v .start))
+    (λ t. cond-ind (w .reverse) (λ i. i < n)
+    (λ t. cond-ind (eqb (w .index) 0) (λ i. i < n) (λ t. omega (arith, v .index)) (λ t. omega (arith, v .index)))
+    (λ t. by-test (eqb (suc (w .index)) n) (λ e. rw e (omega (arith, v .index))) (λ e. rw e (further e (v .index)))))
   where
-    further : (i : ℕ) → eqb (suc i) n ≡ false → i < n → suc i < n
-    further i e h = let k : suc i ≡ n → ⊥ = eqb-false (suc i) n e in omega arith
+    further : {i : ℕ} → eqb (suc i) n ≡ false → i < n → suc i < n
+    further {i} e h = let k : suc i ≡ n → ⊥ = eqb-false (suc i) n e in omega arith
 
 pub valid-advance : {n : ℕ} {w : Place} → Valid n w → Valid n (advance n w)
 unfolding advance
@@ -136,19 +136,19 @@ point-advance l w = turned-step (w .reflected) (cornerAt l (w .index)) (cornerAt
 -- ---- the edges, once round
 
 -- k steps in table order from place i: the next k edges, round the end
-handed-onward : (l : List Pt) (reflected : Bool) (s k m i : ℕ) → k ≤ length l → i < length l → handed k l (around false reflected s m i) ≡ map (turned reflected) (take k (rotate i (edges l)))
+handed-onward : (l : List Pt) (reflected : Bool) (s k m : ℕ) {i : ℕ} → k ≤ length l → i < length l → handed k l (around false reflected s m i) ≡ map (turned reflected) (take k (rotate i (edges l)))
 unfolding handed edgeOf advance nextIndex
-handed-onward l reflected s zero m i h g = refl
-handed-onward l reflected s (suc k) m i h g =
+handed-onward l reflected s zero m h g = refl
+handed-onward l reflected s (suc k) m {i} h g =
     let n : length (edges l) ≡ length l = length-edges l in
     let next : ℕ = cond (eqb (suc i) (length l)) 0 (suc i) in
     let rest : List Pt = drop (suc i) (edges l) ++ take i (edges l) in
     let fits : k ≤ length rest = omega (arith, length-append (drop (suc i) (edges l)) (take i (edges l)), length-drop (suc i) (edges l), length-take-le i (edges l) (omega arith)) in
-    let after : rotate next (edges l) ≡ rest ++ (getD (edges l) i O ∷ []) = rw n at (rotate-after i (edges l) O (omega arith)) in
-    ap₂ _∷_ (ap (turned reflected) (sym (getD-edges l i g)))
-    (handed-onward l reflected s k (m - 1) next (omega arith) (valid-next {n = length l} {w = around false reflected i m i} (record { index = g; start = g; end = g }))
+    let after : rotate next (edges l) ≡ rest ++ (getD (edges l) i O ∷ []) = rw n at (rotate-after {k = i} (edges l) O (omega arith)) in
+    ap₂ _∷_ (ap (turned reflected) (sym (getD-edges l g)))
+    (handed-onward l reflected s k (m - 1) (omega arith) (valid-next {n = length l} {w = around false reflected i m i} (record { index = g; start = g; end = g }))
     ∙ ap (λ r. map (turned reflected) (take k r)) after ∙ ap (map (turned reflected)) (take-append-le k rest (getD (edges l) i O ∷ []) fits))
-    ∙ ap (λ r. map (turned reflected) (take (suc k) r)) (sym (rotate-at i (edges l) O (omega arith)))
+    ∙ ap (λ r. map (turned reflected) (take (suc k) r)) (sym (rotate-at (edges l) O (omega arith)))
 
 -- backwards from place i is in table order from place j of the table reversed, where i + j is the
 -- last place
@@ -169,9 +169,9 @@ handed-backward l reflected s (suc k) m i j h =
         (λ t. let z : i ≡ 0 → ⊥ = eqb-false i 0 t in rw (t, ne-eqb (suc j) n (λ q. z (omega arith))) (omega arith))
 
 -- all steps in table order
-handed-round : (reflected : Bool) (l : List Pt) (s m i : ℕ) → i < length l → handed (length l) l (around false reflected s m i) ≡ map (turned reflected) (edges (rotate i l))
-handed-round reflected l s m i h =
-    handed-onward l reflected s (length l) m i (omega arith) h
+handed-round : (reflected : Bool) (l : List Pt) (s m : ℕ) {i : ℕ} → i < length l → handed (length l) l (around false reflected s m i) ≡ map (turned reflected) (edges (rotate i l))
+handed-round reflected l s m {i} h =
+    handed-onward l reflected s (length l) m (omega arith) h
     ∙ ap (map (turned reflected)) (ap (λ k. take k (rotate i (edges l))) (sym (length-rotate i (edges l) ∙ length-edges l)) ∙ take-length (rotate i (edges l)) ∙ sym (edges-rotate i l))
 
 module _ (reflected : Bool) (l : List Pt) (filled : 0 < length l) where
@@ -179,7 +179,7 @@ module _ (reflected : Bool) (l : List Pt) (filled : 0 < length l) where
   pub walk-onward : ltZ (pos 0) (winding reflected l) ≡ true → walkEdges reflected l ≡ map (turned reflected) (edges (rotate (startAt reflected l) l))
   walk-onward h =
       ap (λ w. handed (w .remaining) l w) (begin-onward reflected l h)
-      ∙ handed-round reflected l (startAt reflected l) (length l) (startAt reflected l) (start-inside reflected l filled)
+      ∙ handed-round reflected l (startAt reflected l) (length l) (start-inside reflected l filled)
 
   -- below 0: from the start, the other way round
   pub walk-backward : ltZ (winding reflected l) (pos 0) ≡ true → walkEdges reflected l ≡ map (turned reflected) (edges (backwards (rotate (startAt reflected l) l)))
@@ -192,8 +192,8 @@ module _ (reflected : Bool) (l : List Pt) (filled : 0 < length l) where
       ap (λ w. handed (w .remaining) l w) (begin-backward reflected l h)
       ∙ handed-backward l reflected s (length l) (length l) s j (omega arith)
       ∙ ap (λ k. handed k (reverse l) (around false reflected s (length l) j)) (sym n)
-      ∙ handed-round reflected (reverse l) s (length l) j (omega arith)
-      ∙ ap (λ r. map (turned reflected) (edges r)) (rotate-reverse s l O inside ∙ sym (ap backwards (rotate-at s l O inside)))
+      ∙ handed-round reflected (reverse l) s (length l) {i = j} (omega arith)
+      ∙ ap (λ r. map (turned reflected) (edges r)) (rotate-reverse l O inside ∙ sym (ap backwards (rotate-at l O inside)))
 
 -- a reflected walk's edges are those of the contour turned through the origin
 pub turned-edges : (reflected : Bool) (l : List Pt) → map (turned reflected) (edges l) ≡ edges (map (turned reflected) l)
@@ -232,8 +232,8 @@ begin-remaining reflected (p ∷ l) =
     begin-by reflected (p ∷ l) (λ w. w .remaining ≤ suc (length l)) (λ h. omega arith) (λ h. omega arith)
     (λ h. by-test (eqPt (firstCorner reflected (p ∷ l)) (farCorner reflected (p ∷ l)))
     (λ t. rw t (omega arith))
-    (λ t. rw t (two (startAt reflected (p ∷ l)) (endAt reflected (p ∷ l)) (start-inside reflected (p ∷ l) (omega arith)) (end-inside reflected (p ∷ l) (omega arith))
+    (λ t. rw t (two (start-inside reflected (p ∷ l) (omega arith)) (end-inside reflected (p ∷ l) (omega arith))
     (λ e. eqPt-false t (ap (cornerAt (p ∷ l)) e)))))
   where
-    two : (s e : ℕ) → s < suc (length l) → e < suc (length l) → (s ≡ e → ⊥) → 2 ≤ suc (length l)
-    two s e a b ne = omega arith
+    two : {s e : ℕ} → s < suc (length l) → e < suc (length l) → (s ≡ e → ⊥) → 2 ≤ suc (length l)
+    two a b ne = omega arith

@@ -48,7 +48,7 @@ pub reach-is : (d : Pt) (l : List Pt) (m : ℤ) → All (λ q. dot d q ≤ℤ m)
 unfolding reach
 reach-is d [] m h k = absurd k
 reach-is d (p ∷ l) m h k =
-    greatest-is (dot d p) m (map (dot d) l) (all-image (λ z. z ≤ℤ m) (dot d) (p ∷ l) .1 h) (any-image (λ z. z ≡ m) (dot d) (p ∷ l) .1 k)
+    greatest-is (map (dot d) l) (all-image (λ z. z ≤ℤ m) (dot d) (p ∷ l) .1 h) (any-image (λ z. z ≡ m) (dot d) (p ∷ l) .1 k)
 
 -- lists with the same points have the same reach
 pub reach-same : (d : Pt) {K : List Pt} (L : List Pt) → (K ≡ [] → ⊥) → All (In L) K → All (In K) L → reach d L ≡ reach d K
@@ -129,31 +129,31 @@ module _ (r : Pt) (nr : Nz r) (E : List Pt) (c : Convex E) (A : List Pt) (b : Pt
       not-level = arithℤ (pt ∷ pt ∷ []) (λ b r. con (pos 0) :< crossE b r ⇒ crossE r b := con (pos 0) ⇒ :⊥) (omega arith)
 
       -- in numbers: c of E is cA + cB, and sA + sB = 0
-      left-after : {sA cA : ℤ} (cB : ℤ) {c : ℤ} → c ≡ cA +ℤ cB → cA ≡ sA → pos 0 ≤ℤ cB → sA ≤ℤ c
-      left-after {cA} cB e f h = omega (zarith, add-parts cA cB)
+      left-after : {sA cA : ℤ} {cB : ℤ} {c : ℤ} → c ≡ cA +ℤ cB → cA ≡ sA → pos 0 ≤ℤ cB → sA ≤ℤ c
+      left-after {cA} {cB} e f h = omega (zarith, add-parts cA cB)
 
-      right-before : {sA : ℤ} (sB : ℤ) {cA : ℤ} (cB : ℤ) {c : ℤ} → c ≡ cA +ℤ cB → (sA +ℤ sB) ≡ pos 0 → cA ≡ sA → sA ≤ℤ pos 0 → sB ≤ℤ cB → sA ≤ℤ c
-      right-before {sA} sB {cA} cB e z f h k = omega (zarith, add-parts cA cB, add-parts sA sB)
+      right-before : {sA : ℤ} {sB : ℤ} {cA : ℤ} {cB : ℤ} {c : ℤ} → c ≡ cA +ℤ cB → (sA +ℤ sB) ≡ pos 0 → cA ≡ sA → sA ≤ℤ pos 0 → sB ≤ℤ cB → sA ≤ℤ c
+      right-before {sA} {sB} {cA} {cB} e z f h k = omega (zarith, add-parts cA cB, add-parts sA sB)
 
-      right-left-out : (sA cA : ℤ) {cB c : ℤ} → c ≡ cA +ℤ cB → cB ≡ pos 0 → sA ≤ℤ cA → sA ≤ℤ c
-      right-left-out sA cA {cB} e f h = omega (zarith, add-parts cA cB)
+      right-left-out : {sA cA : ℤ} {cB c : ℤ} → c ≡ cA +ℤ cB → cB ≡ pos 0 → sA ≤ℤ cA → sA ≤ℤ c
+      right-left-out {cA} {cB} e f h = omega (zarith, add-parts cA cB)
 
-      left-past : (sA sB cA : ℤ) {cB c : ℤ} → c ≡ cA +ℤ cB → (sA +ℤ sB) ≡ pos 0 → cB ≡ pos 0 → pos 0 ≤ℤ sB → pos 0 ≤ℤ cA → sA ≤ℤ c
-      left-past sA sB cA {cB} e z f h k = omega (zarith, add-parts cA cB, add-parts sA sB)
+      left-past : (sA : ℤ) {sB cA : ℤ} {cB c : ℤ} → c ≡ cA +ℤ cB → (sA +ℤ sB) ≡ pos 0 → cB ≡ pos 0 → pos 0 ≤ℤ sB → pos 0 ≤ℤ cA → sA ≤ℤ c
+      left-past sA {sB} {cA} {cB} e z f h k = omega (zarith, add-parts cA cB, add-parts sA sB)
 
       by : Ahead b r → (cross b r ≤ℤ pos 0) ⊎ (pos 0 <ℤ cross b r) → cross (sumᵖ A) r ≤ℤ cross (cut r E) r
       by (ahead t h) (inr k) =
-          left-after (cross (cut r (b ∷ B)) r) whole (all-before h)
+          left-after whole (all-before h)
           (cut-left r (b ∷ B) (all-map2 (b ∷ B) (λ e n l m. between-left (nB .0) n nr l m (<-≤ k)) nB after-b))
       by (ahead t h) (inl k) =
-          right-before (cross (sumᵖ (b ∷ B)) r) (cross (cut r (b ∷ B)) r) whole closed (all-before h)
+          right-before whole closed (all-before h)
           (right (sumᵖ A) r (sum-right r A (all-map2 A (λ a n l. before-right n (nB .0) nr l h (turned b r k)) nA (split-before s))))
           (cut-most r (b ∷ B) (all-map (b ∷ B) (λ e n m. past-right h m (turned b r k)) nB))
       by (behind t h) (inl k) =
-          right-left-out (cross (sumᵖ A) r) (cross (cut r A) r) whole (none-after h)
+          right-left-out whole (none-after h)
           (cut-most r A (all-map2 A (λ a n l m. between-right nr n (nB .0) m l (turned b r k)) nA (split-before s)))
       by (behind t h) (inr k) =
-          left-past (cross (sumᵖ A) r) (cross (sumᵖ (b ∷ B)) r) (cross (cut r A) r) whole closed (none-after h)
+          left-past (cross (sumᵖ A) r) whole closed (none-after h)
           (sum-left r (b ∷ B) (all-map2 (b ∷ B) (λ e n l. past-left nr (nB .0) n (le-lt h (not-level b r k)) l (<-≤ k)) nB after-b))
           (cut-left r A (all-map A (λ a n m. before-left (le-lt h (not-level b r k)) (lt-le m) (<-≤ k)) nA))
 

@@ -33,8 +33,8 @@ use Rattle.pair.proofs.Tables.{windingOf, From, winding-read, outline-r
 -- ---- a contour from another corner
 
 -- its first corner is the one at s
-pub corner-rotate : (s : ℕ) (l : List Pt) → s < length l → cornerAt (rotate s l) 0 ≡ cornerAt l s
-corner-rotate s l h = ap (λ r. cornerAt r 0) (rotate-at s l O h)
+pub corner-rotate : {s : ℕ} (l : List Pt) → s < length l → cornerAt (rotate s l) 0 ≡ cornerAt l s
+corner-rotate {s} l h = ap (λ r. cornerAt r 0) (rotate-at l O h)
 
 -- ---- the other way round
 
@@ -106,7 +106,7 @@ module _ (l : List Pt) (s : ℕ) (least : All (λ c. below c (cornerAt l s) ≡ 
 module _ (l : List Pt) (s : ℕ) (h : s < length l) (least : All (λ c. below c (cornerAt l s) ≡ false) l) where
   -- backwards from s begins there too
   backwards-at : backwards (rotate s l) ≡ cornerAt l s ∷ reverse (drop (suc s) l ++ take s l)
-  backwards-at = ap backwards (rotate-at s l O h) ∙ backwards-cons (cornerAt l s) (drop (suc s) l ++ take s l)
+  backwards-at = ap backwards (rotate-at l O h) ∙ backwards-cons (cornerAt l s) (drop (suc s) l ++ take s l)
 
   -- with the same corners
   perm-back : List·Permᴰ (backwards (rotate s l)) l
@@ -114,11 +114,11 @@ module _ (l : List Pt) (s : ℕ) (h : s < length l) (least : All (λ c. below c 
 
   -- once round, counter-clockwise: onward, and the winding is above 0
   pub outline-on : RoundEdges (live (edges l)) → Outline (cornerAt l s) l (live (edges (rotate s l)))
-  outline-on r = outline-reading l s least (rotate s l) (drop (suc s) l ++ take s l) (rotate-at s l O h) (perm-rotate s l) (round-rotate s l r)
+  outline-on r = outline-reading l s least (rotate s l) (drop (suc s) l ++ take s l) (rotate-at l O h) (perm-rotate s l) (round-rotate s l r)
 
   pub winding-on : RoundEdges (live (edges l)) → pos 0 <ℤ sumℤ (windingTerms s l)
   unfolding windingTerms
-  winding-on r = winding-reading l s least (rotate s l) (drop (suc s) l ++ take s l) (rotate-at s l O h) (perm-rotate s l) (round-rotate s l r)
+  winding-on r = winding-reading l s least (rotate s l) (drop (suc s) l ++ take s l) (rotate-at l O h) (perm-rotate s l) (round-rotate s l r)
 
   -- clockwise: backwards, and it is below 0
   pub outline-back : RoundEdges (live (edges (reverse l))) → Outline (cornerAt l s) l (live (edges (backwards (rotate s l))))

@@ -78,12 +78,12 @@ module _ {M : List Pt} where
       (corners-from P (split-next s) (ap (λ v. v +ᵖ b) e ∙ +ᵖ-next P (sumᵖ A) b ∙ ap (λ v. P +ᵖ v) (sym (sum-cons b A))))
 
   -- along the list from a, and to the first edge f at its end
-  cuts-from : (f : Pt) → cut f M ≡ O → sumᵖ M ≡ O → {A : List Pt} (a : Pt) (B : List Pt) → Split Lt M A (a ∷ B) → All (λ c. cut (c .1) M ≡ c .0 +ᵖ cut (c .0) M) (links a (B ++ (f ∷ [])))
+  cuts-from : (f : Pt) → cut f M ≡ O → sumᵖ M ≡ O → {A : List Pt} {a : Pt} (B : List Pt) → Split Lt M A (a ∷ B) → All (λ c. cut (c .1) M ≡ c .0 +ᵖ cut (c .0) M) (links a (B ++ (f ∷ [])))
   unfolding links
-  cuts-from f e z {A} a [] s =
+  cuts-from f e z {A} {a} [] s =
       (e ∙ sym z ∙ sym (split-sum s) ∙ +ᵖ-comm (sumᵖ A) (sumᵖ (a ∷ [])) ∙ ap₂ _+ᵖ_ (sum-one a) (sym (cut-split s)), tt)
-  cuts-from f e z {A} a (b ∷ B) s =
-      (cut-split (split-next s) ∙ sum-cons a A ∙ ap (λ v. a +ᵖ v) (sym (cut-split s)), cuts-from f e z b B (split-next s))
+  cuts-from f e z {A} {a} (b ∷ B) s =
+      (cut-split (split-next s) ∙ sum-cons a A ∙ ap (λ v. a +ᵖ v) (sym (cut-split s)), cuts-from f e z B (split-next s))
 
 -- each corner is the first one plus the cut at the edge out of it
 pub corners-cuts : (P : Pt) (M : List Pt) → Sorted Lt M → cornersFrom P M ≡ map (λ b. P +ᵖ cut b M) M
@@ -94,4 +94,4 @@ corners-cuts P M s = corners-from P (split-start s) (sym (+ᵖ-zero P))
 pub cut-next : (M : List Pt) → Sorted Lt M → sumᵖ M ≡ O → All (λ c. cut (c .1) M ≡ c .0 +ᵖ cut (c .0) M) (neighbours M)
 unfolding neighbours
 cut-next [] s z = tt
-cut-next (e ∷ l) s z = cuts-from e (cut-split (split-start s) ∙ (unfold sumᵖ in refl)) z e l (split-start s)
+cut-next (e ∷ l) s z = cuts-from e (cut-split (split-start s) ∙ (unfold sumᵖ in refl)) z l (split-start s)

@@ -173,9 +173,9 @@ forward-cases c h =
 
 -- the descent from the last edge to the first is the only one, and were all on one line, that turn
 -- would go back
-convex-many : (s e f : Pt) (l : List Pt) → All Nz (e ∷ f ∷ l) → sumᵖ (e ∷ f ∷ l) ≡ O → All (From s) (cornersFrom s (e ∷ f ∷ l)) → RoundEdges (e ∷ f ∷ l) → Convex (e ∷ f ∷ l)
+convex-many : (s : Pt) {e f : Pt} {l : List Pt} → All Nz (e ∷ f ∷ l) → sumᵖ (e ∷ f ∷ l) ≡ O → All (From s) (cornersFrom s (e ∷ f ∷ l)) → RoundEdges (e ∷ f ∷ l) → Convex (e ∷ f ∷ l)
 unfolding descent
-convex-many s e f l n z from round = record {
+convex-many s {e} {f} {l} n z from round = record {
   nonzero = n;
   ascends = no-descent (f ∷ l) (n .0) (n .1) (all-count descent (links e (f ∷ l)) none);
   closed = z;
@@ -207,7 +207,7 @@ convex-from : (s : Pt) {E : List Pt} → All Nz E → sumᵖ E ≡ O → All (Fr
 unfolding neighbours howMany sumᵖ
 convex-from s {E = []} n z from round = absurd (omega (arith, round .once))
 convex-from s {E = e ∷ []} n z from round = absurd (nz-not-zero (n .0) (sym (+ᵖ-zero e) ∙ z))
-convex-from s {E = e ∷ f ∷ l} n z from round = convex-many s e f l n z from round
+convex-from s {E = e ∷ f ∷ l} n z from round = convex-many s n z from round
 
 -- ---- the table read from its least corner
 

@@ -162,7 +162,7 @@ read-on l h =
     let way : cond (ltZ (contourArea l) (pos 0)) (reverse l) l ≡ l = ap (λ b. cond b (reverse l) l) (≤-ltZ {x = contourArea l} {y = pos 0} (<-≤ (subst (λ k. pos 0 <ℤ k) (winding-area (leastAt l) l) (winding-on l (leastAt l) i (least-all l f) r)))) in
     subst (λ c. Read l (rotate (leastAt c) c)) (sym way) (record {
       size = f;
-      from = begin-point false l ∙ sym (corner-rotate (leastAt l) l i);
+      from = begin-point false l ∙ sym (corner-rotate l i);
       along = ap live (walk-on false l r ∙ map-id (edges (rotate (leastAt l) l))) ∙ sharp-live-on l h (leastAt l) i (least-all l f);
       nonzero = subst (All Nz) (sharp-live-on l h (leastAt l) i (least-all l f)) (outline-on l (leastAt l) i (least-all l f) r .convex .nonzero);
       strict = sharp-ascends l h (leastAt l) i (least-all l f);
@@ -179,7 +179,7 @@ read-back l h =
     let way : cond (ltZ (contourArea l) (pos 0)) (reverse l) l ≡ reverse l = ap (λ b. cond b (reverse l) l) (<-ltZ (subst (λ k. k <ℤ pos 0) (winding-area (leastAt l) l) (winding-back l (leastAt l) i (least-all l f) r))) in
     subst (λ c. Read l (rotate (leastAt c) c)) (sym way) (record {
       size = f;
-      from = begin-point false l ∙ sharp-back-start l h (leastAt l) i (least-all l f) (leastAt (reverse l)) j (least-all (reverse l) g) ∙ sym (corner-rotate (leastAt (reverse l)) (reverse l) j);
+      from = begin-point false l ∙ sharp-back-start l h (leastAt l) i (least-all l f) (leastAt (reverse l)) j (least-all (reverse l) g) ∙ sym (corner-rotate (reverse l) j);
       along = ap live (walk-back false l r ∙ map-id (edges (backwards (rotate (leastAt l) l)))) ∙ sharp-live-back l h (leastAt l) i (least-all l f) ∙ sharp-back l h (leastAt l) i (least-all l f) (leastAt (reverse l)) j (least-all (reverse l) g);
       nonzero = subst (All Nz) (sharp-live-on (reverse l) h (leastAt (reverse l)) j (least-all (reverse l) g)) (outline-on (reverse l) (leastAt (reverse l)) j (least-all (reverse l) g) r .convex .nonzero);
       strict = sharp-ascends (reverse l) h (leastAt (reverse l)) j (least-all (reverse l) g);

@@ -116,35 +116,35 @@ cut-whole r (e ∷ l) h = elim (ahead-cases e r) [ ahead t k ↦ cut-take r e l 
 -- ---- sides
 
 -- a sum of two at least 0
-nn-add' : (a b : ℤ) {s : ℤ} → s ≡ a +ℤ b → pos 0 ≤ℤ a → pos 0 ≤ℤ b → pos 0 ≤ℤ s
-nn-add' a b e h k = omega (zarith, add-parts a b)
+nn-add' : {a b : ℤ} {s : ℤ} → s ≡ a +ℤ b → pos 0 ≤ℤ a → pos 0 ≤ℤ b → pos 0 ≤ℤ s
+nn-add' {a} {b} e h k = omega (zarith, add-parts a b)
 
 module _ (r : Pt) where
   -- edges left of r add up left of it
   pub sum-left : (l : List Pt) → All (λ e. pos 0 ≤ℤ cross e r) l → pos 0 ≤ℤ cross (sumᵖ l) r
-  sum-left = sum-all (λ e. pos 0 ≤ℤ cross e r) (λ a b h k. nn-add' (cross a r) (cross b r) (cross-add-l a b r) h k)
+  sum-left = sum-all (λ e. pos 0 ≤ℤ cross e r) (λ a b h k. nn-add' (cross-add-l a b r) h k)
       (subst (λ z. pos 0 ≤ℤ z) (sym (cross-zero-l r)) (≤ℤ-refl (pos 0)))
 
   -- and those right of it right
   pub sum-right : (l : List Pt) → All (λ e. pos 0 ≤ℤ cross r e) l → pos 0 ≤ℤ cross r (sumᵖ l)
-  sum-right = sum-all (λ e. pos 0 ≤ℤ cross r e) (λ a b h k. nn-add' (cross r a) (cross r b) (cross-add-r r a b) h k)
+  sum-right = sum-all (λ e. pos 0 ≤ℤ cross r e) (λ a b h k. nn-add' (cross-add-r r a b) h k)
       (subst (λ z. pos 0 ≤ℤ z) (sym (cross-zero-r r)) (≤ℤ-refl (pos 0)))
 
   -- the edges before r lie left of it, so their sum does
   pub cut-left : (l : List Pt) → All (λ e. Lt e r → pos 0 ≤ℤ cross e r) l → pos 0 ≤ℤ cross (cut r l) r
   cut-left [] h = unfold total in subst (λ z. pos 0 ≤ℤ z) (sym (cross-zero-l r)) (≤ℤ-refl (pos 0))
   cut-left (e ∷ l) h = elim (ahead-cases e r) [
-    | ahead t k ↦ nn-add' (cross e r) (cross (cut r l) r) (ap (λ v. cross v r) (cut-take r e l t) ∙ cross-add-l e (cut r l) r) (h .0 k) (cut-left l (h .1))
+    | ahead t k ↦ nn-add' (ap (λ v. cross v r) (cut-take r e l t) ∙ cross-add-l e (cut r l) r) (h .0 k) (cut-left l (h .1))
     | behind t k ↦ subst (λ v. pos 0 ≤ℤ cross v r) (sym (cut-skip r e l t)) (cut-left l (h .1))
   ]
 
   -- the same added to both sides
-  more : (e s c : ℤ) {s' c' : ℤ} → s' ≡ e +ℤ s → c' ≡ e +ℤ c → s ≤ℤ c → s' ≤ℤ c'
-  more e s c p q h = omega (zarith, add-parts e s, add-parts e c)
+  more : (e : ℤ) {s c : ℤ} {s' c' : ℤ} → s' ≡ e +ℤ s → c' ≡ e +ℤ c → s ≤ℤ c → s' ≤ℤ c'
+  more e {s} {c} p q h = omega (zarith, add-parts e s, add-parts e c)
 
   -- what is at most 0 added to the lesser side
-  less : (e f s c : ℤ) {s' : ℤ} → s' ≡ e +ℤ s → (e +ℤ f) ≡ pos 0 → pos 0 ≤ℤ f → s ≤ℤ c → s' ≤ℤ c
-  less e f s c p q h k = omega (zarith, add-parts e s, add-parts e f)
+  less : (e : ℤ) {f s c : ℤ} {s' : ℤ} → s' ≡ e +ℤ s → (e +ℤ f) ≡ pos 0 → pos 0 ≤ℤ f → s ≤ℤ c → s' ≤ℤ c
+  less e {f} {s} p q h k = omega (zarith, add-parts e s, add-parts e f)
 
   -- the others lie right of it, so leaving them out loses nothing
   pub cut-most : (l : List Pt) → All (λ e. Le r e → pos 0 ≤ℤ cross r e) l → cross (sumᵖ l) r ≤ℤ cross (cut r l) r
@@ -152,11 +152,11 @@ module _ (r : Pt) where
   cut-most [] h = unfold total in ≤ℤ-refl (cross O r)
   cut-most (e ∷ l) h = elim (ahead-cases e r) [
     | ahead t k ↦
-        more (cross e r) (cross (sumᵖ l) r) (cross (cut r l) r)
+        more (cross e r)
         (cross-add-l e (sumᵖ l) r) (ap (λ v. cross v r) (cut-take r e l t) ∙ cross-add-l e (cut r l) r) (cut-most l (h .1))
     | behind t k ↦
         subst (λ v. cross (e +ᵖ sumᵖ l) r ≤ℤ cross v r) (sym (cut-skip r e l t))
-        (less (cross e r) (cross r e) (cross (sumᵖ l) r) (cross (cut r l) r) (cross-add-l e (sumᵖ l) r) (opposite e) (h .0 k) (cut-most l (h .1)))
+        (less (cross e r) (cross-add-l e (sumᵖ l) r) (opposite e) (h .0 k) (cut-most l (h .1)))
   ]
     where
       opposite : (e : Pt) → cross e r +ℤ cross r e ≡ pos 0
@@ -167,15 +167,15 @@ module _ (r : Pt) where
 -- a sum of terms at least 0
 pub nn-sum : (l : List ℤ) → All (λ k. pos 0 ≤ℤ k) l → pos 0 ≤ℤ sumℤ l
 nn-sum [] h = unfold sumℤ in ≤ℤ-refl (pos 0)
-nn-sum (k ∷ l) h = nn-add' k (sumℤ l) (sumℤ-cons k l) (h .0) (nn-sum l (h .1))
+nn-sum (k ∷ l) h = nn-add' (sumℤ-cons k l) (h .0) (nn-sum l (h .1))
 
 -- a sum not above 0 has each term 0
 pub zero-sum : (l : List ℤ) → All (λ k. pos 0 ≤ℤ k) l → sumℤ l ≤ℤ pos 0 → All (λ k. k ≡ pos 0) l
 zero-sum [] h z = tt
-zero-sum (k ∷ l) h z = let r = apart k (sumℤ l) (sumℤ-cons k l) (h .0) (nn-sum l (h .1)) z in (r .0, zero-sum l (h .1) (r .1))
+zero-sum (k ∷ l) h z = let r = apart (sumℤ-cons k l) (h .0) (nn-sum l (h .1)) z in (r .0, zero-sum l (h .1) (r .1))
   where
-    apart : (k m : ℤ) {s : ℤ} → s ≡ k +ℤ m → pos 0 ≤ℤ k → pos 0 ≤ℤ m → s ≤ℤ pos 0 → (k ≡ pos 0) × (m ≤ℤ pos 0)
-    apart k m e h n z = (omega (zarith, add-parts k m), omega (zarith, add-parts k m))
+    apart : {k m : ℤ} {s : ℤ} → s ≡ k +ℤ m → pos 0 ≤ℤ k → pos 0 ≤ℤ m → s ≤ℤ pos 0 → (k ≡ pos 0) × (m ≤ℤ pos 0)
+    apart {k} {m} e h n z = (omega (zarith, add-parts k m), omega (zarith, add-parts k m))
 
 -- edges none of which lies right of v, and that add up to 0, lie along v
 pub all-line-left : (v : Pt) (l : List Pt) → All (λ g. pos 0 ≤ℤ cross g v) l → sumᵖ l ≡ O → All (Line v) l

@@ -89,12 +89,12 @@ module _ {M : List Pt} (c : Convex M) where
       by-test (lower b)
       (λ e. subst (λ v. pos 0 <ℤ cross v b) (sym (before-after s))
       (subst (λ k. pos 0 <ℤ k) (sym (cross-neg-swap-l (sumᵖ (b ∷ d ∷ B)) b ∙ ap (cross b) (sum-cons b (d ∷ B)) ∙ cross-add-r b b (sumᵖ (d ∷ B))))
-      (past (cross b (sumᵖ (d ∷ B))) (cross-self b)
+      (past (cross-self b)
       (sum-some (λ g. pos 0 <ℤ cross b g) (λ x y. add-right b x y) d B (all-map (d ∷ B) (λ g k. lt-in-half (e ∙ sym (half-after (lt-le k) e)) .0 k) (s .sorted .0))))))
       (λ e. sum-some (λ g. pos 0 <ℤ cross g b) (λ x y. add-left b x y) a A (all-map (a ∷ A) (λ g k. lt-in-half (half-before (lt-le k) e ∙ sym e) .0 k) (split-before s)))
     where
-      past : {k : ℤ} (m : ℤ) → k ≡ pos 0 → pos 0 <ℤ m → pos 0 <ℤ (k +ℤ m)
-      past {k} m e h = omega (zarith, add-parts k m)
+      past : {k : ℤ} {m : ℤ} → k ≡ pos 0 → pos 0 <ℤ m → pos 0 <ℤ (k +ℤ m)
+      past {k} {m} e h = omega (zarith, add-parts k m)
 
       add-right : (v x y : Pt) → pos 0 <ℤ cross v x → pos 0 <ℤ cross v y → pos 0 <ℤ cross v (x +ᵖ y)
       add-right = arithℤ (pt ∷ pt ∷ pt ∷ []) (λ v x y. con (pos 0) :< crossE v x ⇒ con (pos 0) :< crossE v y ⇒ con (pos 0) :< crossE v (x +E y)) (omega arith)
@@ -105,10 +105,10 @@ module _ {M : List Pt} (c : Convex M) where
   -- ---- distinct corners
 
   -- the cuts from the second on are in the upper half, strictly ascending
-  rising : (a : Pt) (A : List Pt) (b : Pt) (B : List Pt) → Split Lt M (a ∷ A) (b ∷ B) → All Up (map (λ g. cut g M) (b ∷ B)) × Sorted Lt (map (λ g. cut g M) (b ∷ B))
-  rising a A b [] s = ((subst Up (sym (cut-split s)) (up-corner (split-le s)), tt), (tt, tt))
-  rising a A b (d ∷ B) s =
-      let r = rising b (a ∷ A) d B (split-next s) in
+  rising : {a : Pt} {A : List Pt} {b : Pt} (B : List Pt) → Split Lt M (a ∷ A) (b ∷ B) → All Up (map (λ g. cut g M) (b ∷ B)) × Sorted Lt (map (λ g. cut g M) (b ∷ B))
+  rising [] s = ((subst Up (sym (cut-split s)) (up-corner (split-le s)), tt), (tt, tt))
+  rising {a} {A} {b} (d ∷ B) s =
+      let r = rising B (split-next s) in
       let u : Up (cut b M) = subst Up (sym (cut-split s)) (up-corner (split-le s)) in
       let on : cut d M ≡ b +ᵖ cut b M = cut-split (split-next s) ∙ sum-cons b (a ∷ A) ∙ ap (λ v. b +ᵖ v) (sym (cut-split s)) in
       let left : pos 0 <ℤ cross (cut b M) b = subst (λ v. pos 0 <ℤ cross v b) (sym (cut-split s)) (left-strictly s) in
@@ -138,7 +138,7 @@ distinct-cuts : {M : List Pt} → Convex M → Sorted Lt M → Distinct (map (λ
 distinct-cuts {M = []} c s = tt
 distinct-cuts {M = e ∷ []} c s = (tt, tt)
 distinct-cuts {M = e ∷ f ∷ l} c s =
-    let r = rising c e [] f l (split-next (split-start s)) in
+    let r = rising c l (split-next (split-start s)) in
     let z : O ≡ cut e (e ∷ f ∷ l) = sym (cut-split (split-start s) ∙ (unfold sumᵖ in refl)) in
     let cuts : List Pt = map (λ g. cut g (e ∷ f ∷ l)) (f ∷ l) in
     (subst (λ o. All (λ v. ¬ (o ≡ v)) cuts) z (all-map cuts (λ v u. up-not-zero u) (r .0)), distinct-sorted cuts (r .1))

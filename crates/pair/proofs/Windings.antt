@@ -37,12 +37,12 @@ module _ {E : List Pt} (c : Convex E) where
   none-below {A} {B = b ∷ B} s e = (subst (λ v. pos 0 ≤ℤ cross v b) (sym e) (left-weakly c s), none-below (split-next s) (next-sum b A e))
 
   -- u, the sum of the edges before, lies along v and b along u, so b lies along v
-  all-along : (v a : Pt) (A : List Pt) {B : List Pt} {u : Pt} → Split Le E (a ∷ A) B → u ≡ sumᵖ (a ∷ A) → Line v u → All (λ k. k ≡ pos 0) (crossings u B) → All (Line v) B
+  all-along : (v : Pt) {a : Pt} {A : List Pt} {B : List Pt} {u : Pt} → Split Le E (a ∷ A) B → u ≡ sumᵖ (a ∷ A) → Line v u → All (λ k. k ≡ pos 0) (crossings u B) → All (Line v) B
   unfolding crossings
-  all-along v a A {B = []} s e h z = tt
-  all-along v a A {B = b ∷ B} {u} s e h z =
+  all-along v {B = []} s e h z = tt
+  all-along v {a} {A} {B = b ∷ B} {u} s e h z =
       let k : Line v b = line-trans v b (subst Nz (sym e) (nz-of-up (up-corner c s))) h (line-swap u b (z .0)) in
-      (k, all-along v b (a ∷ A) (split-next s) (next-sum b (a ∷ A) e) (line-add v u b h k) (z .1))
+      (k, all-along v (split-next s) (next-sum b (a ∷ A) e) (line-add v u b h k) (z .1))
 
 -- so the winding is above 0
 pub winding-pos : {E : List Pt} → Convex E → pos 0 <ℤ sumℤ (crossings O E)
@@ -56,4 +56,4 @@ winding-pos {E = e ∷ l} c = ⊎-elim (λ h. absurd (flat (zero-sum (crossings 
     flat : All (λ k. k ≡ pos 0) (crossings O (e ∷ l)) → ⊥
     flat z =
         c .wide e (c .nonzero .0)
-        (cross-self e, all-along c e e [] (split-next start) (next-sum c {u = O} e [] (unfold sumᵖ in refl)) (subst (Line e) (sym (zero-+ᵖ e)) (cross-self e)) (z .1))
+        (cross-self e, all-along c e (split-next start) (next-sum c {u = O} e [] (unfold sumᵖ in refl)) (subst (Line e) (sym (zero-+ᵖ e)) (cross-self e)) (z .1))

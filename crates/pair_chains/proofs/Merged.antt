@@ -63,15 +63,15 @@ module _ (points : List (List ℤ)) (numbers : List ℕ) (f g end : ℕ) (a b : 
           inside = subst (All (λ p. (p .0 < length points) × (p .1 < length points))) (sym next) ((omega (arith, la .inside), omega (arith, lb .inside)), r .inside);
         }
 
-  rest : (n i j : ℕ) → i < length a → j < length b → length a + length b ≤ i + j + n → Rest i j
-  rest zero i j hi hj h = absurd (omega arith)
-  rest (suc n) i j hi hj h =
+  rest : (n : ℕ) {i j : ℕ} → i < length a → j < length b → length a + length b ≤ i + j + n → Rest i j
+  rest zero hi hj h = absurd (omega arith)
+  rest (suc n) {i} {j} hi hj h =
       by-test (ltb (i + j + 2) (length a + length b))
       (λ c.
       let k = ltb-true (i + j + 2) (length a + length b) c in
       let s = keyed-step a b t u z i j hi hj k in
-      at-turn i j hi hj k (rest n (i + stepOver (leftNumber a i) (rightNumber b j)) (j + stepOver (rightNumber b j) (leftNumber a i)) (s .left-in) (s .right-in) (omega (arith, s .onward))))
+      at-turn i j hi hj k (rest n (s .left-in) (s .right-in) (omega (arith, s .onward))))
       (λ c. at-end i j hi hj (ltb-false (i + j + 2) (length a + length b) c))
 
   pub chain-merged : 0 < length a → 0 < length b → MergedFrom points numbers end f g a b 0 0
-  chain-merged ha hb = rest (length a + length b) 0 0 ha hb (omega arith)
+  chain-merged ha hb = rest (length a + length b) ha hb (omega arith)

@@ -57,13 +57,13 @@ module _ (firsts : List ℕ) (points : List (List ℤ)) (numbers : List ℕ) (le
   right-inside : left + q < left + right
   right-inside = omega (arith, h .q-inside)
 
-  on-grid-walk : (n : ℕ) → n < left + right → All (λ x. onGrid x ≡ true) (walkIn firsts points (left + right) n)
-  on-grid-walk n k = all-getD (All (λ x. onGrid x ≡ true)) (walksIn firsts points (left + right)) [] (h .keyed .walks .grid) n (walk-inside firsts points (left + right) n (h .keyed .walks) k)
+  on-grid-walk : {n : ℕ} → n < left + right → All (λ x. onGrid x ≡ true) (walkIn firsts points (left + right) n)
+  on-grid-walk {n} k = all-getD (All (λ x. onGrid x ≡ true)) (walksIn firsts points (left + right)) [] (h .keyed .walks .grid) n (walk-inside firsts points (left + right) n (h .keyed .walks) k)
 
   pub pair-words : All Word32s (pairIn firsts points left right p q)
   pair-words =
       merged-sums Word32s a b
-      (all-map a (λ x g. all-map b (λ y k. sum-words x y (on-grid-both x g) (on-grid-both y k)) (on-grid-walk (left + q) right-inside)) (on-grid-walk p left-inside))
+      (all-map a (λ x g. all-map b (λ y k. sum-words x y (on-grid-both x g) (on-grid-both y k)) (on-grid-walk right-inside)) (on-grid-walk left-inside))
 
   pub pair-few : length (pairIn firsts points left right p q) ≤ 2 * maxContour
   pair-few =
@@ -94,10 +94,10 @@ unrolled-at reflected ps k = ap (λ d. getD (map (unrolled reflected) ps) k d) (
 
 -- the line of walks p and q is that of the contour of parts p and q
 pub line-of-pair :
-    (reflected : Bool) (ls rs : List (List Pt)) (firsts : List ℕ) (points : List (List ℤ)) (left right p q : ℕ) → p < left →
+    (reflected : Bool) (ls rs : List (List Pt)) (firsts : List ℕ) (points : List (List ℤ)) {left : ℕ} (right : ℕ) {p : ℕ} (q : ℕ) → p < left →
     leftsIn firsts points left right ≡ map (unrolled false) ls → rightsIn firsts points left right ≡ map (unrolled reflected) rs →
     pairLine p q (pairIn firsts points left right p q) ≡ pairLine p q (pairContour reflected (getD ls p []) (getD rs q []))
-line-of-pair reflected ls rs firsts points left right p q h e f =
+line-of-pair reflected ls rs firsts points {left} right {p} q h e f =
     ap (pairLine p q)
-    (ap₂ mergedOf (sym (left-walk firsts points left right p h) ∙ ap (λ l. getD l p []) e ∙ unrolled-at false ls p) (sym (right-walk firsts points left right q) ∙ ap (λ l. getD l q []) f ∙ unrolled-at reflected rs q)
+    (ap₂ mergedOf (sym (left-walk firsts points left right h) ∙ ap (λ l. getD l p []) e ∙ unrolled-at false ls p) (sym (right-walk firsts points left right q) ∙ ap (λ l. getD l q []) f ∙ unrolled-at reflected rs q)
     ∙ sym (pair-merged reflected (getD ls p []) (getD rs q [])))

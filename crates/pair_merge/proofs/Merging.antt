@@ -27,8 +27,8 @@ pub edge-in : (a : List (List ℤ)) (i : ℕ) {p q : Pt} → p ≡ cornerIn a (i
 edge-in a i e f = ap₂ _-ᵖ_ (e ∙ sym (point-in a (i + 1))) (f ∙ sym (point-in a i))
 
 -- after a tie, with an edge left in the first list
-pub tie-broken : (a b : List (List ℤ)) (i j : ℕ) → i < length a → ¬ (i + 1 ≡ length a) → secondNext (edgesAlong (drop i (pointsIn a))) (edgeAt (pointsIn b) j) ≡ isGreater (angleCmp (edgeAt (pointsIn a) i) (edgeAt (pointsIn b) j))
-tie-broken a b i j h k = second-more (pointsIn a) i (edgeAt (pointsIn b) j) (omega (arith, length-map a cornerOf))
+pub tie-broken : (a b : List (List ℤ)) {i : ℕ} (j : ℕ) → i < length a → ¬ (i + 1 ≡ length a) → secondNext (edgesAlong (drop i (pointsIn a))) (edgeAt (pointsIn b) j) ≡ isGreater (angleCmp (edgeAt (pointsIn a) i) (edgeAt (pointsIn b) j))
+tie-broken a b {i} j h k = second-more (pointsIn a) i (edgeAt (pointsIn b) j) (omega (arith, length-map a cornerOf))
 
 -- ---- a turn of the merge
 
@@ -78,24 +78,24 @@ module _ (a b : List (List ℤ)) (ma : Mergeable a) (mb : Mergeable b) (i j : �
 
   -- it is put, and the merge goes on
   module _ {whole : List Pt} {out out′ out″ : List ℤ} {n k : ℕ} (r : Reached whole (toCome i j) out n out′ k) (p : CornersPut (corner ∷ []) out′ k out″ (k + 1)) where
-    turned : (left : List Pt) → toCome i j ≡ corner ∷ left → Reached whole left out n out″ (k + 1)
-    turned left e = reached-more left (subst (λ l. Reached whole l out n out′ k) e r) p
+    turned : {left : List Pt} → toCome i j ≡ corner ∷ left → Reached whole left out n out″ (k + 1)
+    turned {left} e = reached-more left (subst (λ l. Reached whole l out n out′ k) e r) p
 
     pub turn-less : angleCmp (edgeAt (pointsIn a) i) (edgeAt (pointsIn b) j) ≡ Less → Reached whole (toCome (i + 1) j) out n out″ (k + 1)
-    turn-less e = turned (toCome (i + 1) j) (come-less e)
+    turn-less e = turned (come-less e)
 
     pub turn-greater : angleCmp (edgeAt (pointsIn a) i) (edgeAt (pointsIn b) j) ≡ Greater → Reached whole (toCome i (j + 1)) out n out″ (k + 1)
-    turn-greater e = turned (toCome i (j + 1)) (come-greater e)
+    turn-greater e = turned (come-greater e)
 
     pub turn-both : angleCmp (edgeAt (pointsIn a) i) (edgeAt (pointsIn b) j) ≡ Equal → secondNext (edgesAlong (drop (i + 1) (pointsIn a))) (edgeAt (pointsIn b) j) ≡ true → Reached whole (toCome (i + 1) (j + 1)) out n out″ (k + 1)
-    turn-both e h = turned (toCome (i + 1) (j + 1)) (come-both e h)
+    turn-both e h = turned (come-both e h)
 
     pub turn-first : angleCmp (edgeAt (pointsIn a) i) (edgeAt (pointsIn b) j) ≡ Equal → secondNext (edgesAlong (drop (i + 1) (pointsIn a))) (edgeAt (pointsIn b) j) ≡ false → Reached whole (toCome (i + 1) j) out n out″ (k + 1)
-    turn-first e h = turned (toCome (i + 1) j) (come-first e h)
+    turn-first e h = turned (come-first e h)
 
 -- both lists have an edge fewer
-pub both-fall : (n m i j : ℕ) → i < n → j < m → (n - (i + 1)) + (m - (j + 1)) < (n - i) + (m - j)
-both-fall n m i j h k = omega arith
+pub both-fall : {n m i j : ℕ} → i < n → j < m → (n - (i + 1)) + (m - (j + 1)) < (n - i) + (m - j)
+both-fall h k = omega arith
 
 -- ---- the rest of one list, at a point of the other
 

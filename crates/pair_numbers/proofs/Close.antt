@@ -35,16 +35,16 @@ use Rattle.pair_numbers.specs.Numbers.{NumberedTo, Keyed}
 -- ---- edges within bounds
 
 -- a difference is no wider than the bounds
-span : (l h p q : ℤ) → l ≤ℤ p → p ≤ℤ h → l ≤ℤ q → q ≤ℤ h → natAbs (p -ℤ q) ≤ natAbs (h -ℤ l)
-span l h p q a b c d = omega (zarith, sub-parts p q, sub-parts h l, abs-parts (p -ℤ q), abs-parts (h -ℤ l))
+span : {l h p q : ℤ} → l ≤ℤ p → p ≤ℤ h → l ≤ℤ q → q ≤ℤ h → natAbs (p -ℤ q) ≤ natAbs (h -ℤ l)
+span {l} {h} {p} {q} a b c d = omega (zarith, sub-parts p q, sub-parts h l, abs-parts (p -ℤ q), abs-parts (h -ℤ l))
 
-wide : (l h : ℤ) → l ≤ℤ h → pos (natAbs (h -ℤ l)) ≤ℤ (h -ℤ l)
-wide l h e = omega (zarith, sub-parts h l, abs-parts (h -ℤ l))
+wide : {l h : ℤ} → l ≤ℤ h → pos (natAbs (h -ℤ l)) ≤ℤ (h -ℤ l)
+wide {l} {h} e = omega (zarith, sub-parts h l, abs-parts (h -ℤ l))
 
 -- bounds in range after they were added
-widths : (l h m k : ℤ) → l ≤ℤ h → m ≤ℤ k → Coordinate (l +ℤ m) → Coordinate (h +ℤ k) → natAbs (h -ℤ l) + natAbs (k -ℤ m) < 2147483648
-widths l h m k a b c d =
-    omega (zarith, wide l h a, wide m k b, sub-parts h l, sub-parts k m, add-parts l m, add-parts h k, abs-parts (l +ℤ m), abs-parts (h +ℤ k), c .abs, d .abs)
+widths : {l h m k : ℤ} → l ≤ℤ h → m ≤ℤ k → Coordinate (l +ℤ m) → Coordinate (h +ℤ k) → natAbs (h -ℤ l) + natAbs (k -ℤ m) < 2147483648
+widths {l} {h} {m} {k} a b c d =
+    omega (zarith, wide a, wide b, sub-parts h l, sub-parts k m, add-parts l m, add-parts h k, abs-parts (l +ℤ m), abs-parts (h +ℤ k), c .abs, d .abs)
 
 -- bounds that are not turned over
 record Upright (b : IntRect) : Type 0 where
@@ -82,22 +82,22 @@ module _ (b c : IntRect) (ub : Upright b) (uc : Upright c) (s : Ranges (sumBound
   width-y d = natAbs (d .«max_y» -ℤ d .«min_y»)
 
   across-x : width-x b + width-x c < 2147483648
-  across-x = widths (b .«min_x») (b .«max_x») (c .«min_x») (c .«max_x») (ub .across) (uc .across) (s .least-x) (s .greatest-x)
+  across-x = widths (ub .across) (uc .across) (s .least-x) (s .greatest-x)
 
   across-y : width-y b + width-y c < 2147483648
-  across-y = widths (b .«min_y») (b .«max_y») (c .«min_y») (c .«max_y») (ub .along) (uc .along) (s .least-y) (s .greatest-y)
+  across-y = widths (ub .along) (uc .along) (s .least-y) (s .greatest-y)
 
   edge-x : (d : IntRect) (a : List Pt) → All (InBounds d) a → (n : ℕ) → n + 1 < length a → natAbs (edgeAt a n .x) ≤ width-x d
   edge-x d a k n h =
       let u = all-getD (InBounds d) a O k (n + 1) h in
       let v = all-getD (InBounds d) a O k n (omega arith) in
-      span (d .«min_x») (d .«max_x») (nthPoint a (n + 1) .x) (nthPoint a n .x) (u .left) (u .right) (v .left) (v .right)
+      span (u .left) (u .right) (v .left) (v .right)
 
   edge-y : (d : IntRect) (a : List Pt) → All (InBounds d) a → (n : ℕ) → n + 1 < length a → natAbs (edgeAt a n .y) ≤ width-y d
   edge-y d a k n h =
       let u = all-getD (InBounds d) a O k (n + 1) h in
       let v = all-getD (InBounds d) a O k n (omega arith) in
-      span (d .«min_y») (d .«max_y») (nthPoint a (n + 1) .y) (nthPoint a n .y) (u .low) (u .high) (v .low) (v .high)
+      span (u .low) (u .high) (v .low) (v .high)
 
   close-within : Close p q
   close-within = record {
@@ -158,15 +158,15 @@ module _
       all : length ws ≡ left + right
       all = sym (w .gathered .parts)
 
-      left-at : (p : ℕ) → p < left → getD (map (unrolled false) (operandParts l)) p [] ≡ walkIn firsts points (left + right) p
-      left-at p h = ap (λ a. getD a p []) (sym lefts) ∙ getD-take left ws p [] h
+      left-at : {p : ℕ} → p < left → getD (map (unrolled false) (operandParts l)) p [] ≡ walkIn firsts points (left + right) p
+      left-at {p} h = ap (λ a. getD a p []) (sym lefts) ∙ getD-take left ws p [] h
 
       right-at : (q : ℕ) → getD (map (unrolled reflected) (operandParts r)) q [] ≡ walkIn firsts points (left + right) (left + q)
       right-at q = ap (λ a. getD a q []) (sym rights) ∙ getD-drop left ws q []
 
       close : (p q : ℕ) → p < left → q < right → Close (walkIn firsts points (left + right) p) (walkIn firsts points (left + right) (left + q))
       close p q h k =
-          subst₂ Close (left-at p h) (right-at q)
+          subst₂ Close (left-at h) (right-at q)
           (walks-close u p q
           (omega (arith, h, all, ap length lefts, length-take left ws))
           (omega (arith, k, all, ap length rights, length-drop left ws)))

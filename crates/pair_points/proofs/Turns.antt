@@ -30,15 +30,15 @@ use Rattle.pair_points.proofs.Merged.{as-off}
 
 -- ---- a list without its first points
 
-pub turning-tail : (p : Pt) (a : List Pt) → Turning (p ∷ a) → Turning a
+pub turning-tail : {p : Pt} (a : List Pt) → Turning (p ∷ a) → Turning a
 unfolding edgesAlong
-turning-tail p [] t = record { nonzero = tt; apart = tt }
-turning-tail p (q ∷ a) t = record { nonzero = t .nonzero .1; apart = t .apart .1 }
+turning-tail [] t = record { nonzero = tt; apart = tt }
+turning-tail (q ∷ a) t = record { nonzero = t .nonzero .1; apart = t .apart .1 }
 
 pub turning-drop : (n : ℕ) {a : List Pt} → Turning a → Turning (drop n a)
 turning-drop zero t = t
 turning-drop (suc n) {a = []} t = t
-turning-drop (suc n) {a = p ∷ a} t = turning-drop n (turning-tail p a t)
+turning-drop (suc n) {a = p ∷ a} t = turning-drop n (turning-tail a t)
 
 -- ---- the join of two lists of edges, by their first ones
 
@@ -129,10 +129,10 @@ nil-join {f} l o = grouped-cons f l ∙ runs-off f f l o
 
 -- a corner, and the merge goes on from where the edge g leads to
 merged-turn :
-    (p q r s g : Pt) (A B R S : List Pt) → join (edgesAlong (p ∷ A)) (edgesAlong (q ∷ B)) ≡ g ∷ join (edgesAlong (r ∷ R)) (edgesAlong (s ∷ S)) →
+    (p q r s : Pt) {g : Pt} (A B R S : List Pt) → join (edgesAlong (p ∷ A)) (edgesAlong (q ∷ B)) ≡ g ∷ join (edgesAlong (r ∷ R)) (edgesAlong (s ∷ S)) →
     (p +ᵖ q) +ᵖ g ≡ r +ᵖ s → mergedOf (p ∷ A) (q ∷ B) ≡ (p +ᵖ q) ∷ mergedOf (r ∷ R) (s ∷ S)
 unfolding mergedOf
-merged-turn p q r s g A B R S e h =
+merged-turn p q r s {g} A B R S e h =
     ap (cornersFrom (p +ᵖ q)) e ∙ from-cons ∙ ap (λ c. (p +ᵖ q) ∷ cornersFrom c (join (edgesAlong (r ∷ R)) (edgesAlong (s ∷ S)))) h
   where
     from-cons : cornersFrom (p +ᵖ q) (g ∷ join (edgesAlong (r ∷ R)) (edgesAlong (s ∷ S))) ≡ (p +ᵖ q) ∷ cornersFrom ((p +ᵖ q) +ᵖ g) (join (edgesAlong (r ∷ R)) (edgesAlong (s ∷ S)))
@@ -152,25 +152,25 @@ module _ (p r q s : Pt) (A B : List Pt) (t : Turning (p ∷ r ∷ A)) (u : Turni
   merged-less : Lt (r -ᵖ p) (s -ᵖ q) → mergedOf (p ∷ r ∷ A) (q ∷ s ∷ B) ≡ (p +ᵖ q) ∷ mergedOf (r ∷ A) (q ∷ s ∷ B)
   unfolding edgesAlong
   merged-less h =
-      merged-turn p q r q (r -ᵖ p) (r ∷ A) (s ∷ B) A (s ∷ B)
+      merged-turn p q r q (r ∷ A) (s ∷ B) A (s ∷ B)
       (join-less (r -ᵖ p) (s -ᵖ q) (edgesAlong (r ∷ A)) (edgesAlong (s ∷ B)) (t .nonzero) (u .nonzero) (t .apart .0) (u .apart .0) h) (first-leads p q r)
 
   merged-greater : Lt (s -ᵖ q) (r -ᵖ p) → mergedOf (p ∷ r ∷ A) (q ∷ s ∷ B) ≡ (p +ᵖ q) ∷ mergedOf (p ∷ r ∷ A) (s ∷ B)
   unfolding edgesAlong
   merged-greater h =
-      merged-turn p q p s (s -ᵖ q) (r ∷ A) (s ∷ B) (r ∷ A) B
+      merged-turn p q p s (r ∷ A) (s ∷ B) (r ∷ A) B
       (join-greater (r -ᵖ p) (s -ᵖ q) (edgesAlong (r ∷ A)) (edgesAlong (s ∷ B)) (t .nonzero) (u .nonzero) (t .apart .0) (u .apart .0) h) (second-leads p q s)
 
   merged-both : Same (r -ᵖ p) (s -ᵖ q) → secondNext (edgesAlong (r ∷ A)) (s -ᵖ q) ≡ true → mergedOf (p ∷ r ∷ A) (q ∷ s ∷ B) ≡ (p +ᵖ q) ∷ mergedOf (r ∷ A) (s ∷ B)
   unfolding edgesAlong
   merged-both h k =
-      merged-turn p q r s ((r -ᵖ p) +ᵖ (s -ᵖ q)) (r ∷ A) (s ∷ B) A B
+      merged-turn p q r s (r ∷ A) (s ∷ B) A B
       (join-both (r -ᵖ p) (s -ᵖ q) (edgesAlong (r ∷ A)) (edgesAlong (s ∷ B)) (t .nonzero) (u .nonzero) (t .apart .0) (u .apart .0) h k) (both-lead p q r s)
 
   merged-first : Same (r -ᵖ p) (s -ᵖ q) → secondNext (edgesAlong (r ∷ A)) (s -ᵖ q) ≡ false → mergedOf (p ∷ r ∷ A) (q ∷ s ∷ B) ≡ (p +ᵖ q) ∷ mergedOf (r ∷ A) (q ∷ s ∷ B)
   unfolding edgesAlong
   merged-first h k =
-      merged-turn p q r q (r -ᵖ p) (r ∷ A) (s ∷ B) A (s ∷ B)
+      merged-turn p q r q (r ∷ A) (s ∷ B) A (s ∷ B)
       (join-first (r -ᵖ p) (s -ᵖ q) (edgesAlong (r ∷ A)) (edgesAlong (s ∷ B)) (t .nonzero) (u .nonzero) (t .apart .0) (u .apart .0) h k) (first-leads p q r)
 
 -- one point against a list: its points but the last, moved
@@ -179,16 +179,16 @@ unfolding edgesAlong restOf
 rest-first q [] t = unfold mergedOf in refl
 rest-first q (p ∷ []) t = unfold mergedOf join stepped grouped cornersFrom in refl
 rest-first q (p ∷ r ∷ a) t =
-    merged-turn p q r q (r -ᵖ p) (r ∷ a) [] a [] (join-nil (edgesAlong (r ∷ a)) (t .nonzero .1) (t .apart .0)) (first-leads p q r)
-    ∙ ap (λ l. (p +ᵖ q) ∷ l) (rest-first q (r ∷ a) (turning-tail p (r ∷ a) t))
+    merged-turn p q r q (r ∷ a) [] a [] (join-nil (edgesAlong (r ∷ a)) (t .nonzero .1) (t .apart .0)) (first-leads p q r)
+    ∙ ap (λ l. (p +ᵖ q) ∷ l) (rest-first q (r ∷ a) (turning-tail (r ∷ a) t))
 
 rest-second : (p : Pt) (b : List Pt) → Turning b → mergedOf (p ∷ []) b ≡ restOf p b
 unfolding edgesAlong restOf
 rest-second p [] t = unfold mergedOf in refl
 rest-second p (q ∷ []) t = unfold mergedOf join stepped grouped cornersFrom in refl
 rest-second p (q ∷ s ∷ b) t =
-    merged-turn p q p s (s -ᵖ q) [] (s ∷ b) [] b (nil-join (edgesAlong (s ∷ b)) (t .apart .0)) (second-leads p q s)
-    ∙ ap₂ _∷_ (+ᵖ-comm p q) (rest-second p (s ∷ b) (turning-tail q (s ∷ b) t))
+    merged-turn p q p s [] (s ∷ b) [] b (nil-join (edgesAlong (s ∷ b)) (t .apart .0)) (second-leads p q s)
+    ∙ ap₂ _∷_ (+ᵖ-comm p q) (rest-second p (s ∷ b) (turning-tail (s ∷ b) t))
 
 -- ---- by index
 
@@ -197,12 +197,12 @@ two-ind :
     (a : List Pt) (i : ℕ) (Q : List Pt → List Pt → Type 0) → i + 1 < length a →
     Q (nthPoint a i ∷ nthPoint a (i + 1) ∷ drop (i + 1 + 1) a) (nthPoint a (i + 1) ∷ drop (i + 1 + 1) a) → Q (drop i a) (drop (i + 1) a)
 two-ind a i Q h =
-    let one : drop (i + 1) a ≡ nthPoint a (i + 1) ∷ drop (i + 1 + 1) a = drop-at a (i + 1) h in
-    let two : drop i a ≡ nthPoint a i ∷ nthPoint a (i + 1) ∷ drop (i + 1 + 1) a = drop-at a i (omega arith) ∙ ap (λ r. nthPoint a i ∷ r) one in
+    let one : drop (i + 1) a ≡ nthPoint a (i + 1) ∷ drop (i + 1 + 1) a = drop-at a h in
+    let two : drop i a ≡ nthPoint a i ∷ nthPoint a (i + 1) ∷ drop (i + 1 + 1) a = drop-at a {i = i} (omega arith) ∙ ap (λ r. nthPoint a i ∷ r) one in
     subst₂ Q (sym two) (sym one)
   where
-    drop-at : (a : List Pt) (i : ℕ) → i < length a → drop i a ≡ nthPoint a i ∷ drop (i + 1) a
-    drop-at a i h = rw (add-one) (drop-cons a i O h)
+    drop-at : (a : List Pt) {i : ℕ} → i < length a → drop i a ≡ nthPoint a i ∷ drop (i + 1) a
+    drop-at a {i} h = rw (add-one) (drop-cons a i O h)
 
 module _ (a b : List Pt) (i j : ℕ) (t : Turning a) (u : Turning b) (hi : i + 1 < length a) (hj : j + 1 < length b) where
   abbrev here : List Pt → List Pt → List Pt

@@ -127,7 +127,7 @@ module _ (r : Pt) (from : ℕ) (points : List (List ℤ)) (count : ℕ) (w : Add
             (appended-more
             (subst (Appended (take (suc n) new) points₀ from points) before (appended-fewer a (omega (arith, w .room)) (suc n) (omega (arith, size a (q .0)))))
             (subst (λ b. Appended (r ∷ []) points (count - 1) b count) (sym g)
-            (subst (Appended (r ∷ []) points (count - 1) (set points (count - 1) (pairOf r))) after (appended-one points (count - 1) r (omega (arith, w .room))))))
+            (subst (Appended (r ∷ []) points (count - 1) (set points (count - 1) (pairOf r))) after (appended-one points r (omega (arith, w .room))))))
 
     pub added-turning : {points′ : List (List ℤ)} → s ≡ false → points′ ≡ set points count (pairOf r) → PointAdded r from points count points′ (count + 1)
     added-turning {points′} n g = record { added = turning }
@@ -144,4 +144,4 @@ module _ (r : Pt) (from : ℕ) (points : List (List ℤ)) (count : ℕ) (w : Add
         turning : (points₀ : List (List ℤ)) (new : List Pt) → Appended new points₀ from points count → Appended (withPoint new r) points₀ from points′ (count + 1)
         turning points₀ new a =
             subst (λ l. Appended l points₀ from points′ (count + 1)) (sym (kept a))
-            (appended-more a (subst (λ b. Appended (r ∷ []) points count b (count + 1)) (sym g) (appended-one points count r (w .room))))
+            (appended-more a (subst (λ b. Appended (r ∷ []) points count b (count + 1)) (sym g) (appended-one points r (w .room))))

@@ -116,7 +116,7 @@ ranged-at : (l : List ℤ) → offRange l ≡ false → (w : Place) → misplace
 unfolding pointOf
 ranged-at l h w m =
     let i = w .index in
-    turned-ranged (w .reflected) (on-grid-both (cornerAt (pointsOf l) i) (not-false _ (off-nowhere l i h (index-inside (length (pointsOf l)) w m))))
+    turned-ranged (w .reflected) (on-grid-both (cornerAt (pointsOf l) i) (not-false _ (off-nowhere l h (index-inside (length (pointsOf l)) w m))))
 
 pub unrolled-ranged : (reflected : Bool) (l : List ℤ) → offRange l ≡ false → All Ranged (unrolled reflected (pointsOf l))
 unrolled-ranged reflected l h = at (pointsOf l) (ranged-at l h)

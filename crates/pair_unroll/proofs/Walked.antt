@@ -106,7 +106,7 @@ module _ (l : List Pt) (v : Place) (from : ℕ) where
       record {
         taken = taken-start l v m;
         appended = subst (λ r. Appended (r ∷ []) points₁ from points₁ (from + 1)) (q .0)
-            (onto (sym (s .0), sym (s .1)) (subst (λ b. Appended (point p ∷ []) points₀ from b (from + 1)) (sym e) (appended-one points₀ from (point p) h)));
+            (onto (sym (s .0), sym (s .1)) (subst (λ b. Appended (point p ∷ []) points₀ from b (from + 1)) (sym e) (appended-one points₀ (point p) h)));
         ranged = (on-grid-ranged (q .0) (q .1), tt);
       }
 

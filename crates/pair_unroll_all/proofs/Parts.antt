@@ -39,9 +39,9 @@ even-short : (l : List ℤ) (n : ℕ) → length l ≡ 2 * n → n ≤ maxContou
 unfolding lengthBroken
 even-short l n e h = rw (eq-eqb (length l % 2) 0 (omega arith), le-ltb maxContour (length l / 2) (omega arith))
 
-pub part-short : (starts : List ℕ) (corners : List ℤ) (k : ℕ) → tableBroken starts corners ≡ false → k < partCount starts → lengthBroken (partNumbers starts corners k) ≡ false
+pub part-short : (starts : List ℕ) (corners : List ℤ) {k : ℕ} → tableBroken starts corners ≡ false → k < partCount starts → lengthBroken (partNumbers starts corners k) ≡ false
 unfolding partNumbers
-part-short s c k e h =
+part-short s c {k} e h =
     let t = sound s c e in
     let a = getD s k 0 in
     let b = getD s (suc k) 0 in
@@ -51,9 +51,9 @@ part-short s c k e h =
 
 pub part-unrollable : {starts : List ℕ} {corners : List ℤ} {p : ℕ} {points : List (List ℤ)} {from : ℕ} → PartAt starts corners p points from → Unrollable (partNumbers starts corners p) points from
 part-unrollable {starts} {corners} {p} {points} {from} a = record {
-  short = part-short starts corners p (a .whole) (a .inside);
+  short = part-short starts corners (a .whole) (a .inside);
   ranged = part-ranged starts corners p (a .ranged);
-  room = omega (arith, a .room, ap length (part-is starts corners p (a .inside)));
+  room = omega (arith, a .room, ap length (part-is starts corners (a .inside)));
 }
 
 -- of the numbers as the code takes them
@@ -82,26 +82,26 @@ module _ (reflected : Bool) (ps : List (List Pt)) (done : ℕ) where
   }
 
   -- the part at hand and those after it
-  rest-at : (p : ℕ) → p < length ps → length (flatten (drop p ps)) ≡ length (getD ps p []) + length (flatten (drop (suc p) ps))
+  rest-at : {p : ℕ} → p < length ps → length (flatten (drop p ps)) ≡ length (getD ps p []) + length (flatten (drop (suc p) ps))
   unfolding flatten
-  rest-at p h = ap (λ l. length (flatten l)) (drop-cons ps p [] h) ∙ length-append (getD ps p []) (flatten (drop (suc p) ps))
+  rest-at {p} h = ap (λ l. length (flatten l)) (drop-cons ps p [] h) ∙ length-append (getD ps p []) (flatten (drop (suc p) ps))
 
-  leaves-at : (p : ℕ) → p < length ps → someWindingLeaves reflected (drop p ps) ≡ cond (windingLeaves reflected (getD ps p [])) true (someWindingLeaves reflected (drop (suc p) ps))
+  leaves-at : {p : ℕ} → p < length ps → someWindingLeaves reflected (drop p ps) ≡ cond (windingLeaves reflected (getD ps p [])) true (someWindingLeaves reflected (drop (suc p) ps))
   unfolding someWindingLeaves
-  leaves-at p h = ap (someWindingLeaves reflected) (drop-cons ps p [] h)
+  leaves-at {p} h = ap (someWindingLeaves reflected) (drop-cons ps p [] h)
 
   module _ {points₀ : List (List ℤ)} {firsts₀ : List ℕ} {points : List (List ℤ)} {firsts : List ℕ} {count p : ℕ} (k : Unrolling reflected ps done points₀ firsts₀ points firsts count p) where
     -- there is room for the part at hand, in less than n places
-    pub unrolling-room : (n : ℕ) → p < length ps → getD firsts₀ done 0 + length (flatten ps) + length ps ≤ n → count + length (getD ps p []) < n
-    unrolling-room n h g = omega (arith, k .few, rest-at p h)
+    pub unrolling-room : {n : ℕ} → p < length ps → getD firsts₀ done 0 + length (flatten ps) + length ps ≤ n → count + length (getD ps p []) < n
+    unrolling-room h g = omega (arith, k .few, rest-at h)
 
     pub unrolling-leaves : p < length ps → windingLeaves reflected (getD ps p []) ≡ true → true ≡ someWindingLeaves reflected ps
-    unrolling-leaves h t = sym (k .told ∙ leaves-at p h ∙ rw t)
+    unrolling-leaves h t = sym (k .told ∙ leaves-at h ∙ rw t)
 
     module _ {points′ : List (List ℤ)} {n : ℕ} (h : p < length ps) (a : UnrolledTo reflected (getD ps p []) points count points′ n) where
       -- a point more than corners, a part
       pub unrolling-count : n + length (flatten (drop (suc p) ps)) ≤ getD firsts₀ done 0 + length (flatten ps) + suc p
-      unrolling-count = omega (arith, k .few, rest-at p h, a .appended .count, length-unrolled reflected (getD ps p []))
+      unrolling-count = omega (arith, k .few, rest-at h, a .appended .count, length-unrolled reflected (getD ps p []))
 
       pub unrolling-turn : {firsts′ : List ℕ} → done + (p + 1) < length firsts → firsts′ ≡ set firsts (done + (p + 1)) n → Unrolling reflected ps done points₀ firsts₀ points′ firsts′ n (p + 1)
       unrolling-turn {firsts′} room e =
@@ -110,7 +110,7 @@ module _ (reflected : Bool) (ps : List (List Pt)) (done : ℕ) where
           record {
             within = omega arith;
             few = omega (arith, unrolling-count, ap (λ m. length (flatten (drop m ps))) s);
-            told = k .told ∙ leaves-at p h ∙ rw (a .stays) (ap (λ m. someWindingLeaves reflected (drop m ps)) s);
+            told = k .told ∙ leaves-at h ∙ rw (a .stays) (ap (λ m. someWindingLeaves reflected (drop m ps)) s);
             appended =
                 subst (λ m. PartsAppended (unrolledParts reflected (take (p + 1) ps)) firsts₀ points₀ (tallyAt firsts₀ done) firsts′ points′ (record { parts = m; corners = n })) (sym z)
                 (subst (λ qs. PartsAppended qs firsts₀ points₀ (tallyAt firsts₀ done) firsts′ points′ (record { parts = done + p + 1; corners = n })) (sym more)
@@ -149,7 +149,7 @@ some-leaves e = record { told = e; appended = λ t. differ (sym t) }
 -- ---- every point of every part is in range
 
 every-part : (reflected : Bool) (starts : List ℕ) (corners : List ℤ) → offRange corners ≡ false → (k : ℕ) → k < partCount starts → All Ranged (unrolled reflected (getD (tableParts starts corners) k []))
-every-part reflected starts corners h k l = subst (λ m. All Ranged (unrolled reflected m)) (part-is starts corners k l) (unrolled-ranged reflected (partNumbers starts corners k) (part-ranged starts corners k h))
+every-part reflected starts corners h k l = subst (λ m. All Ranged (unrolled reflected m)) (part-is starts corners l) (unrolled-ranged reflected (partNumbers starts corners k) (part-ranged starts corners k h))
 
 pub parts-ranged : (reflected : Bool) (starts : List ℕ) (corners : List ℤ) → tableBroken starts corners ≡ false → offRange corners ≡ false → All (All Ranged) (unrolledParts reflected (tableParts starts corners))
 parts-ranged reflected starts corners e h =

@@ -24,8 +24,8 @@ walks-enough {firsts} {points} {n} w = enough-starts firsts points (record { par
 -- ---- each operand's
 
 module _ (firsts : List ℕ) (points : List (List ℤ)) (left right : ℕ) where
-  pub left-walk : (p : ℕ) → p < left → getD (leftsIn firsts points left right) p [] ≡ walkIn firsts points (left + right) p
-  left-walk p h = getD-take left (walksIn firsts points (left + right)) p [] h
+  pub left-walk : {p : ℕ} → p < left → getD (leftsIn firsts points left right) p [] ≡ walkIn firsts points (left + right) p
+  left-walk {p} h = getD-take left (walksIn firsts points (left + right)) p [] h
 
   pub right-walk : (q : ℕ) → getD (rightsIn firsts points left right) q [] ≡ walkIn firsts points (left + right) (left + q)
   right-walk q = getD-drop left (walksIn firsts points (left + right)) q []

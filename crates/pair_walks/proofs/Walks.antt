@@ -46,7 +46,7 @@ module _ (firsts : List ℕ) (points : List (List ℤ)) (n q : ℕ) (w : Walks f
   firsts-enough = omega (arith, h, enough-starts firsts points (record { parts = n; corners = getD firsts n 0 }) ws (w .gathered))
 
   pub walk-placed : PartPlaced firsts points q (getD (walksIn firsts points n) q [])
-  walk-placed = part-placed firsts points (record { parts = n; corners = getD firsts n 0 }) ws (w .gathered) q walk-inside
+  walk-placed = part-placed firsts points (record { parts = n; corners = getD firsts n 0 }) ws (w .gathered) walk-inside
 
   pub walk-short : length (getD (walksIn firsts points n) q []) ≤ (maxContour + 1)
   walk-short = all-getD (λ w. length w ≤ (maxContour + 1)) (walksIn firsts points n) [] (w .short) q walk-inside

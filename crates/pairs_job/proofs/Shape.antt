@@ -81,11 +81,11 @@ module _ (bytes : List ℕ) where
   pub shaped : shapeFault bytes ≡ 0 → Shaped
   unfolding shapeFault
   shaped e =
-      let a = first-none 13 (ltb (length bytes) 4) _ (omega arith) e in
-      let b = first-none 13 (ltb 1 (operation bytes)) _ (omega arith) (a .1) in
-      let c = first-none 7 (jobLengthBroken bytes) _ (omega arith) (b .1) in
-      let d = first-none 7 (countsBroken bytes 5) _ (omega arith) (c .1) in
-      let f = first-none 7 (countsBroken bytes (rightPlace bytes)) _ (omega arith) (d .1) in
+      let a = first-none (ltb (length bytes) 4) _ (omega arith) e in
+      let b = first-none (ltb 1 (operation bytes)) _ (omega arith) (a .1) in
+      let c = first-none (jobLengthBroken bytes) _ (omega arith) (b .1) in
+      let d = first-none (countsBroken bytes 5) _ (omega arith) (c .1) in
+      let f = first-none (countsBroken bytes (rightPlace bytes)) _ (omega arith) (d .1) in
       let x = either-false (ltb maxParts (wordAt bytes 5)) _ (d .0) in
       let y = either-false (ltb maxParts (wordAt bytes (rightPlace bytes))) _ (f .0) in
       record {

@@ -55,10 +55,10 @@ module _ (firsts : List ℕ) (points : List (List ℤ)) (numbers : List ℕ) (le
         let e : k ≡ k / right * length rs + k % right = sym (ap (λ r. k / right * r + k % right) n ∙ div-add-mod' k right) in
         ap (λ i. getD (contoursIn firsts points left right) i []) e
         ∙ pairs-at mergedOf rs ls (k / right) (k % right) [] [] [] (omega (arith, p-inside, m)) (omega (arith, q-inside, n))
-        ∙ ap₂ mergedOf (left-walk firsts points left right (k / right) p-inside) (right-walk firsts points left right (k % right))
+        ∙ ap₂ mergedOf (left-walk firsts points left right p-inside) (right-walk firsts points left right (k % right))
 
-    pub merging : (work : List ℤ) → 4 * maxContour ≤ length work → Merging firsts points numbers left right (k / right) (k % right) work
-    merging work room = record {
+    pub merging : {work : List ℤ} → 4 * maxContour ≤ length work → Merging firsts points numbers left right (k / right) (k % right) work
+    merging room = record {
       keyed = w .keyed;
       p-inside = p-inside;
       q-inside = q-inside;

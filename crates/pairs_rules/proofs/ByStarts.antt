@@ -23,9 +23,9 @@ within bytes k e =
     let f = either-false (ltb maxParts (wordAt bytes k)) _ e in
     (ltb-false maxParts _ (f .0), ltb-false maxCorners _ (f .1))
 
-pub rules : (s : List ℕ) (c : List ℤ) (n : ℕ) → length c ≡ 2 * n → partCount s ≤ maxParts → n ≤ maxCorners → startsBroken maxContour n s ≡ tableBroken s c
+pub rules : (s : List ℕ) (c : List ℤ) {n : ℕ} → length c ≡ 2 * n → partCount s ≤ maxParts → n ≤ maxCorners → startsBroken maxContour n s ≡ tableBroken s c
 unfolding tableBroken
-rules s c n e h k =
+rules s c {n} e h k =
     let half : length c / 2 ≡ n = omega arith in
     rw (eq-eqb (length c % 2) 0 (omega arith), half, le-ltb maxParts (partCount s) h, le-ltb maxCorners n k)
 
@@ -34,9 +34,9 @@ module _ (bytes : List ℕ) (k : ℕ) (h : 4 * (k + tableWords bytes k) ≤ leng
   by-starts d p =
       let w = within bytes k e in
       (λ i. startsBroken maxContour (d i) (p i))
-      ∙ rules (startsAt bytes k) (cornersAt bytes k) (wordAt bytes (k + 1)) (count-numbers bytes k h) (omega (arith, count-starts bytes k h, w .0)) (w .1)
+      ∙ rules (startsAt bytes k) (cornersAt bytes k) (count-numbers bytes k h) (omega (arith, count-starts bytes k h, w .0)) (w .1)
 
 -- ---- the front of a buffer that holds what was read
 
-pub front : {A : Type 0} (new old : List A) {buf : List A} {n : ℕ} → buf ≡ overlay new old → length new ≡ n → take n buf ≡ new
-front new old {buf} e h = ap (λ m. take m buf) (sym h) ∙ ap (take (length new)) e ∙ take-overlay new old
+pub front : {A : Type 0} {new : List A} (old : List A) {buf : List A} {n : ℕ} → buf ≡ overlay new old → length new ≡ n → take n buf ≡ new
+front {new} old {buf} e h = ap (λ m. take m buf) (sym h) ∙ ap (take (length new)) e ∙ take-overlay new old

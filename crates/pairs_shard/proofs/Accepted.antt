@@ -123,17 +123,17 @@ bounds-fewer b p q f e =
 
 pub fewer-kinds : (t : Bool) {l m : Operand} (r : Operand) → Fewer l m → firstFault (pairKinds t l r) ≡ 0 → firstFault (pairKinds t m r) ≡ 0
 fewer-kinds t {l} {m} r w h =
-    let h1 = first-none 7 _ _ (omega arith) h in
-    let h2 = first-none 7 _ _ (omega arith) (h1 .1) in
-    let h3 = first-none 2 _ _ (omega arith) (h2 .1) in
-    let h4 = first-none 2 _ _ (omega arith) (h3 .1) in
-    let h5 = first-none 9 _ _ (omega arith) (h4 .1) in
-    let h6 = first-none 9 _ _ (omega arith) (h5 .1) in
-    let h7 = first-none 8 _ _ (omega arith) (h6 .1) in
-    let h8 = first-none 8 _ _ (omega arith) (h7 .1) in
-    let h9 = first-none 10 _ _ (omega arith) (h8 .1) in
-    let h10 = first-none 20 _ _ (omega arith) (h9 .1) in
-    let h11 = first-none 20 _ _ (omega arith) (h10 .1) in
+    let h1 = first-none _ _ (omega arith) h in
+    let h2 = first-none _ _ (omega arith) (h1 .1) in
+    let h3 = first-none _ _ (omega arith) (h2 .1) in
+    let h4 = first-none _ _ (omega arith) (h3 .1) in
+    let h5 = first-none _ _ (omega arith) (h4 .1) in
+    let h6 = first-none _ _ (omega arith) (h5 .1) in
+    let h7 = first-none _ _ (omega arith) (h6 .1) in
+    let h8 = first-none _ _ (omega arith) (h7 .1) in
+    let h9 = first-none _ _ (omega arith) (h8 .1) in
+    let h10 = first-none _ _ (omega arith) (h9 .1) in
+    let h11 = first-none _ _ (omega arith) (h10 .1) in
     let o = off-parts (l .corners) (boundsList (l .bounds)) (h3 .0) in
     first-next 7 _ (w .table) ∙ first-next 7 _ (h2 .0)
     ∙ first-next 2 _ (off-append-in (m .corners) (boundsList (m .bounds)) (w .range (o .0)) ∙ ap (λ b. offRange (boundsList b)) (w .bounds) ∙ o .1) ∙ first-next 2 _ (h4 .0)
@@ -175,7 +175,7 @@ module _ (f e : ℕ) (bytes : List ℕ) (c : Cuts f e bytes) where
       let C = map signed (slice (cornerPlace bytes f) (cornerPlace bytes e) (wordsOf bytes)) in
       let m = length-map (slice (cornerPlace bytes f) (cornerPlace bytes e) (wordsOf bytes)) signed ∙ length-corners f e bytes c in
       (λ i. tableBroken (starts-read f e bytes c i) (corners-read f e bytes c i))
-      ∙ sym (rules T C (startAt bytes e - startAt bytes f) m (omega (arith, length-starts f e bytes c)) (omega arith)) ∙ starts-cut t
+      ∙ sym (rules T C {n = startAt bytes e - startAt bytes f} m (omega (arith, length-starts f e bytes c)) (omega arith)) ∙ starts-cut t
 
   fewer : tableBroken s₀ (cornersAt bytes 5) ≡ false → f < e → Fewer (leftOf bytes) (leftOf S)
   unfolding leftOf
@@ -218,7 +218,7 @@ module _ (f e : ℕ) (bytes : List ℕ) (c : Cuts f e bytes) where
       let k = known f e bytes c in
       let o = shape-passed bytes z in
       let t = ap (λ w. eqb w 1) (head-word f e bytes c 0 (omega arith)) in
-      let first = first-none 7 (tableBroken (leftOf bytes .starts) (leftOf bytes .corners)) _ (omega arith) (sym o ∙ j) in
+      let first = first-none (tableBroken (leftOf bytes .starts) (leftOf bytes .corners)) _ (omega arith) (sym o ∙ j) in
       to-operands S (le-ltb (length S) 4 (omega (arith, length-cut k))) (ap (ltb 1) (head-word f e bytes c 0 (omega arith)) ∙ le-ltb 1 (operation bytes) (s .known)) (sized-cut (s .right-length))
       ∙ (λ i. firstFault (pairKinds (t i) (leftOf S) (right-read f e bytes c i)))
       ∙ fewer-kinds (reflectedOf bytes) (rightOf bytes) (fewer (left-as bytes (first .0)) h) (sym o ∙ j)
@@ -233,16 +233,16 @@ shape-of bytes j =
 pub accepted-cut : AcceptedCut
 accepted-cut bytes j =
     let z = shape-of bytes j in
-    sym (none-refused bytes z (left-as bytes (first-none 7 (tableBroken (leftOf bytes .starts) (leftOf bytes .corners)) _ (omega arith) (sym (shape-passed bytes z) ∙ j) .0)))
+    sym (none-refused bytes z (left-as bytes (first-none (tableBroken (leftOf bytes .starts) (leftOf bytes .corners)) _ (omega arith) (sym (shape-passed bytes z) ∙ j) .0)))
 
 -- the first is below the last
-some-asked : (i j p : ℕ) → i < j → i < p → leastOf i (leastOf j p) < leastOf j p
-some-asked i j p h k =
+some-asked : {i j p : ℕ} → i < j → i < p → leastOf i (leastOf j p) < leastOf j p
+some-asked {i} {j} {p} h k =
     by-test (ltb p j)
-    (λ t. let e = least-right j p (ltb-true p j t) in omega (arith, e, least-left i (leastOf j p) (omega (arith, e))))
-    (λ t. let e = least-left j p (ltb-false p j t) in omega (arith, e, least-left i (leastOf j p) (omega (arith, e))))
+    (λ t. let e = least-right (ltb-true p j t) in omega (arith, e, least-left {a = i} {b = leastOf j p} (omega (arith, e))))
+    (λ t. let e = least-left (ltb-false p j t) in omega (arith, e, least-left {a = i} {b = leastOf j p} (omega (arith, e))))
 
 pub accepted-shards : AcceptedShards
 unfolding shardOf
 accepted-shards i j bytes h k m =
-    accepted-cut-at (firstPart i j bytes) (pastPart j bytes) bytes (asked i j bytes (accepted-cut bytes h)) h (shape-of bytes h) (some-asked i j (wordAt bytes 5) k m)
+    accepted-cut-at (firstPart i j bytes) (pastPart j bytes) bytes (asked i j (accepted-cut bytes h)) h (shape-of bytes h) (some-asked k m)

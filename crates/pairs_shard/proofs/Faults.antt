@@ -65,8 +65,8 @@ module _ (bytes : List ℕ) where
 -- ---- the answer
 
 -- as many bytes as were told can be lent on
-pub counted : (n : ℕ) (l : List ℕ) → n ≤ length l → Counts n l
-counted n l h = (h, sym (length-take-le n l h))
+pub counted : {n : ℕ} (l : List ℕ) → n ≤ length l → Counts n l
+counted {n} l h = (h, sym (length-take-le n l h))
 
 module _ (i j : ℕ) (bytes old : List ℕ) where
   pub refused-cut : {f : ℕ} → f ≡ shardFault bytes → (f ≡ 0 → ⊥) → (record { fault = f; size = 0 } ≡ cutOf i j bytes) × (old ≡ bytesCut i j bytes old)

@@ -19,17 +19,17 @@ use Rattle.pairs_shard.proofs.Faults.{cuttable}
 
 -- ---- the lesser of two numbers
 
-pub least-right : (a b : ℕ) → b < a → b ≡ leastOf a b
-least-right a b h = rw (lt-ltb b a h)
+pub least-right : {a b : ℕ} → b < a → b ≡ leastOf a b
+least-right {a} {b} h = rw (lt-ltb b a h)
 
-pub least-left : (a b : ℕ) → a ≤ b → a ≡ leastOf a b
-least-left a b h = rw (le-ltb b a h)
+pub least-left : {a b : ℕ} → a ≤ b → a ≡ leastOf a b
+least-left {a} {b} h = rw (le-ltb b a h)
 
 pub least-of : (a b : ℕ) → (leastOf a b ≤ a) × (leastOf a b ≤ b)
 least-of a b =
     by-test (ltb b a)
-    (λ t. let h = ltb-true b a t in let e = least-right a b h in (omega (arith, h, e), omega (arith, e)))
-    (λ t. let h = ltb-false b a t in let e = least-left a b h in (omega (arith, e), omega (arith, h, e)))
+    (λ t. let h = ltb-true b a t in let e = least-right h in (omega (arith, h, e), omega (arith, e)))
+    (λ t. let h = ltb-false b a t in let e = least-left h in (omega (arith, e), omega (arith, h, e)))
 
 -- ---- the left table's starts
 
@@ -65,8 +65,8 @@ module _ (f e : ℕ) (bytes : List ℕ) (c : Cuts f e bytes) where
       omega (arith, ascend (startsAt bytes 5) (table-sound .rises) d g (omega (arith, many)), start-word bytes g (omega arith), start-word bytes (g + d) h)
 
   -- no start is past the corner count
-  pub each-bounded : (k : ℕ) → k ≤ wordAt bytes 5 → startAt bytes k ≤ wordAt bytes 6
-  each-bounded k h =
+  pub each-bounded : {k : ℕ} → k ≤ wordAt bytes 5 → startAt bytes k ≤ wordAt bytes 6
+  each-bounded {k} h =
       let s = shaped bytes (cuttable bytes (c .fault) .shape) in
       omega (arith, table-sound .bounded k (omega (arith, many)), count-numbers bytes 5 (left-inside bytes (s .right-length)), start-word bytes k h)
 
@@ -83,7 +83,7 @@ module _ (f e : ℕ) (bytes : List ℕ) (c : Cuts f e bytes) where
         order = c .parts;
         past = c .past;
         rises = subst (λ k. startAt bytes f ≤ startAt bytes k) z (rising f (e - f) (omega (arith, c .parts, c .past)));
-        bounded = each-bounded e (c .past);
+        bounded = each-bounded (c .past);
       }
 
   -- no start is below the first
@@ -93,8 +93,8 @@ module _ (f e : ℕ) (bytes : List ℕ) (c : Cuts f e bytes) where
       omega (arith, q, rising f k (omega (arith, h, c .parts, c .past)), ap (wordAt bytes) z)
 
 -- the parts that are asked for
-pub asked : (i j : ℕ) (bytes : List ℕ) → shardFault bytes ≡ 0 → Cuts (firstPart i j bytes) (pastPart j bytes) bytes
-asked i j bytes z = record { fault = z; parts = least-of i (pastPart j bytes) .1; past = least-of j (wordAt bytes 5) .1 }
+pub asked : (i j : ℕ) {bytes : List ℕ} → shardFault bytes ≡ 0 → Cuts (firstPart i j bytes) (pastPart j bytes) bytes
+asked i j {bytes} z = record { fault = z; parts = least-of i (pastPart j bytes) .1; past = least-of j (wordAt bytes 5) .1 }
 
-pub asked-as : (i j : ℕ) (bytes : List ℕ) → shardFault bytes ≡ 0 → {f e : ℕ} → f ≡ firstPart i j bytes → e ≡ pastPart j bytes → Cuts f e bytes
-asked-as i j bytes z p q = let a = asked i j bytes z in rw (p, q) a
+pub asked-as : (i j : ℕ) {bytes : List ℕ} → shardFault bytes ≡ 0 → {f e : ℕ} → f ≡ firstPart i j bytes → e ≡ pastPart j bytes → Cuts f e bytes
+asked-as i j {bytes} z p q = let a = asked i j {bytes = bytes} z in rw (p, q) a

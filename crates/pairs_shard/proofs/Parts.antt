@@ -36,8 +36,8 @@ parts-take (suc m) (a ∷ b ∷ s) l = ap (λ r. slice a b l ∷ r) (parts-take 
 
 -- ---- a part of a part: from x up to y of what stands from a up to b
 
-slice-slice : {A : Type 0} (a b x y : ℕ) (l : List A) → a ≤ x → x ≤ y → y ≤ b → slice (x - a) (y - a) (slice a b l) ≡ slice x y l
-slice-slice a b x y l h k m =
+slice-slice : {A : Type 0} {a b x y : ℕ} (l : List A) → a ≤ x → x ≤ y → y ≤ b → slice (x - a) (y - a) (slice a b l) ≡ slice x y l
+slice-slice {a} {b} {x} {y} l h k m =
     let z : a + (x - a) ≡ x = omega arith in
     ap (drop (x - a)) (take-drop a y (take b l) (omega arith) ∙ ap (drop a) (take-take y b l m))
     ∙ drop-drop (x - a) a (take y l) ∙ ap (λ n. drop n (take y l)) z
@@ -50,15 +50,15 @@ Rise b [] = Unit {0}
 Rise b (x ∷ []) = x ≤ b
 Rise b (x ∷ y ∷ s) = (x ≤ y) × Rise b (y ∷ s)
 
-rise-bound : {b : ℕ} (x : ℕ) (s : List ℕ) → Rise b (x ∷ s) → x ≤ b
-rise-bound x [] r = r
-rise-bound x (y ∷ s) r = omega (arith, r .0, rise-bound y s (r .1))
+rise-bound : {b : ℕ} {x : ℕ} (s : List ℕ) → Rise b (x ∷ s) → x ≤ b
+rise-bound [] r = r
+rise-bound (y ∷ s) r = omega (arith, r .0, rise-bound {x = y} s (r .1))
 
 parts-less : (a b x : ℕ) (s : List ℕ) (l : List Pt) → a ≤ x → Rise b (x ∷ s) → partsOf (map (λ t. t - a) (x ∷ s)) (slice a b l) ≡ partsOf (x ∷ s) l
 unfolding partsOf
 parts-less a b x [] l h r = refl
 parts-less a b x (y ∷ s) l h r =
-    λ i. slice-slice a b x y l h (r .0) (rise-bound y s (r .1)) i ∷ parts-less a b y s l (omega (arith, h, r .0)) (r .1) i
+    λ i. slice-slice l h (r .0) (rise-bound s (r .1)) i ∷ parts-less a b y s l (omega (arith, h, r .0)) (r .1) i
 
 -- starts that rise, by their numbers
 pub rise-by : (b : ℕ) (s : List ℕ) → ((k : ℕ) → suc k < length s → getD s k 0 ≤ getD s (suc k) 0) → ((k : ℕ) → k < length s → getD s k 0 ≤ b) → Rise b s
@@ -102,18 +102,18 @@ clamped i j {p} l h = by refl
     -- no part: from e on
     none : {e : ℕ} → e < i → leastOf j p ≡ e → take (e - leastOf i e) (drop (leastOf i e) l) ≡ take (j - i) (drop i l)
     none {e} k q =
-        nothing (leastOf i e) (e - leastOf i e) (omega (arith, least-right i e k))
-        ∙ sym (by-test (ltb p j) (λ t. past (j - i) (omega (arith, k, q, least-right j p (ltb-true p j t)))) (λ t. nothing i (j - i) (omega (arith, k, q, least-left j p (ltb-false p j t)))))
+        nothing (leastOf i e) (e - leastOf i e) (omega (arith, least-right k))
+        ∙ sym (by-test (ltb p j) (λ t. past (j - i) (omega (arith, k, q, least-right (ltb-true p j t)))) (λ t. nothing i (j - i) (omega (arith, k, q, least-left (ltb-false p j t)))))
 
     -- some: up to e
     some : {e : ℕ} → i ≤ e → leastOf j p ≡ e → take (e - leastOf i e) (drop (leastOf i e) l) ≡ take (j - i) (drop i l)
     some {e} k q =
-        let z = least-left i e k in
+        let z = least-left k in
         (λ n. take (e - sym z n) (drop (sym z n) l))
         ∙ by-test (ltb p j)
-        (λ t. let w = least-right j p (ltb-true p j t) in
+        (λ t. let w = least-right (ltb-true p j t) in
         take-all (e - i) (drop i l) (omega (arith, q, w, h, length-drop i l)) ∙ sym (take-all (j - i) (drop i l) (omega (arith, h, length-drop i l, ltb-true p j t))))
-        (λ t. let w : e ≡ j = sym q ∙ sym (least-left j p (ltb-false p j t)) in ap (λ n. take (n - i) (drop i l)) w)
+        (λ t. let w : e ≡ j = sym q ∙ sym (least-left (ltb-false p j t)) in ap (λ n. take (n - i) (drop i l)) w)
 
     by : {e : ℕ} → leastOf j p ≡ e → take (leastOf j p - leastOf i (leastOf j p)) (drop (leastOf i (leastOf j p)) l) ≡ take (j - i) (drop i l)
     by {e} q = ap (λ n. take (n - leastOf i n) (drop (leastOf i n) l)) q ∙ by-test (ltb e i) (λ t. none (ltb-true e i t) q) (λ t. some (ltb-false e i t) q)

@@ -107,7 +107,7 @@ length-cut {f} {e} {bytes} k =
 pub shard-fits : (i j : ℕ) (bytes : List ℕ) → shardFault bytes ≡ 0 → length (shardOf i j bytes) ≤ 147516
 unfolding shardOf
 shard-fits i j bytes z =
-    let k = known (firstPart i j bytes) (pastPart j bytes) bytes (asked i j bytes z) in
+    let k = known (firstPart i j bytes) (pastPart j bytes) bytes (asked i j z) in
     omega (arith, length-cut k)
 
 shard-as : (i j : ℕ) (bytes : List ℕ) {f e : ℕ} → f ≡ firstPart i j bytes → e ≡ pastPart j bytes → shardBytes f e bytes ≡ shardOf i j bytes

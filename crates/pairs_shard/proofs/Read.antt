@@ -53,7 +53,7 @@ module _ (f e : ℕ) (bytes : List ℕ) (c : Cuts f e bytes) where
   pub head-word : (i : ℕ) → i < 5 → wordAt S i ≡ wordAt bytes i
   head-word i h =
       ap (λ w. getD w i 0) (shard-words f e bytes c)
-      ∙ laid-head H T C R x y (length-head f e bytes c) (length-starts f e bytes c) (length-corners f e bytes c) i h ∙ getD-take 5 W i 0 h
+      ∙ laid-head H T C R x y (length-head f e bytes c) (length-starts f e bytes c) (length-corners f e bytes c) h ∙ getD-take 5 W i 0 h
 
   pub parts-word : wordAt S 5 ≡ e - f
   parts-word =
@@ -149,7 +149,7 @@ module _ (f e : ℕ) (bytes : List ℕ) (c : Cuts f e bytes) where
 
 pub left-count : (bytes : List ℕ) → shardFault bytes ≡ 0 → length (tableParts (startsAt bytes 5) (cornersAt bytes 5)) ≡ wordAt bytes 5
 left-count bytes z =
-    let u = asked 0 0 bytes z in
+    let u = asked 0 0 {bytes = bytes} z in
     omega (arith, count-parts (startsAt bytes 5) (cornersAt bytes 5) (cuttable bytes z .rules), many _ _ bytes u)
 
 pub shard-operands : ShardOperands
@@ -157,7 +157,7 @@ unfolding shardOf leftOf
 shard-operands i j bytes z =
     let f = firstPart i j bytes in
     let e = pastPart j bytes in
-    let u = asked i j bytes z in
+    let u = asked i j {bytes = bytes} z in
     record {
       operation = ap (λ w. eqb w 1) (head-word f e bytes u 0 (omega arith));
       parts = parts-read f e bytes u ∙ clamped i j (tableParts (startsAt bytes 5) (cornersAt bytes 5)) (left-count bytes z);

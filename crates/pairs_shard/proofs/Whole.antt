@@ -24,8 +24,8 @@ use Rattle.pairs_shard.proofs.Read.{left-count, shard-operands}
 -- ---- some left parts, and those behind them
 
 -- up to k, and from k up to j
-pub two-parts : {A : Type 0} (i k j : ℕ) (l : List A) → i ≤ k → k ≤ j → take (k - i) (drop i l) ++ take (j - k) (drop k l) ≡ take (j - i) (drop i l)
-two-parts i k j l h m =
+pub two-parts : {A : Type 0} {i k j : ℕ} (l : List A) → i ≤ k → k ≤ j → take (k - i) (drop i l) ++ take (j - k) (drop k l) ≡ take (j - i) (drop i l)
+two-parts {i} {k} {j} l h m =
     let z : i + (k - i) ≡ k = omega arith in
     let w : j - i ≡ k - i + (j - k) = omega arith in
     ap (λ d. take (k - i) (drop i l) ++ take (j - k) d) (ap (λ n. drop n l) (sym z) ∙ sym (drop-drop (k - i) i l))
@@ -43,18 +43,18 @@ module _ (i j : ℕ) (bytes : List ℕ) (z : shardFault bytes ≡ 0) where
   lines-some : (m : ℕ) → linesFrom m (shardOf i j bytes) ≡ pairLinesFrom (reflectedOf bytes) m some (operandParts (rightOf bytes))
   lines-some m = let s = shard-operands i j bytes z in λ n. pairLinesFrom (s .operation n) m (s .parts n) (operandParts (s .right n))
 
-all-parts : (j : ℕ) (bytes : List ℕ) → shardFault bytes ≡ 0 → wordAt bytes 5 ≤ j → take (j - 0) (drop 0 (operandParts (leftOf bytes))) ≡ operandParts (leftOf bytes)
+all-parts : {j : ℕ} (bytes : List ℕ) → shardFault bytes ≡ 0 → wordAt bytes 5 ≤ j → take (j - 0) (drop 0 (operandParts (leftOf bytes))) ≡ operandParts (leftOf bytes)
 unfolding leftOf
-all-parts j bytes z h = take-all (j - 0) (operandParts (leftOf bytes)) (omega (arith, left-count bytes z))
+all-parts {j} bytes z h = take-all (j - 0) (operandParts (leftOf bytes)) (omega (arith, left-count bytes z))
 
 pub whole-contours : WholeContours
-whole-contours j bytes z h = contours-some 0 j bytes z ∙ ap (λ ls. pairsOf (reflectedOf bytes) ls (operandParts (rightOf bytes))) (all-parts j bytes z h)
+whole-contours j bytes z h = contours-some 0 j bytes z ∙ ap (λ ls. pairsOf (reflectedOf bytes) ls (operandParts (rightOf bytes))) (all-parts bytes z h)
 
 pub joined-contours : JoinedContours
 joined-contours i k j bytes z h m =
     (λ n. contours-some i k bytes z n ++ contours-some k j bytes z n)
     ∙ sym (pairs-shard (reflectedOf bytes) (some i k bytes z) (some k j bytes z) (operandParts (rightOf bytes)))
-    ∙ ap (λ ls. pairsOf (reflectedOf bytes) ls (operandParts (rightOf bytes))) (two-parts i k j (operandParts (leftOf bytes)) h m)
+    ∙ ap (λ ls. pairsOf (reflectedOf bytes) ls (operandParts (rightOf bytes))) (two-parts (operandParts (leftOf bytes)) h m)
     ∙ sym (contours-some i j bytes z)
 
 -- ---- lines
@@ -75,7 +75,7 @@ unfolding pairLinesFrom
 no-lines reflected i rs e = ap (λ ls. pairLinesFrom reflected i ls rs) e
 
 pub whole-lines : WholeLines
-whole-lines j bytes z h = lines-some 0 j bytes z 0 ∙ ap (λ ls. pairLinesFrom (reflectedOf bytes) 0 ls (operandParts (rightOf bytes))) (all-parts j bytes z h)
+whole-lines j bytes z h = lines-some 0 j bytes z 0 ∙ ap (λ ls. pairLinesFrom (reflectedOf bytes) 0 ls (operandParts (rightOf bytes))) (all-parts bytes z h)
 
 pub joined-lines : JoinedLines
 joined-lines i k j bytes z h m =
@@ -86,7 +86,7 @@ joined-lines i k j bytes z h m =
     (λ n. lines-some i k bytes z i n ++ lines-some k j bytes z k n)
     ∙ ap (λ q. pairLinesFrom t i ls rs ++ q) numbered
     ∙ sym (lines-append t i ls ms rs)
-    ∙ ap (λ ps. pairLinesFrom t i ps rs) (two-parts i k j (operandParts (leftOf bytes)) h m)
+    ∙ ap (λ ps. pairLinesFrom t i ps rs) (two-parts (operandParts (leftOf bytes)) h m)
     ∙ sym (lines-some i j bytes z i)
   where
     numbered : pairLinesFrom (reflectedOf bytes) k (some k j bytes z) (operandParts (rightOf bytes))

@@ -29,8 +29,8 @@ module _ (H T C R : List ℕ) (x y : ℕ) (h : length H ≡ 5) (t : length T ≡
       ap (drop (5 + n)) (append-assoc H (x ∷ y ∷ T) (C ++ R))
       ∙ ap (λ m. drop (m + n) (H ++ (x ∷ y ∷ (T ++ (C ++ R))))) (sym h) ∙ drop-append-add H (x ∷ y ∷ (T ++ (C ++ R))) n
 
-  pub laid-head : (i : ℕ) → i < 5 → getD all i 0 ≡ getD H i 0
-  laid-head i k = ap (λ l. getD l i 0) (append-assoc H (x ∷ y ∷ T) (C ++ R)) ∙ List·getD-append H (x ∷ y ∷ (T ++ (C ++ R))) 0 i (omega arith)
+  pub laid-head : {i : ℕ} → i < 5 → getD all i 0 ≡ getD H i 0
+  laid-head {i} k = ap (λ l. getD l i 0) (append-assoc H (x ∷ y ∷ T) (C ++ R)) ∙ List·getD-append H (x ∷ y ∷ (T ++ (C ++ R))) 0 i (omega arith)
 
   pub laid-parts : getD all 5 0 ≡ x
   laid-parts = sym (getD-drop 5 all 0 0) ∙ ap (λ l. getD l 0 0) (behind 0)
@@ -140,7 +140,7 @@ module _ (f e : ℕ) (bytes : List ℕ) (c : Cuts f e bytes) where
           omega arith,
           getD-all Word (shardStarts f e bytes) 0
               (λ i h. let z : 7 + f + i ≡ 7 + (f + i) = omega arith in
-              omega (arith, less-at (startAt bytes f) (7 + f) (e - f + 1) bytes i (omega arith) refl, ap (wordAt bytes) z, each-bounded f e bytes c (f + i) (omega arith))),
+              omega (arith, less-at (startAt bytes f) (7 + f) (e - f + 1) bytes i (omega arith) refl, ap (wordAt bytes) z, each-bounded f e bytes c {k = f + i} (omega arith))),
         ),
       )
 

@@ -44,7 +44,7 @@ module _ (x : Begun) (firsts : List ℕ) (points : List (List ℤ)) where
   unfolding piecesIn
   line-at k h =
       getD-map-inside (lineIn x firsts points) (upTo (x .left * x .right)) k (omega (arith, length-upTo (x .left * x .right)))
-      ∙ ap (lineIn x firsts points) (getD-upTo (x .left * x .right) k 0 h)
+      ∙ ap (lineIn x firsts points) (getD-upTo (x .left * x .right) 0 h)
     where
       getD-map-inside : (f : ℕ → List ℕ) (l : List ℕ) (k : ℕ) → k < length l → getD (map f l) k [] ≡ f (getD l k 0)
       getD-map-inside f [] k h = absurd (omega arith)

@@ -77,7 +77,7 @@ module _ {pieces : List (List ℕ)} {from k size : ℕ} {old buf : List ℕ} (p 
         whole =
             p .whole
             ∙ ap (λ l. p .done ++ l)
-            (ap (takingPieces (length old - size)) (drop-cons pieces k [] h) ∙ taking-turn (length old - size) x (drop (suc k) pieces) (omega (arith, putting-length))
+            (ap (takingPieces (length old - size)) (drop-cons pieces k [] h) ∙ taking-turn {room = length old - size} x (drop (suc k) pieces) (omega (arith, putting-length))
             ∙ ap₂ (λ m j. x ∷ takingPieces m (drop j pieces)) left (sym (add-one k)))
             ∙ sym (append-assoc (p .done) (x ∷ []) (takingPieces (length old - (size + n)) (drop (k + 1) pieces)));
         next = omega (arith, p .next, length-append (p .done) (x ∷ []));
@@ -103,7 +103,7 @@ module _ {pieces : List (List ℕ)} {from k size : ℕ} {old buf : List ℕ} (p 
     }
 
   pub handed-full : k < length pieces → length old - size < lineRoom → Handed pieces from old buf (record { size = size; next = k; more = true })
-  handed-full h room = handed (taking-full (length old - size) (drop k pieces) room) (sym (lt-ltb k (length pieces) h))
+  handed-full h room = handed (taking-full (drop k pieces) room) (sym (lt-ltb k (length pieces) h))
 
   pub handed-all : length pieces ≤ k → Handed pieces from old buf (record { size = size; next = k; more = false })
   unfolding takingPieces

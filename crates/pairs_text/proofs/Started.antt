@@ -36,9 +36,9 @@ use Rattle.pairs_text.proofs.Rows.{rows-numbered}
 -- ---- the answer, by its fault
 
 module _ (x : Call) where
-  begun-refused : (f : ℕ) → (f ≡ 0 → ⊥) → jobBegun x f ≡ refusedBegun f
+  begun-refused : {f : ℕ} → (f ≡ 0 → ⊥) → jobBegun x f ≡ refusedBegun f
   unfolding jobBegun
-  begun-refused f d = rw (ne-eqb f 0 d)
+  begun-refused {f} d = rw (ne-eqb f 0 d)
 
   begun-accepted : {f : ℕ} → f ≡ 0 → jobBegun x f ≡ acceptedBegun x
   unfolding jobBegun
@@ -106,7 +106,7 @@ module _ (bytes : List ℕ) (e : jobFault bytes ≡ 0) where
     -- line n is that of parts n / right and n % right
     line-at : (n : ℕ) → n < partCount (l .starts) * partCount (r .starts) → lineIn (acceptedBegun (jobCall bytes)) firsts points n ≡ line (n / partCount (r .starts)) (n % partCount (r .starts))
     line-at n h =
-        line-of-pair t (operandParts l) (operandParts r) firsts points (partCount (l .starts)) (partCount (r .starts)) (n / partCount (r .starts)) (n % partCount (r .starts))
+        line-of-pair t (operandParts l) (operandParts r) firsts points (partCount (r .starts)) (n % partCount (r .starts))
         (div-lt-iff-lt-mul (some (partCount (l .starts)) (partCount (r .starts)) (omega arith)) .1 h) (w .lefts) (w .rights)
       where
         some : (m n : ℕ) → 0 < m * n → 0 < n
@@ -134,7 +134,7 @@ module _ (bytes : List ℕ) {points : List (List ℤ)} {firsts numbers : List �
   by-answer P p q =
       by-test (eqb (jobFault bytes) 0)
       (λ h. let e = eqb-true (jobFault bytes) 0 h in subst P (sym (b .answer ∙ begun-accepted (jobCall bytes) e)) (q e))
-      (λ h. let d = eqb-false (jobFault bytes) 0 h in subst P (sym (b .answer ∙ begun-refused (jobCall bytes) (jobFault bytes) d)) (p d))
+      (λ h. let d = eqb-false (jobFault bytes) 0 h in subst P (sym (b .answer ∙ begun-refused (jobCall bytes) d)) (p d))
 
   pub started : JobStarted x firsts points numbers
   started = by-answer (λ y. JobStarted y firsts points numbers) (λ d. refused-started bytes firsts points d numbers) (λ e. accepted-started bytes e b)

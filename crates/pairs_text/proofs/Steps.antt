@@ -32,37 +32,37 @@ some-handed-over bytes from h =
 
 module _ (bytes : List ℕ) where
   -- past the last piece no text is left
-  none-left : (k : ℕ) → length (piecesOf bytes) ≤ k → textFrom bytes k ≡ []
+  none-left : {k : ℕ} → length (piecesOf bytes) ≤ k → textFrom bytes k ≡ []
   unfolding flatten
-  none-left k h = ap flatten (drop-of-length-le (piecesOf bytes) h)
+  none-left h = ap flatten (drop-of-length-le (piecesOf bytes) h)
 
   last-text : (k : ℕ) → moreOf bytes k ≡ false → textFrom bytes k ≡ flatten (chunkOf bytes k)
   last-text k e =
-      front-handed-over bytes k ∙ ap (λ t. flatten (chunkOf bytes k) ++ t) (none-left (nextPiece bytes k) (ltb-false (nextPiece bytes k) (length (piecesOf bytes)) e))
+      front-handed-over bytes k ∙ ap (λ t. flatten (chunkOf bytes k) ++ t) (none-left (ltb-false (nextPiece bytes k) (length (piecesOf bytes)) e))
       ∙ append-nil (flatten (chunkOf bytes k))
 
   only-text : {k : ℕ} {t : List ℕ} → HandsOver bytes k t → t ≡ textFrom bytes k
   only-text {k} (last _ e) = sym (last-text k e)
   only-text {k} (goes _ u e h) = ap (λ v. flatten (chunkOf bytes k) ++ v) (only-text h) ∙ sym (front-handed-over bytes k)
 
-  ends-here : (k : ℕ) → moreOf bytes k ≡ false → HandsOver bytes k (textFrom bytes k)
-  ends-here k e = subst (HandsOver bytes k) (sym (last-text k e)) (last k e)
+  ends-here : {k : ℕ} → moreOf bytes k ≡ false → HandsOver bytes k (textFrom bytes k)
+  ends-here {k} e = subst (HandsOver bytes k) (sym (last-text k e)) (last k e)
 
-  goes-on : (k : ℕ) → moreOf bytes k ≡ true → HandsOver bytes (nextPiece bytes k) (textFrom bytes (nextPiece bytes k)) → HandsOver bytes k (textFrom bytes k)
-  goes-on k e h = subst (HandsOver bytes k) (sym (front-handed-over bytes k)) (goes k (textFrom bytes (nextPiece bytes k)) e h)
+  goes-on : {k : ℕ} → moreOf bytes k ≡ true → HandsOver bytes (nextPiece bytes k) (textFrom bytes (nextPiece bytes k)) → HandsOver bytes k (textFrom bytes k)
+  goes-on {k} e h = subst (HandsOver bytes k) (sym (front-handed-over bytes k)) (goes k (textFrom bytes (nextPiece bytes k)) e h)
 
   -- n is at least how many pieces are left
-  text-handed-over : (n k : ℕ) → length (piecesOf bytes) - k ≤ n → HandsOver bytes k (textFrom bytes k)
-  text-handed-over zero k h = by-test (moreOf bytes k) (λ e. absurd (omega (arith, ltb-true (nextPiece bytes k) (length (piecesOf bytes)) e))) (ends-here k)
-  text-handed-over (suc n) k h =
+  text-handed-over : (n : ℕ) {k : ℕ} → length (piecesOf bytes) - k ≤ n → HandsOver bytes k (textFrom bytes k)
+  text-handed-over zero {k} h = by-test (moreOf bytes k) (λ e. absurd (omega (arith, ltb-true (nextPiece bytes k) (length (piecesOf bytes)) e))) ends-here
+  text-handed-over (suc n) {k} h =
       by-test (moreOf bytes k)
       (λ e. let l = ltb-true (nextPiece bytes k) (length (piecesOf bytes)) e in
       let s = some-handed-over bytes k (omega (arith, l)) in
-      goes-on k e (text-handed-over n (nextPiece bytes k) (omega (arith, s .0))))
-      (ends-here k)
+      goes-on e (text-handed-over n (omega (arith, s .0))))
+      ends-here
 
 pub all-handed-over : AllHandedOver
 all-handed-over bytes = record {
-  text = subst (HandsOver bytes 0) (sym (in-pieces bytes)) (text-handed-over bytes (length (piecesOf bytes)) 0 (omega arith));
+  text = subst (HandsOver bytes 0) (sym (in-pieces bytes)) (text-handed-over bytes (length (piecesOf bytes)) (omega arith));
   only = λ t h. only-text bytes h ∙ sym (in-pieces bytes);
 }

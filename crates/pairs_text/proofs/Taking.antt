@@ -12,14 +12,14 @@ use Rattle.integers.proofs.Order.{by-test}
 use Rattle.pair_lines.specs.Putting.{lineRoom}
 use Rattle.pairs_text.specs.Pieces.{takingPieces}
 
-pub taking-turn : (room : ℕ) (p : List ℕ) (ps : List (List ℕ)) → lineRoom ≤ room → takingPieces room (p ∷ ps) ≡ p ∷ takingPieces (room - length p) ps
+pub taking-turn : {room : ℕ} (p : List ℕ) (ps : List (List ℕ)) → lineRoom ≤ room → takingPieces room (p ∷ ps) ≡ p ∷ takingPieces (room - length p) ps
 unfolding takingPieces
-taking-turn room p ps h = rw (le-ltb room lineRoom h)
+taking-turn {room} p ps h = rw (le-ltb room lineRoom h)
 
-pub taking-full : (room : ℕ) (ps : List (List ℕ)) → room < lineRoom → takingPieces room ps ≡ []
+pub taking-full : {room : ℕ} (ps : List (List ℕ)) → room < lineRoom → takingPieces room ps ≡ []
 unfolding takingPieces
-taking-full room [] h = refl
-taking-full room (p ∷ ps) h = rw (lt-ltb room lineRoom h)
+taking-full [] h = refl
+taking-full {room} (p ∷ ps) h = rw (lt-ltb room lineRoom h)
 
 pub taking-front : (room : ℕ) (ps : List (List ℕ)) → ps ≡ takingPieces room ps ++ drop (length (takingPieces room ps)) ps
 unfolding takingPieces
@@ -34,4 +34,4 @@ taking-few room (p ∷ ps) = by-test (ltb room lineRoom) (λ t. rw t (omega arit
 
 pub taking-some : (room : ℕ) (ps : List (List ℕ)) → lineRoom ≤ room → 0 < length ps → 0 < length (takingPieces room ps)
 taking-some room [] h k = absurd (omega arith)
-taking-some room (p ∷ ps) h k = omega (arith, ap length (taking-turn room p ps h))
+taking-some room (p ∷ ps) h k = omega (arith, ap length (taking-turn p ps h))

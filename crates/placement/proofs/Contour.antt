@@ -67,13 +67,13 @@ empty-apart z (p ∷ l) h = absurd (omega arith)
 
 module _ (z : Pt) (l : List Pt) where
   -- the edge into corner k, and those after it
-  every-next : (t : Pt × Pt → Bool) (a : Pt) (k : ℕ) → k < length l → every t (links a (drop k l)) ≡ cond (t (a, cornerAt l k)) (every t (links (cornerAt l k) (drop (k + 1) l))) false
+  every-next : (t : Pt × Pt → Bool) (a : Pt) {k : ℕ} → k < length l → every t (links a (drop k l)) ≡ cond (t (a, cornerAt l k)) (every t (links (cornerAt l k) (drop (k + 1) l))) false
   unfolding every links
-  every-next t a k h = rw (add-one, drop-cons l k O)
+  every-next t a {k} h = rw (add-one, drop-cons l k O)
 
-  some-next : (t : Pt × Pt → Bool) (a : Pt) (k : ℕ) → k < length l → some t (links a (drop k l)) ≡ cond (t (a, cornerAt l k)) true (some t (links (cornerAt l k) (drop (k + 1) l)))
+  some-next : (t : Pt × Pt → Bool) (a : Pt) {k : ℕ} → k < length l → some t (links a (drop k l)) ≡ cond (t (a, cornerAt l k)) true (some t (links (cornerAt l k) (drop (k + 1) l)))
   unfolding some links
-  some-next t a k h = rw (add-one, drop-cons l k O)
+  some-next t a {k} h = rw (add-one, drop-cons l k O)
 
   -- what is told of all edges is what is left to tell, with `strict` and `left` for those before;
   -- corner i is before corner k
@@ -95,13 +95,13 @@ module _ (z : Pt) (l : List Pt) where
     pub in-turn : {strict′ left′ : Bool} → ltZ s (pos 0) ≡ false → strict′ ≡ cond strict (cond (ltZ (pos 0) s) true (eqPt (cornerAt l i) (cornerAt l k))) false
         → left′ ≡ cond (ltZ (pos 0) s) true left → InTurn k (k + 1) strict′ left′
     in-turn f g j = record {
-      weakly = t .weakly ∙ every-next (onOrLeft z) _ k h ∙ rw (← e, ≤-leZ (ltZ-≤ s (pos 0) f));
+      weakly = t .weakly ∙ every-next (onOrLeft z) _ h ∙ rw (← e, ≤-leZ (ltZ-≤ s (pos 0) f));
       strictly =
-          t .strictly ∙ ap (λ b. cond strict b false) (every-next (leftOrNone z) _ k h) ∙ and-and strict (leftOrNone z (cornerAt l i, cornerAt l k)) _
+          t .strictly ∙ ap (λ b. cond strict b false) (every-next (leftOrNone z) _ h) ∙ and-and strict (leftOrNone z (cornerAt l i, cornerAt l k)) _
           ∙ ap (λ x. cond (cond strict (cond (ltZ (pos 0) x) true (eqPt (cornerAt l i) (cornerAt l k))) false) (every (leftOrNone z) (links (cornerAt l k) (drop (k + 1) l))) false) (sym e)
           ∙ ap (λ b. cond b (every (leftOrNone z) (links (cornerAt l k) (drop (k + 1) l))) false) (sym g);
       lefts =
-          t .lefts ∙ ap (λ b. cond left true b) (some-next (leftOf z) _ k h) ∙ or-or left (leftOf z (cornerAt l i, cornerAt l k)) _
+          t .lefts ∙ ap (λ b. cond left true b) (some-next (leftOf z) _ h) ∙ or-or left (leftOf z (cornerAt l i, cornerAt l k)) _
           ∙ ap (λ x. cond (cond (ltZ (pos 0) x) true left) true (some (leftOf z) (links (cornerAt l k) (drop (k + 1) l)))) (sym e)
           ∙ ap (λ b. cond b true (some (leftOf z) (links (cornerAt l k) (drop (k + 1) l)))) (sym j);
     }
@@ -111,9 +111,9 @@ module _ (z : Pt) (l : List Pt) where
     unfolding contactIn insideAt strictlyInsideAt
     turned-out f =
         let below = ltZ-< s (pos 0) f in
-        let w : every (onOrLeft z) (neighbours l) ≡ false = t .weakly ∙ every-next (onOrLeft z) _ k h ∙ rw (← e, <-leZ below) in
+        let w : every (onOrLeft z) (neighbours l) ≡ false = t .weakly ∙ every-next (onOrLeft z) _ h ∙ rw (← e, <-leZ below) in
         let v : every (leftOrNone z) (neighbours l) ≡ false =
-        t .strictly ∙ ap (λ b. cond strict b false) (every-next (leftOrNone z) _ k h ∙ rw (← e, ≤-ltZ (<-≤ below), apart-of (cornerAt l i) (cornerAt l k) (subst (λ x. x <ℤ pos 0) e below))) ∙ and-none strict in
+        t .strictly ∙ ap (λ b. cond strict b false) (every-next (leftOrNone z) _ h ∙ rw (← e, ≤-ltZ (<-≤ below), apart-of (cornerAt l i) (cornerAt l k) (subst (λ x. x <ℤ pos 0) e below))) ∙ and-none strict in
         rw (v, w)
       where
         apart-of : (a b : Pt) → areaTwo a b z <ℤ pos 0 → eqPt a b ≡ false
@@ -152,10 +152,10 @@ module _ {u a v b : ℤ} (p : u ≡ a) (q : v ≡ b) (before : Bool) where
   not-at-most e = rw (← p, ← q, e)
 
 -- what is told of all corners is what is left to tell, with `found` for those before
-some-turn : (t : Pt → Bool) (l : List Pt) (k : ℕ) → k < length l → (found : Bool) {found′ : Bool} → found′ ≡ cond (t (cornerAt l k)) true found
+some-turn : (t : Pt → Bool) (l : List Pt) {k : ℕ} → k < length l → (found : Bool) {found′ : Bool} → found′ ≡ cond (t (cornerAt l k)) true found
     → cond found true (some t (drop k l)) ≡ cond found′ true (some t (drop (k + 1) l))
 unfolding some
-some-turn t l k h found e = rw (add-one, drop-cons l k O, e) (or-or found (t (cornerAt l k)) _)
+some-turn t l {k} h found e = rw (add-one, drop-cons l k O, e) (or-or found (t (cornerAt l k)) _)
 
 module _ (z : Pt) (l : List Pt) where
   pub record AmongTurn (k : ℕ) (right left above below : Bool) : Type 0 where
@@ -171,10 +171,10 @@ module _ (z : Pt) (l : List Pt) where
       r′ ≡ cond (leZ (c .x) (z .x)) true r → f′ ≡ cond (leZ (z .x) (c .x)) true f → a′ ≡ cond (leZ (c .y) (z .y)) true a → b′ ≡ cond (leZ (z .y) (c .y)) true b →
       AmongTurn (k + 1) r′ f′ a′ b′
   among-turn {k} {r} {f} {a} {b} t h e p q u v = record {
-    rightward = t .rightward ∙ some-turn _ l k h r (p ∙ ap (λ c. cond (leZ (c .x) (z .x)) true r) e);
-    leftward = t .leftward ∙ some-turn _ l k h f (q ∙ ap (λ c. cond (leZ (z .x) (c .x)) true f) e);
-    upward = t .upward ∙ some-turn _ l k h a (u ∙ ap (λ c. cond (leZ (c .y) (z .y)) true a) e);
-    downward = t .downward ∙ some-turn _ l k h b (v ∙ ap (λ c. cond (leZ (z .y) (c .y)) true b) e);
+    rightward = t .rightward ∙ some-turn _ l h r (p ∙ ap (λ c. cond (leZ (c .x) (z .x)) true r) e);
+    leftward = t .leftward ∙ some-turn _ l h f (q ∙ ap (λ c. cond (leZ (z .x) (c .x)) true f) e);
+    upward = t .upward ∙ some-turn _ l h a (u ∙ ap (λ c. cond (leZ (c .y) (z .y)) true a) e);
+    downward = t .downward ∙ some-turn _ l h b (v ∙ ap (λ c. cond (leZ (z .y) (c .y)) true b) e);
   }
 
   -- the test of all four, at the end

@@ -60,30 +60,30 @@ module _ (z : Pt) (ps : List (List Pt)) where
   by-start = record { strictly = refl; weakly = refl }
 
   -- contour k
-  some-turn : (t : List Pt → Bool) (k : ℕ) → k < length ps → some t (drop k ps) ≡ cond (t (getD ps k [])) true (some t (drop (k + 1) ps))
+  some-turn : (t : List Pt → Bool) {k : ℕ} → k < length ps → some t (drop k ps) ≡ cond (t (getD ps k [])) true (some t (drop (k + 1) ps))
   unfolding some
-  some-turn t k h = rw (add-one, drop-cons ps k [])
+  some-turn t {k} h = rw (add-one, drop-cons ps k [])
 
   module _ {k : ℕ} {touches : Bool} (b : ByTurn k touches) (h : k < length ps) where
     pub passed : contactIn z (getD ps k []) ≡ Apart → ByTurn (k + 1) touches
     passed e =
         let t = told-apart z (getD ps k []) e in
         record {
-          strictly = b .strictly ∙ some-turn (strictlyInsideAt z) k h ∙ rw (t .0);
-          weakly = b .weakly ∙ ap (λ x. cond touches true x) (some-turn (insideAt z) k h ∙ rw (t .1));
+          strictly = b .strictly ∙ some-turn (strictlyInsideAt z) h ∙ rw (t .0);
+          weakly = b .weakly ∙ ap (λ x. cond touches true x) (some-turn (insideAt z) h ∙ rw (t .1));
         }
 
     pub touched : contactIn z (getD ps k []) ≡ Touching → ByTurn (k + 1) true
     touched e =
         let t = told-touching z (getD ps k []) e in
         record {
-          strictly = b .strictly ∙ some-turn (strictlyInsideAt z) k h ∙ rw (t .0);
-          weakly = b .weakly ∙ ap (λ x. cond touches true x) (some-turn (insideAt z) k h ∙ rw (t .1)) ∙ or-all touches;
+          strictly = b .strictly ∙ some-turn (strictlyInsideAt z) h ∙ rw (t .0);
+          weakly = b .weakly ∙ ap (λ x. cond touches true x) (some-turn (insideAt z) h ∙ rw (t .1)) ∙ or-all touches;
         }
 
     pub overlapped : contactIn z (getD ps k []) ≡ Overlapping → Overlapping ≡ contactBy z ps
     unfolding contactBy
-    overlapped e = rw (b .strictly ∙ some-turn (strictlyInsideAt z) k h ∙ ap (λ x. cond x true (some (strictlyInsideAt z) (drop (k + 1) ps))) (told-overlapping z (getD ps k []) e))
+    overlapped e = rw (b .strictly ∙ some-turn (strictlyInsideAt z) h ∙ ap (λ x. cond x true (some (strictlyInsideAt z) (drop (k + 1) ps))) (told-overlapping z (getD ps k []) e))
 
   module _ {k : ℕ} {touches : Bool} (b : ByTurn k touches) (h : length ps ≤ k) where
     none-strictly : some (strictlyInsideAt z) ps ≡ false
@@ -135,4 +135,4 @@ told-at s c z e h = rw (← e, eq-eqb _ 0 h)
 
 -- the corners from start k to the next are contour k
 pub contour-at : (starts : List ℕ) (corners : List ℤ) {k : ℕ} → k < partCount starts → pointsOf (cornersBetween (getD starts k 0) (getD starts (k + 1) 0) corners) ≡ getD (tableParts starts corners) k []
-contour-at s c {k} h = ap pointsOf (numbers-between s c k) ∙ part-is s c k h
+contour-at s c {k} h = ap pointsOf (numbers-between s c k) ∙ part-is s c h

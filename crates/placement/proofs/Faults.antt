@@ -45,8 +45,8 @@ module _ (s : List ℕ) (c : List ℤ) (z : Pt) where
   pub accepted : placeFault s c z ≡ 0 → Placeable s c × (onGrid z ≡ true)
   unfolding placeFault
   accepted h =
-      let f = first-none faultRules _ _ (omega arith) h in
-      let g = first-none faultRange _ [] (omega arith) (f .1) in
+      let f = first-none _ _ (omega arith) h in
+      let g = first-none _ [] (omega arith) (f .1) in
       by-test (onGrid z)
       (λ on. (record { whole = f .0; ranged = sym (on-place z c on) ∙ g .0 }, on))
       (λ off. differ (sym (g .0) ∙ off-place z c off))

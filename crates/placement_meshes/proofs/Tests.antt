@@ -66,8 +66,8 @@ unfolding some
 none-passes t g z f [] h = tt
 none-passes t g z f (c ∷ l) h = by-test (t c) (λ p. differ (sym (rw p at h))) (λ p. (f c p, none-passes t g z f l (rw p at h)))
 
-above-by-1 : (x y : ℤ) → x <ℤ y → pos 0 ≤ℤ (y +ℤ negℤ (x +ℤ pos 1))
-above-by-1 x y k = omega (zarith, add-parts y (negℤ (x +ℤ pos 1)), neg-parts (x +ℤ pos 1), add-parts x (pos 1))
+above-by-1 : {x y : ℤ} → x <ℤ y → pos 0 ≤ℤ (y +ℤ negℤ (x +ℤ pos 1))
+above-by-1 {x} {y} k = omega (zarith, add-parts y (negℤ (x +ℤ pos 1)), neg-parts (x +ℤ pos 1), add-parts x (pos 1))
 
 less-by-1 : (x : ℤ) → x +ℤ negℤ (x +ℤ pos 1) *ℤ pos 1 ≡ negℤ (pos 1)
 less-by-1 = ring (int ∷ []) (λ x. x :+ :neg (x :+ con (pos 1)) :* con (pos 1) :≡ :neg (con (pos 1))) tt
@@ -77,7 +77,7 @@ module _ (t : Pt → Bool) (d : Pt) (z : Pt) (f : (c : Pt) → t c ≡ false →
   some-passes : {l : List Pt} → Hull l (pos 1) z → some t l ≡ true
   some-passes {l} h =
       by-test (some t l) (λ p. p)
-      (λ p. absurd (below-zero (hull-form d (negℤ (cross d z +ℤ pos 1)) (all-map l (λ c k. above-by-1 (cross d z) (cross d c) k) (none-passes t (cross d) z f l p)) h) (subst (λ x. x <ℤ pos 0) (sym (less-by-1 (cross d z))) (omega zarith))))
+      (λ p. absurd (below-zero (hull-form d (negℤ (cross d z +ℤ pos 1)) (all-map l (λ c k. above-by-1 k) (none-passes t (cross d) z f l p)) h) (subst (λ x. x <ℤ pos 0) (sym (less-by-1 (cross d z))) (omega zarith))))
 
 -- the four directions
 abbrev dir : ℤ → ℤ → Pt

@@ -103,20 +103,20 @@ data AnglesAt (p q : Bool) (k j : ℤ) : Type 0 where
   greater : byHalves p q k ≡ Greater → LtAt q p j → AnglesAt p q k j
 
 -- within a half, by the sign of the cross
-angles-half : (p : Bool) {k : ℤ} (j : ℤ) → (k <ℤ pos 0 → pos 0 <ℤ j) → Sign k → AnglesAt p p k j
+angles-half : (p : Bool) {k : ℤ} {j : ℤ} → (k <ℤ pos 0 → pos 0 <ℤ j) → Sign k → AnglesAt p p k j
 unfolding byCross
-angles-half false j s (positive h) = less (rw (<-ltZ h)) h
-angles-half false j s (null e) = equal (ap byCross e) refl e
-angles-half false {k} j s (negative h) = greater (rw (≤-ltZ {x = pos 0} {y = k} (<-≤ h), <-ltZ h)) (s h)
-angles-half true j s (positive h) = less (rw (<-ltZ h)) h
-angles-half true j s (null e) = equal (ap byCross e) refl e
-angles-half true {k} j s (negative h) = greater (rw (≤-ltZ {x = pos 0} {y = k} (<-≤ h), <-ltZ h)) (s h)
+angles-half false s (positive h) = less (rw (<-ltZ h)) h
+angles-half false s (null e) = equal (ap byCross e) refl e
+angles-half false {k} s (negative h) = greater (rw (≤-ltZ {x = pos 0} {y = k} (<-≤ h), <-ltZ h)) (s h)
+angles-half true s (positive h) = less (rw (<-ltZ h)) h
+angles-half true s (null e) = equal (ap byCross e) refl e
+angles-half true {k} s (negative h) = greater (rw (≤-ltZ {x = pos 0} {y = k} (<-≤ h), <-ltZ h)) (s h)
 
 angles-at : (p q : Bool) (u v : Pt) → AnglesAt p q (cross u v) (cross v u)
-angles-at false false u v = angles-half false (cross v u) (swap< u v) (sign (cross u v))
+angles-at false false u v = angles-half false (swap< u v) (sign (cross u v))
 angles-at false true u v = less refl tt
 angles-at true false u v = greater refl tt
-angles-at true true u v = angles-half true (cross v u) (swap< u v) (sign (cross u v))
+angles-at true true u v = angles-half true (swap< u v) (sign (cross u v))
 
 pub angle-cases : (u v : Pt) → Angles u v
 unfolding angleCmp

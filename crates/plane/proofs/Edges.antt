@@ -51,13 +51,13 @@ unfolding edges
 edges-rotate k l = ap (map diff) (neighbours-rotate k l) ∙ map-rotate diff k (neighbours l)
 
 -- edge i: from corner i to the next, round the end
-pub getD-edges : (l : List Pt) (i : ℕ) → i < length l → getD (edges l) i O ≡ getD l (cond (eqb (suc i) (length l)) 0 (suc i)) O -ᵖ getD l i O
+pub getD-edges : (l : List Pt) {i : ℕ} → i < length l → getD (edges l) i O ≡ getD l (cond (eqb (suc i) (length l)) 0 (suc i)) O -ᵖ getD l i O
 unfolding edges
-getD-edges l i h =
+getD-edges l {i} h =
     List·getD-map diff (neighbours l) i (O, O)
     ∙ by-test (eqb (suc i) (length l))
-    (λ t. rw t (ap diff (getD-neighbours-last l i O (O, O) (eqb-true (suc i) (length l) t))))
-    (λ t. rw t (ap diff (getD-neighbours l i O (O, O) (further t))))
+    (λ t. rw t (ap diff (getD-neighbours-last l O (O, O) (eqb-true (suc i) (length l) t))))
+    (λ t. rw t (ap diff (getD-neighbours l O (O, O) (further t))))
   where
     further : eqb (suc i) (length l) ≡ false → suc i < length l
     further t = let n : suc i ≡ length l → ⊥ = eqb-false (suc i) (length l) t in omega arith

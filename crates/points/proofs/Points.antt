@@ -23,8 +23,8 @@ on-grid-of p e h = let b = on-grid-both (point p) (ap onGrid e ∙ h) in record 
 pub appended-none : (points : List (List ℤ)) (n : ℕ) → Appended [] points n points n
 appended-none points n = record { size = refl; count = omega arith; written = sym (append-nil (firstPoints n points)) }
 
-pub appended-one : (points : List (List ℤ)) (n : ℕ) (p : Pt) → n < length points → Appended (p ∷ []) points n (set points n (pairOf p)) (n + 1)
-appended-one points n p h = record {
+pub appended-one : (points : List (List ℤ)) {n : ℕ} (p : Pt) → n < length points → Appended (p ∷ []) points n (set points n (pairOf p)) (n + 1)
+appended-one points {n} p h = record {
   size = length-set points n (pairOf p);
   count = refl;
   written = ap (map cornerOf) (ap (λ k. take k (set points n (pairOf p))) (add-one n) ∙ take-suc-set points n (pairOf p) h) ∙ map-append cornerOf (take n points) (pairOf p ∷ []);

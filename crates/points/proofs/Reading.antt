@@ -28,9 +28,9 @@ starts-at k (suc j) [] h = absurd (omega arith)
 starts-at k (suc j) (p ∷ ps) h = omega (arith, starts-at (k + length p) j ps (omega arith), length-append p (flatten (take j ps)))
 
 -- the parts before part k, part k, and those after it
-flatten-at : (ps : List (List Pt)) (k : ℕ) → k < length ps → flatten ps ≡ flatten (take k ps) ++ (getD ps k [] ++ flatten (drop (suc k) ps))
+flatten-at : (ps : List (List Pt)) {k : ℕ} → k < length ps → flatten ps ≡ flatten (take k ps) ++ (getD ps k [] ++ flatten (drop (suc k) ps))
 unfolding flatten
-flatten-at ps k h =
+flatten-at ps {k} h =
     ap flatten (sym (take-append-drop k ps)) ∙ flatten-append (take k ps) (drop k ps)
     ∙ ap (λ l. flatten (take k ps) ++ flatten l) (drop-cons ps k [] h)
 
@@ -52,14 +52,14 @@ module _ (starts : List ℕ) (points : List (List ℤ)) (t : Tally) (ps : List (
   unfolding startsOf
   start-at j h = sym (getD-take (t .parts + 1) starts j 0 (omega (arith, g .parts))) ∙ ap (λ s. getD s j 0) (g .begins) ∙ starts-at 0 j ps h ∙ zero-add (length (flatten (take j ps)))
 
-  pub part-placed : (k : ℕ) → k < length ps → PartPlaced starts points k (getD ps k [])
+  pub part-placed : {k : ℕ} → k < length ps → PartPlaced starts points k (getD ps k [])
   unfolding flatten
-  part-placed k h =
+  part-placed {k} h =
       let p = getD ps k [] in
       let a : getD starts k 0 ≡ length (flatten (take k ps)) = start-at k (omega arith) in
       let more : flatten (take (suc k) ps) ≡ flatten (take k ps) ++ p = ap flatten (take-suc ps k [] h) ∙ flatten-append (take k ps) (p ∷ []) ∙ ap (λ l. flatten (take k ps) ++ l) (append-nil p) in
       let e : getD starts (k + 1) 0 ≡ length (flatten (take k ps)) + length p = ap (λ n. getD starts n 0) (add-one k) ∙ start-at (suc k) (omega arith) ∙ ap length more ∙ length-append (flatten (take k ps)) p in
-      let whole : length (flatten ps) ≡ length (flatten (take k ps)) + length (p ++ flatten (drop (suc k) ps)) = ap length (flatten-at ps k h) ∙ length-append (flatten (take k ps)) (p ++ flatten (drop (suc k) ps)) in
+      let whole : length (flatten ps) ≡ length (flatten (take k ps)) + length (p ++ flatten (drop (suc k) ps)) = ap length (flatten-at ps h) ∙ length-append (flatten (take k ps)) (p ++ flatten (drop (suc k) ps)) in
       let few : getD starts (k + 1) 0 ≤ t .corners = omega (arith, e, whole, length-append p (flatten (drop (suc k) ps)), g .corners) in
       record {
         rises = omega (arith, a, e);
@@ -68,7 +68,7 @@ module _ (starts : List ℕ) (points : List (List ℤ)) (t : Tally) (ps : List (
             ap cornersIn (take-drop (getD starts k 0) (getD starts (k + 1) 0) points (omega (arith, a, e)) ∙ ap (drop (getD starts k 0)) (sym (take-take (getD starts (k + 1) 0) (t .corners) points few)))
             ∙ map-drop cornerOf (getD starts k 0) (take (getD starts (k + 1) 0) (take (t .corners) points))
             ∙ ap (drop (getD starts k 0)) (map-take cornerOf (getD starts (k + 1) 0) (take (t .corners) points))
-            ∙ ap (λ l. slice (getD starts k 0) (getD starts (k + 1) 0) l) (g .gathered ∙ flatten-at ps k h)
+            ∙ ap (λ l. slice (getD starts k 0) (getD starts (k + 1) 0) l) (g .gathered ∙ flatten-at ps h)
             ∙ (λ i. slice (a i) (e i) (flatten (take k ps) ++ (p ++ flatten (drop (suc k) ps))))
             ∙ middle (flatten (take k ps)) p (flatten (drop (suc k) ps));
       }

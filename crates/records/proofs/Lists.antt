@@ -16,14 +16,14 @@ use Rattle.table.specs.Stored.{wordsOf, signed}
 use Rattle.table.proofs.Words.{length-words}
 use Rattle.records.specs.Record.{Counted, Listed, Readable, wordsIn, numbersIn, rowIn, rowsIn}
 
-pub counted : {A : Type 0} (n : ℕ) (l : List A) → n ≤ length l → Counted n l
-counted n l h = (h, sym (length-take-le n l h))
+pub counted : {A : Type 0} {n : ℕ} (l : List A) → n ≤ length l → Counted n l
+counted {n} l h = (h, sym (length-take-le n l h))
 
 module _ {A : Type 0} (new old : List A) where
   pub listed : {told : ℕ} {out : List A} → told ≡ length new → length new ≤ length old → out ≡ overlay new old → Listed new old told out
   listed {told} {out} e h p =
       let w : told ≤ length out = omega (arith, e, h, ap length p, length-overlay new old h) in
-      record { count = e; places = p; within = counted told out w }
+      record { count = e; places = p; within = counted out w }
 
   -- nothing is read
   pub none-listed : 0 ≡ length new → Listed new old 0 old

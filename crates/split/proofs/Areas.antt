@@ -25,26 +25,26 @@ use Rattle.split.specs.Splitting.{centreOf, centreServes, centredParts, 
 use Rattle.split.proofs.Chords.{ear-areas, fan-areas}
 use Rattle.split.proofs.Radial.{centroid-areas}
 
-by-area : (how : ConvexSplitStrategy) (m : ℕ) (l : List Pt) → 3 ≤ m → 3 ≤ length l → sumℤ (map contourArea (splitBy how m l)) ≡ contourArea l
+by-area : (how : ConvexSplitStrategy) {m : ℕ} (l : List Pt) → 3 ≤ m → 3 ≤ length l → sumℤ (map contourArea (splitBy how m l)) ≡ contourArea l
 unfolding centredParts
-by-area EarClipping m l h k = ear-areas m l h k
-by-area Fan m l h k = fan-areas m l h k
-by-area Centroid m [] h k = absurd (omega arith)
-by-area Centroid m (c ∷ l) h k =
-    by-test (centreServes (centreOf c (c ∷ l)) (c ∷ l)) (λ e. rw e (centroid-areas m (centreOf c (c ∷ l)) c l h)) (λ e. rw e (fan-areas m (c ∷ l) h k))
+by-area EarClipping {m} l h k = ear-areas l h k
+by-area Fan {m} l h k = fan-areas l h k
+by-area Centroid [] h k = absurd (omega arith)
+by-area Centroid {m} (c ∷ l) h k =
+    by-test (centreServes (centreOf c (c ∷ l)) (c ∷ l)) (λ e. rw e (centroid-areas (centreOf c (c ∷ l)) c l h)) (λ e. rw e (fan-areas (c ∷ l) h k))
 
-pub split-area : (how : ConvexSplitStrategy) (m : ℕ) (l : List Pt) → 3 ≤ m → sumℤ (map contourArea (splitContour how m l)) ≡ contourArea l
+pub split-area : (how : ConvexSplitStrategy) {m : ℕ} (l : List Pt) → 3 ≤ m → sumℤ (map contourArea (splitContour how m l)) ≡ contourArea l
 unfolding splitContour
-split-area how m l h =
+split-area how {m} l h =
     by-test (leb (length l) m) (λ e. rw e (unfold sumℤ in +ℤ-idr (contourArea l)))
-    (λ e. let k : m < length l = leb-false (length l) m e in rw e (by-area how m l h (omega arith)))
+    (λ e. let k : m < length l = leb-false (length l) m e in rw e (by-area how l h (omega arith)))
 
 each : (how : ConvexSplitStrategy) (m : ℕ) (ps : List (List Pt)) → 3 ≤ m → sumℤ (map contourArea (flatten (map (splitContour how m) ps))) ≡ sumℤ (map contourArea ps)
 each how m ps h = sum-map-flatten contourArea (map (splitContour how m) ps) ∙ ap sumℤ (all ps)
   where
     all : (ps : List (List Pt)) → map (λ r. sumℤ (map contourArea r)) (map (splitContour how m) ps) ≡ map contourArea ps
     all [] = refl
-    all (p ∷ ps) = λ i. split-area how m p h i ∷ all ps i
+    all (p ∷ ps) = λ i. split-area how p h i ∷ all ps i
 
 pub split-areas : SplitKeepsArea
 unfolding splitParts

@@ -113,7 +113,7 @@ group-areas (suc n) g s l h k =
     by-test (eqb s 0) (λ e. rw e (no-edges g l (eqb-true s 0 e) k))
     (λ d. let e : ℕ = edgesTaken g s l in
     let z : s ≡ 0 → ⊥ = eqb-false s 0 d in
-    let few : e ≤ s = edgesTaken-le g s l (omega (arith, z)) in
+    let few : e ≤ s = edgesTaken-le g l (omega (arith, z)) in
     let whole : e + (s - e) + 1 ≡ s + 1 = omega (arith, few) in
     rw d
     (ap₂ _+ℤ_ (part-of g e l (omega arith)) (group-areas n g (s - e) (drop e l) (omega arith) (omega (arith, few, length-drop e l)))
@@ -130,11 +130,11 @@ sectors-areas (s ∷ ss) g l h =
 
 -- ---- so the parts about the centre have the contour's doubled area
 
-pub centroid-areas : (m : ℕ) (g c : Pt) (l : List Pt) → 3 ≤ m → sumℤ (map contourArea (centroidParts m g c (c ∷ l))) ≡ contourArea (c ∷ l)
-centroid-areas m g c l h =
+pub centroid-areas : {m : ℕ} (g c : Pt) (l : List Pt) → 3 ≤ m → sumℤ (map contourArea (centroidParts m g c (c ∷ l))) ≡ contourArea (c ∷ l)
+centroid-areas {m} g c l h =
     let k : ℕ = (suc (length l) + (m - 2 - 1)) / (m - 2) in
     let some : 0 < (suc (length l) + (m - 2 - 1)) / (m - 2) = le-div-iff-mul-le {k = m - 2} {x = 1} {y = suc (length l) + (m - 2 - 1)} (omega arith) .1 (omega arith) in
-    let all : sumℕ (shares (suc (length l)) k) ≡ suc (length l) = sum-shares (suc (length l)) k some in
+    let all : sumℕ (shares (suc (length l)) k) ≡ suc (length l) = sum-shares (suc (length l)) some in
     let size : length (c ∷ l ++ (c ∷ [])) ≡ suc (length l) + 1 = length-append (c ∷ l) (c ∷ []) in
     sectors-areas (shares (suc (length l)) k) g (c ∷ l ++ (c ∷ [])) (omega (arith, all, size))
     ∙ ap (radial g) (take-all (sumℕ (shares (suc (length l)) k) + 1) (c ∷ l ++ (c ∷ [])) (omega (arith, all, size))) ∙ radial-closed g c l

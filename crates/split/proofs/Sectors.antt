@@ -21,8 +21,8 @@ taking-le g a zero l = omega arith
 taking-le g a (suc r) [] = omega arith
 taking-le g a (suc r) (c ∷ l) = by-test (ltZ (pos 0) (areaTwo g a c)) (λ e. rw e (omega (arith, taking-le g a r l))) (λ e. rw e (omega arith))
 
-pub edgesTaken-le : (g : Pt) (s : ℕ) (l : List Pt) → 0 < s → edgesTaken g s l ≤ s
-edgesTaken-le g s l h = omega (arith, taking-le g (getD l 0 O) (s - 1) (drop 2 l))
+pub edgesTaken-le : (g : Pt) {s : ℕ} (l : List Pt) → 0 < s → edgesTaken g s l ≤ s
+edgesTaken-le g {s} l h = omega (arith, taking-le g (getD l 0 O) (s - 1) (drop 2 l))
 
 -- with fuel for each edge, more changes nothing
 pub groupParts-enough : (n k : ℕ) (g : Pt) (s : ℕ) (l : List Pt) → s ≤ n → s ≤ k → groupParts n g s l ≡ groupParts k g s l

@@ -32,8 +32,8 @@ sum-from n k i (suc j) =
     (λ e. let h : i < n % k = ltb-true i (n % k) e in rw e (omega (arith, sum-from n k (suc i) j)))
     (λ e. let h : n % k ≤ i = ltb-false i (n % k) e in rw e (omega (arith, sum-from n k (suc i) j)))
 
-pub sum-shares : (n k : ℕ) → 0 < k → sumℕ (shares n k) ≡ n
-sum-shares n k h = sum-from n k 0 k ∙ all
+pub sum-shares : (n : ℕ) {k : ℕ} → 0 < k → sumℕ (shares n k) ≡ n
+sum-shares n {k} h = sum-from n k 0 k ∙ all
   where
     all : k * (n / k) + min k (n % k - 0) ≡ n
     all = omega (arith, div-add-mod' n k, mod-lt n h, swap (n / k) k)

@@ -37,26 +37,26 @@ use Rattle.split.proofs.Sectors.{edgesTaken-le}
 -- ---- shares of n things in ceil(n / b) groups
 
 -- n ≤ ceil(n / b) · b, for n + b − 1 < ((n + b − 1) / b) · b + b
-ceil-above : (n b : ℕ) → 0 < b → n ≤ ceilDiv n b * b
-ceil-above n b h = omega (arith, lt-div-mul-add {a = n + (b - 1)} {b = b} h)
+ceil-above : (n : ℕ) {b : ℕ} → 0 < b → n ≤ ceilDiv n b * b
+ceil-above n {b} h = omega (arith, lt-div-mul-add {a = n + (b - 1)} {b = b} h)
 
 -- from 1 to n groups, for b ≤ n + b − 1 < (n + 1) b
 pub ceil-pos : (n b : ℕ) → 0 < n → 0 < b → 0 < ceilDiv n b
 ceil-pos n b p h = le-div-iff-mul-le {k = b} {x = 1} {y = n + (b - 1)} h .1 (omega arith)
 
-pub ceil-le : (n b : ℕ) → 0 < n → 0 < b → ceilDiv n b ≤ n
-ceil-le n b p h = below (div-lt-iff-lt-mul {k = b} {x = n + (b - 1)} {y = n + 1} h .1 (more n b p h (mul-le-mul-right b p)))
+pub ceil-le : {n b : ℕ} → 0 < n → 0 < b → ceilDiv n b ≤ n
+ceil-le {n} {b} p h = below (div-lt-iff-lt-mul {k = b} {x = n + (b - 1)} {y = n + 1} h .1 (more b p h (mul-le-mul-right b p)))
   where
     below : ceilDiv n b < n + 1 → ceilDiv n b ≤ n
     below h = omega arith
 
-    more : (n b : ℕ) → 0 < n → 0 < b → 1 * b ≤ n * b → n + (b - 1) < (n + 1) * b
-    more n (suc b) p h q = omega (arith, grow n b)
+    more : {n : ℕ} (b : ℕ) → 0 < n → 0 < b → 1 * b ≤ n * b → n + (b - 1) < (n + 1) * b
+    more {n} (suc b) p h q = omega (arith, grow n b)
       where
         grow : (n b : ℕ) → n ≤ n * suc b
         grow zero b = omega arith
         grow (suc n) b = omega (arith, grow n b)
-    more n zero p h q = absurd (omega arith)
+    more zero p h q = absurd (omega arith)
 
 module _ (n k b : ℕ) (some : 0 < k) (few : k ≤ n) (all : n ≤ k * b) where
   quotient-pos : 1 ≤ n / k
@@ -84,7 +84,7 @@ module _ (n k b : ℕ) (some : 0 < k) (few : k ≤ n) (all : n ≤ k * b) where
 
 -- each share of n things in ceil(n / b) groups
 pub shares-bound : (n b : ℕ) → 0 < n → 0 < b → All (λ s. (1 ≤ s) × (s ≤ b)) (shares n (ceilDiv n b))
-shares-bound n b p h = from-bound n (ceilDiv n b) b (ceil-pos n b p h) (ceil-le n b p h) (ceil-above n b h) 0 (ceilDiv n b)
+shares-bound n b p h = from-bound n (ceilDiv n b) b (ceil-pos n b p h) (ceil-le p h) (ceil-above n h) 0 (ceilDiv n b)
 
 -- ---- the sizes of parts: from 3 corners to b + 2
 
@@ -109,23 +109,23 @@ positive : (s : ℕ) → (s ≡ 0 → ⊥) → 0 < s
 positive zero h = absurd (h refl)
 positive (suc s) h = omega arith
 
-group-sizes : (b n : ℕ) (g : Pt) (s : ℕ) (l : List Pt) → s < length l → s ≤ b → All (Sized b) (groupParts n g s l)
+group-sizes : {b : ℕ} (n : ℕ) (g : Pt) {s : ℕ} (l : List Pt) → s < length l → s ≤ b → All (Sized b) (groupParts n g s l)
 unfolding groupParts
-group-sizes b zero g s l h k = tt
-group-sizes b (suc n) g s l h k =
+group-sizes zero g l h k = tt
+group-sizes {b} (suc n) g {s} l h k =
     by-test (eqb s 0) (λ e. rw e tt)
     (λ e.
     let some : 0 < s = positive s (eqb-false s 0 e) in
-    let le = edgesTaken-le g s l some in
+    let le = edgesTaken-le g l some in
     let t : length (take (edgesTaken g s l + 1) l) ≡ edgesTaken g s l + 1 = length-take-le (edgesTaken g s l + 1) l (omega (arith, le)) in
-    rw e ((omega arith, omega (arith, le)), group-sizes b n g (s - edgesTaken g s l) (drop (edgesTaken g s l) l) (omega (arith, le, length-drop (edgesTaken g s l) l)) (omega (arith, le))))
+    rw e ((omega arith, omega (arith, le)), group-sizes {b = b} n g {s = s - edgesTaken g s l} (drop (edgesTaken g s l) l) (omega (arith, le, length-drop (edgesTaken g s l) l)) (omega (arith, le))))
 
 sector-sizes : (b : ℕ) (ss : List ℕ) (g : Pt) (l : List Pt) → sumℕ ss < length l → All (λ s. (1 ≤ s) × (s ≤ b)) ss → All (Sized b) (sectors ss g l)
 unfolding sectors sumℕ
 sector-sizes b [] g l e h = tt
 sector-sizes b (s ∷ ss) g l e h =
     all-append (Sized b) (groupParts s g s l) (sectors ss g (drop s l)) .1
-    (group-sizes b s g s l (omega arith) (h .0 .1), sector-sizes b ss g (drop s l) (omega (arith, e, length-drop s l)) (h .1))
+    (group-sizes s g l (omega arith) (h .0 .1), sector-sizes b ss g (drop s l) (omega (arith, e, length-drop s l)) (h .1))
 
 -- ---- how many parts and corners of one contour
 
@@ -150,7 +150,7 @@ group-few (suc n) g s l =
     by-test (eqb s 0) (λ e. rw e (omega arith, omega arith))
     (λ e.
     let some : 0 < s = positive s (eqb-false s 0 e) in
-    let le = edgesTaken-le g s l some in
+    let le = edgesTaken-le g l some in
     let i = group-few n g (s - edgesTaken g s l) (drop (edgesTaken g s l) l) in
     rw e (
       omega (arith, le, i .0),
@@ -177,10 +177,10 @@ module _ (m : ℕ) (l : List Pt) (h : 3 ≤ m) (k : m < length l) where
   n = length l - 2
 
   sum-triangles : sumℕ (triangleShares (length l) m) ≡ n
-  sum-triangles = sum-shares n (ceilDiv n (m - 2)) (ceil-pos n (m - 2) (omega arith) (omega arith))
+  sum-triangles = sum-shares n (ceil-pos n (m - 2) (omega arith) (omega arith))
 
   count-triangles : length (triangleShares (length l) m) ≤ n
-  count-triangles = omega (arith, length-shares n (ceilDiv n (m - 2)), ceil-le n (m - 2) (omega arith) (omega arith))
+  count-triangles = omega (arith, length-shares n (ceilDiv n (m - 2)), ceil-le {n = n} {b = m - 2} (omega arith) (omega arith))
 
   ear-few : Few (m - 2) l (earParts m l)
   ear-few = record {
@@ -189,19 +189,19 @@ module _ (m : ℕ) (l : List Pt) (h : 3 ≤ m) (k : m < length l) where
     corners = omega (arith, clipped-corners (triangleShares (length l) m) l, sum-triangles, count-triangles);
   }
 
-fan-few : (m : ℕ) (l : List Pt) → 3 ≤ m → m < length l → Few (m - 2) l (fanParts m l)
+fan-few : {m : ℕ} (l : List Pt) → 3 ≤ m → m < length l → Few (m - 2) l (fanParts m l)
 unfolding fanParts
-fan-few m [] h k = absurd (omega arith)
-fan-few m (c ∷ l) h k = record {
+fan-few [] h k = absurd (omega arith)
+fan-few {m} (c ∷ l) h k = record {
   sizes = fanned-sizes (m - 2) (triangleShares (suc (length l)) m) c l (omega (arith, sum-triangles m (c ∷ l) h k)) (shares-bound (suc (length l) - 2) (m - 2) (omega arith) (omega arith));
   some = omega (arith, length-fanned (triangleShares (suc (length l)) m) c l, count-triangles m (c ∷ l) h k);
   corners = omega (arith, fanned-corners (triangleShares (suc (length l)) m) c l, sum-triangles m (c ∷ l) h k, count-triangles m (c ∷ l) h k);
 }
 
-centroid-few : (m : ℕ) (g c : Pt) (l : List Pt) → 3 ≤ m → m < length l → Few (m - 2) l (centroidParts m g c l)
-centroid-few m g c l h k =
+centroid-few : {m : ℕ} (g c : Pt) (l : List Pt) → 3 ≤ m → m < length l → Few (m - 2) l (centroidParts m g c l)
+centroid-few {m} g c l h k =
     let ss = shares (length l) (ceilDiv (length l) (m - 2)) in
-    let sum : sumℕ ss ≡ length l = sum-shares (length l) (ceilDiv (length l) (m - 2)) (ceil-pos (length l) (m - 2) (omega arith) (omega arith)) in
+    let sum : sumℕ ss ≡ length l = sum-shares (length l) (ceil-pos (length l) (m - 2) (omega arith) (omega arith)) in
     let f = sector-few ss g (l ++ (c ∷ [])) in
     record {
       sizes = sector-sizes (m - 2) ss g (l ++ (c ∷ [])) (omega (arith, sum, length-append l (c ∷ []))) (shares-bound (length l) (m - 2) (omega arith) (omega arith));
@@ -209,47 +209,47 @@ centroid-few m g c l h k =
       corners = omega (arith, f .1, sum);
     }
 
-by-few : (how : ConvexSplitStrategy) (m : ℕ) (l : List Pt) → 3 ≤ m → m < length l → Few (m - 2) l (splitBy how m l)
+by-few : (how : ConvexSplitStrategy) {m : ℕ} (l : List Pt) → 3 ≤ m → m < length l → Few (m - 2) l (splitBy how m l)
 unfolding centredParts
-by-few EarClipping m l h k = ear-few m l h k
-by-few Fan m l h k = fan-few m l h k
-by-few Centroid m [] h k = absurd (omega arith)
-by-few Centroid m (c ∷ l) h k =
-    by-test (centreServes (centreOf c (c ∷ l)) (c ∷ l)) (λ e. rw e (centroid-few m (centreOf c (c ∷ l)) c (c ∷ l) h k)) (λ e. rw e (fan-few m (c ∷ l) h k))
+by-few EarClipping {m} l h k = ear-few m l h k
+by-few Fan {m} l h k = fan-few l h k
+by-few Centroid [] h k = absurd (omega arith)
+by-few Centroid {m} (c ∷ l) h k =
+    by-test (centreServes (centreOf c (c ∷ l)) (c ∷ l)) (λ e. rw e (centroid-few (centreOf c (c ∷ l)) c (c ∷ l) h k)) (λ e. rw e (fan-few (c ∷ l) h k))
 
 -- any contour of three corners or more
-pub split-few : (how : ConvexSplitStrategy) (m : ℕ) (l : List Pt) → 3 ≤ m → 3 ≤ length l → Few (m - 2) l (splitContour how m l)
+pub split-few : (how : ConvexSplitStrategy) {m : ℕ} (l : List Pt) → 3 ≤ m → 3 ≤ length l → Few (m - 2) l (splitContour how m l)
 unfolding splitContour flatten
-split-few how m l h k =
+split-few how {m} l h k =
     by-test (leb (length l) m)
     (λ e. rw e (record { sizes = ((k, omega (arith, leb-true (length l) m e)), tt); some = omega arith; corners = omega (arith, length-append l []) }))
-    (λ e. rw e (by-few how m l h (leb-false (length l) m e)))
+    (λ e. rw e (by-few how l h (leb-false (length l) m e)))
 
 -- a part is no longer than its contour
-split-short : (how : ConvexSplitStrategy) (m n : ℕ) (l : List Pt) → 3 ≤ m → length l ≤ n → All (λ p. length p ≤ n) (splitContour how m l)
+split-short : (how : ConvexSplitStrategy) {m n : ℕ} (l : List Pt) → 3 ≤ m → length l ≤ n → All (λ p. length p ≤ n) (splitContour how m l)
 unfolding splitContour
-split-short how m n l h k =
+split-short how {m} l h k =
     by-test (leb (length l) m) (λ e. rw e (k, tt))
-    (λ e. let g : m < length l = leb-false (length l) m e in rw e (all-map (splitBy how m l) (λ p s. omega (arith, s .1)) (by-few how m l h g .sizes)))
+    (λ e. let g : m < length l = leb-false (length l) m e in rw e (all-map (splitBy how m l) (λ p s. omega (arith, s .1)) (by-few how l h g .sizes)))
 
 -- ---- of all contours
 
-all-short : (how : ConvexSplitStrategy) (m n : ℕ) (ps : List (List Pt)) → 3 ≤ m → All (λ l. length l ≤ n) ps → All (λ p. length p ≤ n) (flatten (map (splitContour how m) ps))
+all-short : (how : ConvexSplitStrategy) {m : ℕ} (n : ℕ) (ps : List (List Pt)) → 3 ≤ m → All (λ l. length l ≤ n) ps → All (λ p. length p ≤ n) (flatten (map (splitContour how m) ps))
 unfolding flatten
-all-short how m n [] h k = tt
-all-short how m n (l ∷ ps) h k = all-append (λ p. length p ≤ n) (splitContour how m l) (flatten (map (splitContour how m) ps)) .1 (split-short how m n l h (k .0), all-short how m n ps h (k .1))
+all-short how n [] h k = tt
+all-short how {m} n (l ∷ ps) h k = all-append (λ p. length p ≤ n) (splitContour how m l) (flatten (map (splitContour how m) ps)) .1 (split-short how l h (k .0), all-short how n ps h (k .1))
 
 pub record AllFew (b : ℕ) (ps qs : List (List Pt)) : Type 0 where
   pub sizes : All (Sized b) qs
   pub some : length qs + 4 * length ps ≤ 2 * length (flatten ps)
   pub corners : length (flatten qs) + 12 * length ps ≤ 6 * length (flatten ps)
 
-all-few : (how : ConvexSplitStrategy) (m : ℕ) (ps : List (List Pt)) → 3 ≤ m → All (λ l. 3 ≤ length l) ps → AllFew (m - 2) ps (flatten (map (splitContour how m) ps))
+all-few : (how : ConvexSplitStrategy) {m : ℕ} (ps : List (List Pt)) → 3 ≤ m → All (λ l. 3 ≤ length l) ps → AllFew (m - 2) ps (flatten (map (splitContour how m) ps))
 unfolding flatten
-all-few how m [] h k = record { sizes = tt; some = omega arith; corners = omega arith }
-all-few how m (l ∷ ps) h k =
-    let f = split-few how m l h (k .0) in
-    let r = all-few how m ps h (k .1) in
+all-few how [] h k = record { sizes = tt; some = omega arith; corners = omega arith }
+all-few how {m} (l ∷ ps) h k =
+    let f = split-few how l h (k .0) in
+    let r = all-few how ps h (k .1) in
     let qs = splitContour how m l in
     let rs = flatten (map (splitContour how m) ps) in
     record {
@@ -261,7 +261,7 @@ all-few how m (l ∷ ps) h k =
 -- Σ (n − 2) is at most the number of triangles
 pub split-parts-few : (how : ConvexSplitStrategy) (m : ℕ) {mesh : Mesh} → Accepted mesh → AllFew (raised m - 2) (parts mesh) (splitParts how m mesh)
 unfolding splitParts
-split-parts-few how m {mesh} ok = all-few how (raised m) (parts mesh) (omega arith) (all-map (parts mesh) convex-three (parts-convex mesh ok))
+split-parts-few how m {mesh} ok = all-few how {m = raised m} (parts mesh) (omega arith) (all-map (parts mesh) convex-three (parts-convex mesh ok))
 
 pub split-table : SplitTable
 split-table how m mesh h =
@@ -275,7 +275,7 @@ split-table how m mesh h =
       sizes = sizes;
       few-parts = few;
       few-corners = corners;
-      table = limits-sound (record { parts = few; corners = omega arith; contours = unfold splitParts in all-short how (raised m) maxContour (parts mesh) (omega arith) (parts-short mesh ok) });
+      table = limits-sound (record { parts = few; corners = omega arith; contours = unfold splitParts in all-short how {m = raised m} maxContour (parts mesh) (omega arith) (parts-short mesh ok) });
     }
 
 pub split-count : SplitCount

@@ -78,8 +78,8 @@ module _ (c b : Pt) (l : List Pt) where
 length-wedges : (c : Pt) (l : List Pt) → length (wedges c l) ≡ length l - 2
 length-wedges c l = length-links (getD l 1 O -ᵖ c) (seenFrom c (drop 2 l)) ∙ length-map (drop 2 l) (λ p. p -ᵖ c) ∙ length-drop 2 l
 
-wedge-at : (c : Pt) (l : List Pt) (i : ℕ) → 2 ≤ i → i < length l → getD (wedges c l) (i - 2) (O, O) ≡ (getD l (i - 1) O -ᵖ c, getD l i O -ᵖ c)
-wedge-at c l i h k =
+wedge-at : (c : Pt) (l : List Pt) {i : ℕ} → 2 ≤ i → i < length l → getD (wedges c l) (i - 2) (O, O) ≡ (getD l (i - 1) O -ᵖ c, getD l i O -ᵖ c)
+wedge-at c l {i} h k =
     getD-links (getD l 1 O -ᵖ c) (seenFrom c (drop 2 l)) (i - 2) (O -ᵖ c) (O, O) (omega (arith, length-map (drop 2 l) (λ p. p -ᵖ c), length-drop 2 l))
     ∙ ap₂ {C = Pt × Pt} (λ a b. (a, b)) (behind ∙ ap (λ n. getD l n O -ᵖ c) (omega arith)) (here ∙ ap (λ n. getD l n O -ᵖ c) (omega arith))
   where
@@ -116,11 +116,11 @@ sum-take g l k d {e} h p =
 module _ (c : Pt) (l : List Pt) (i : ℕ) (h : 2 ≤ i) (k : i < length l) where
   -- one wedge more
   more : (g : Pt × Pt → ℤ) → sumℤ (map g (take (suc (i - 2)) (wedges c l))) ≡ sumℤ (map g (take (i - 2) (wedges c l))) +ℤ g (getD l (i - 1) O -ᵖ c, getD l i O -ᵖ c)
-  more g = sum-take g (wedges c l) (i - 2) (O, O) (omega (arith, length-wedges c l)) (wedge-at c l i h k)
+  more g = sum-take g (wedges c l) (i - 2) (O, O) (omega (arith, length-wedges c l)) (wedge-at c l h k)
 
   pub sofar-turn : {s r : Sums} → Sofar c l (i - 2) s → Added s (getD l (i - 1) O -ᵖ c) (getD l i O -ᵖ c) r → Sofar c l (i + 1 - 2) r
   sofar-turn {s} {r} p q =
-      subst (λ m. Sofar c l m r) (next i h) (record {
+      subst (λ m. Sofar c l m r) (next h) (record {
         area = q .area ∙ ap (λ z. z +ℤ cross (getD l (i - 1) O -ᵖ c) (getD l i O -ᵖ c)) (p .area) ∙ sym (more (λ e. cross (e .0) (e .1)));
         x = q .x ∙ ap (λ z. z +ℤ term (λ p. p .x)) (p .x) ∙ sym (more (λ e. (e .0 .x +ℤ e .1 .x) *ℤ cross (e .0) (e .1)));
         y = q .y ∙ ap (λ z. z +ℤ term (λ p. p .y)) (p .y) ∙ sym (more (λ e. (e .0 .y +ℤ e .1 .y) *ℤ cross (e .0) (e .1)));
@@ -129,8 +129,8 @@ module _ (c : Pt) (l : List Pt) (i : ℕ) (h : 2 ≤ i) (k : i < length l) where
       term : (Pt → ℤ) → ℤ
       term f = (f (getD l (i - 1) O -ᵖ c) +ℤ f (getD l i O -ᵖ c)) *ℤ cross (getD l (i - 1) O -ᵖ c) (getD l i O -ᵖ c)
 
-      next : (i : ℕ) → 2 ≤ i → suc (i - 2) ≡ i + 1 - 2
-      next i h = omega arith
+      next : {i : ℕ} → 2 ≤ i → suc (i - 2) ≡ i + 1 - 2
+      next h = omega arith
 
 -- ---- what comes of a contour whose sums fit
 
@@ -140,13 +140,13 @@ all-take P k l h = all-append P (take k l) (drop k l) .0 (subst (All P) (sym (ta
 -- A of the first k is at most A of all
 area-take : (k : ℕ) (m : List (Pt × Pt)) → Wedges m → areaOf (take k m) ≤ℤ areaOf m
 area-take k m w =
-    of (areaOf (take k m)) (areaOf (drop k m)) (areaOf m) (sym whole) (area-least (drop k m) (all-append _ (take k m) (drop k m) .0 (subst Wedges (sym (take-append-drop k m)) w) .1))
+    of (areaOf (take k m)) (sym whole) (area-least (drop k m) (all-append _ (take k m) (drop k m) .0 (subst Wedges (sym (take-append-drop k m)) w) .1))
   where
     whole : areaOf m ≡ areaOf (take k m) +ℤ areaOf (drop k m)
     whole = ap areaOf (sym (take-append-drop k m)) ∙ ap sumℤ (map-append (λ e. cross (e .0) (e .1)) (take k m) (drop k m)) ∙ sum-append (map (λ e. cross (e .0) (e .1)) (take k m)) (map (λ e. cross (e .0) (e .1)) (drop k m))
 
-    of : (a b n : ℤ) → a +ℤ b ≡ n → pos 0 ≤ℤ b → a ≤ℤ n
-    of a b n e h = omega (zarith, e, add-parts a b)
+    of : (a : ℤ) {b n : ℤ} → a +ℤ b ≡ n → pos 0 ≤ℤ b → a ≤ℤ n
+    of a {b} e h = omega (zarith, e, add-parts a b)
 
 module _ (c b : Pt) (l : List Pt) (h : Summable (c ∷ b ∷ l)) where
   wedges-left : Wedges (wedges c (c ∷ b ∷ l))
@@ -158,11 +158,11 @@ module _ (c b : Pt) (l : List Pt) (h : Summable (c ∷ b ∷ l)) where
 
   area-below : (k : ℕ) → natAbs (areaOf (take k (wedges c (c ∷ b ∷ l)))) < 2 ^ 63
   area-below k =
-      of (areaOf (take k (wedges c (c ∷ b ∷ l)))) (contourArea (c ∷ b ∷ l)) (area-least (take k (wedges c (c ∷ b ∷ l))) (all-take _ k (wedges c (c ∷ b ∷ l)) wedges-left))
+      of (area-least (take k (wedges c (c ∷ b ∷ l))) (all-take _ k (wedges c (c ∷ b ∷ l)) wedges-left))
       (subst (λ z. areaOf (take k (wedges c (c ∷ b ∷ l))) ≤ℤ z) area-is (area-take k (wedges c (c ∷ b ∷ l)) wedges-left)) (h .below)
     where
-      of : (a n : ℤ) → pos 0 ≤ℤ a → a ≤ℤ n → natAbs n < 2 ^ 63 → natAbs a < 2 ^ 63
-      of a n g k m = omega (zarith, abs-parts a, abs-parts n)
+      of : {a n : ℤ} → pos 0 ≤ℤ a → a ≤ℤ n → natAbs n < 2 ^ 63 → natAbs a < 2 ^ 63
+      of {a} {n} g k m = omega (zarith, abs-parts a, abs-parts n)
 
   module _ (f : Pt → ℤ) (minus : (a b : Pt) → f (a -ᵖ b) ≡ f a -ℤ f b) (small : (p : Pt) → onGrid p ≡ true → Coordinate (f p)) where
     moment-below : (k : ℕ) → natAbs (momentOf f (take k (wedges c (c ∷ b ∷ l)))) < 2 ^ 96
@@ -175,10 +175,10 @@ module _ (c b : Pt) (l : List Pt) (h : Summable (c ∷ b ∷ l)) where
         )
 
 -- there is room for one wedge more
-pub sofar-room : {l : List Pt} → Summable l → (i : ℕ) → 2 ≤ i → i < length l → {s : Sums} → Sofar (getD l 0 O) l (i - 2) s → Roomy s (cross (getD l (i - 1) O -ᵖ getD l 0 O) (getD l i O -ᵖ getD l 0 O))
-sofar-room {l = []} h i g k p = absurd (omega arith)
-sofar-room {l = c ∷ []} h i g k p = absurd (omega arith)
-sofar-room {l = c ∷ b ∷ l} h i g k {s} p = record {
+pub sofar-room : {l : List Pt} → Summable l → {i : ℕ} → 2 ≤ i → i < length l → {s : Sums} → Sofar (getD l 0 O) l (i - 2) s → Roomy s (cross (getD l (i - 1) O -ᵖ getD l 0 O) (getD l i O -ᵖ getD l 0 O))
+sofar-room {l = []} h g k p = absurd (omega arith)
+sofar-room {l = c ∷ []} h g k p = absurd (omega arith)
+sofar-room {l = c ∷ b ∷ l} h {i} g k {s} p = record {
   area =
       subst (λ z. natAbs z < 2 ^ 63) (more c (c ∷ b ∷ l) i g k (λ e. cross (e .0) (e .1)) ∙ ap (λ z. z +ℤ cross (getD (c ∷ b ∷ l) (i - 1) O -ᵖ c) (getD (c ∷ b ∷ l) i O -ᵖ c)) (sym (p .area))) (area-below c b l h (suc (i - 2)));
   x = high (s .x) (p .x) (moment-below c b l h (λ p. p .x) (λ a b. refl) (λ p g. on-grid-both p g .0) (i - 2));

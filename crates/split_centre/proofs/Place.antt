@@ -24,8 +24,8 @@ use Rattle.split_centre.specs.Centre.{Summable, Summed, Placed}
 use Rattle.split_centre.proofs.Range.{areaOf, momentOf, low, high, area-above, edges-between, moment-size, offset-between, coordinate-in-range}
 
 -- h 2^64 ≤ |M| < 2^32 A
-high-below-area : (v : SignedProduct) (A : ℤ) → pos 0 <ℤ A → natAbs (value v) ≤ 4294967292 * natAbs A → v .words .high < 3 * natAbs A
-high-below-area v A p h = omega (zarith, p, h, abs-parts A, signed-size (v .negative) (magnitude (v .words)))
+high-below-area : (v : SignedProduct) {A : ℤ} → pos 0 <ℤ A → natAbs (value v) ≤ 4294967292 * natAbs A → v .words .high < 3 * natAbs A
+high-below-area v {A} p h = omega (zarith, p, h, abs-parts A, signed-size (v .negative) (magnitude (v .words)))
 
 extent-of : {z r : ℤ} → Coordinate z → low z ≤ℤ r → r ≤ℤ high z → Extent r
 extent-of {z} {r} h l u = record { abs = omega (zarith, sub-parts (pos 1073741823) z, sub-parts (negsuc 1073741822) z, abs-parts z, abs-parts r, h .abs) }
@@ -37,7 +37,7 @@ module _ (f : Pt → ℤ) (minus : (a b : Pt) → f (a -ᵖ b) ≡ f a -ℤ f b)
   placed : (v : SignedProduct) {A : ℤ} → A ≡ areaOf seen → value v ≡ momentOf f seen → Placed (f c) v (3 * natAbs A)
   placed v e g =
       subst (λ a. Placed (f c) v (3 * natAbs a)) (sym e) (record {
-        high = high-below-area v (areaOf seen) (area-above f minus small c l h) (subst (λ m. natAbs m ≤ 4294967292 * natAbs (areaOf seen)) (sym g) (moment-size f (small c (h .grid .0)) seen (h .wedges) (edges-between f minus small c l h)));
+        high = high-below-area v (area-above f minus small c l h) (subst (λ m. natAbs m ≤ 4294967292 * natAbs (areaOf seen)) (sym g) (moment-size f (small c (h .grid .0)) seen (h .wedges) (edges-between f minus small c l h)));
         offset = subst (λ m. Extent (rounded m (3 * natAbs (areaOf seen)))) (sym g) (extent-of (small c (h .grid .0)) (offset-between f minus small c l h .0) (offset-between f minus small c l h .1));
         place = subst (λ m. Coordinate (f c +ℤ rounded m (3 * natAbs (areaOf seen)))) (sym g) (in-range-coordinate _ (coordinate-in-range f minus small c l h));
       })

@@ -83,16 +83,16 @@ pub area-seen : (c : Pt) (l : List Pt) → contourArea (seenFrom c l) ≡ contou
 area-seen c l = contour-shift (negᵖ c) l
 
 -- 2 k A ≤ M and k ≤ 0 give k 3 A ≤ M
-third-least : (k A M : ℤ) → k ≤ℤ pos 0 → pos 0 <ℤ A → ((k +ℤ k) *ℤ A) ≤ℤ M → (k *ℤ pos (3 * natAbs A)) ≤ℤ M
-third-least k (negsuc a) M h p l = absurd (p .lt)
-third-least k (pos a) M h p l = of k a M (nn-mul {a = pos a} (omega zarith) (sub-of-≤ h)) l
+third-least : {k : ℤ} (A : ℤ) {M : ℤ} → k ≤ℤ pos 0 → pos 0 <ℤ A → ((k +ℤ k) *ℤ A) ≤ℤ M → (k *ℤ pos (3 * natAbs A)) ≤ℤ M
+third-least (negsuc a) h p l = absurd (p .lt)
+third-least {k} (pos a) {M} h p l = of k a M (nn-mul {a = pos a} (omega zarith) (sub-of-≤ h)) l
   where
     of : (k : ℤ) (a : ℕ) (M : ℤ) → pos 0 ≤ℤ (pos a *ℤ (pos 0 -ℤ k)) → ((k +ℤ k) *ℤ pos a) ≤ℤ M → (k *ℤ (pos 3 *ℤ pos a)) ≤ℤ M
     of = arithℤ (int ∷ nat ∷ int ∷ []) (λ k a M. con (pos 0) :≤ a :* (con (pos 0) :- k) ⇒ (k :+ k) :* a :≤ M ⇒ k :* (con (pos 3) :* a) :≤ M) (omega arith)
 
-third-most : (k A M : ℤ) → pos 0 ≤ℤ k → pos 0 <ℤ A → M ≤ℤ ((k +ℤ k) *ℤ A) → M ≤ℤ (k *ℤ pos (3 * natAbs A))
-third-most k (negsuc a) M h p l = absurd (p .lt)
-third-most k (pos a) M h p l = of k a M (nn-mul {a = pos a} (omega zarith) h) l
+third-most : {k : ℤ} (A : ℤ) {M : ℤ} → pos 0 ≤ℤ k → pos 0 <ℤ A → M ≤ℤ ((k +ℤ k) *ℤ A) → M ≤ℤ (k *ℤ pos (3 * natAbs A))
+third-most (negsuc a) h p l = absurd (p .lt)
+third-most {k} (pos a) {M} h p l = of k a M (nn-mul {a = pos a} (omega zarith) h) l
   where
     of : (k : ℤ) (a : ℕ) (M : ℤ) → pos 0 ≤ℤ (pos a *ℤ k) → M ≤ℤ ((k +ℤ k) *ℤ pos a) → M ≤ℤ (k *ℤ (pos 3 *ℤ pos a))
     of = arithℤ (int ∷ nat ∷ int ∷ []) (λ k a M. con (pos 0) :≤ a :* k ⇒ M :≤ (k :+ k) :* a ⇒ M :≤ k :* (con (pos 3) :* a)) (omega arith)
@@ -123,9 +123,9 @@ high-above : {z : ℤ} → Coordinate z → pos 0 ≤ℤ high z
 high-above {z} h = omega (zarith, sub-parts (pos 1073741823) z, abs-parts z, h .abs)
 
 -- |M| ≤ 2 (2^31 - 2) A
-size-of : {k : ℤ} → Coordinate k → (A M : ℤ) → pos 0 ≤ℤ A → ((low k +ℤ low k) *ℤ A) ≤ℤ M → M ≤ℤ ((high k +ℤ high k) *ℤ A) → natAbs M ≤ 4294967292 * natAbs A
-size-of h (negsuc a) M p l u = absurd (p .le)
-size-of {k} h (pos a) M p l u =
+size-of : {k : ℤ} → Coordinate k → (A : ℤ) {M : ℤ} → pos 0 ≤ℤ A → ((low k +ℤ low k) *ℤ A) ≤ℤ M → M ≤ℤ ((high k +ℤ high k) *ℤ A) → natAbs M ≤ 4294967292 * natAbs A
+size-of h (negsuc a) p l u = absurd (p .le)
+size-of {k} h (pos a) {M} p l u =
     let t : M ≤ℤ pos (4294967292 * a) = most (high k) a M (nn-mul p (sub-of-≤ (high-most h))) u in
     let b : (pos 0 -ℤ pos (4294967292 * a)) ≤ℤ M = least (low k) a M (nn-mul p (low-least h)) l in
     omega (zarith, t, b, sub-parts (pos 0) (pos (4294967292 * a)), abs-parts M)
@@ -145,14 +145,14 @@ size-of {k} h (pos a) M p l u =
 -- of edges whose ends are between the limits seen from k
 pub moment-size : (f : Pt → ℤ) {k : ℤ} → Coordinate k → (m : List (Pt × Pt)) → Wedges m → All (λ e. Between k (f (e .0)) × Between k (f (e .1))) m → natAbs (momentOf f m) ≤ 4294967292 * natAbs (areaOf m)
 moment-size f {k} h m w b =
-    size-of h (areaOf m) (momentOf f m) (area-least m w) (moment-least f (low k) m w (all-map m (λ e b. (b .0 .0, b .1 .0)) b)) (moment-most f (high k) m w (all-map m (λ e b. (b .0 .1, b .1 .1)) b))
+    size-of h (areaOf m) (area-least m w) (moment-least f (low k) m w (all-map m (λ e b. (b .0 .0, b .1 .0)) b)) (moment-most f (high k) m w (all-map m (λ e b. (b .0 .1, b .1 .1)) b))
 
-from-offset : (z r : ℤ) → low z ≤ℤ r → r ≤ℤ high z → inRange (z +ℤ r) ≡ true
-from-offset z r h k =
+from-offset : (z : ℤ) {r : ℤ} → low z ≤ℤ r → r ≤ℤ high z → inRange (z +ℤ r) ≡ true
+from-offset z {r} h k =
     in-range (z +ℤ r) (omega (zarith, add-parts z r, sub-parts (negsuc 1073741822) z)) (omega (zarith, add-parts z r, sub-parts (pos 1073741823) z))
 
-less-both : (a b s : ℤ) → a ≤ℤ b → (a -ℤ s) ≤ℤ (b -ℤ s)
-less-both a b s h = omega (zarith, sub-parts a s, sub-parts b s)
+less-both : {a b : ℤ} (s : ℤ) → a ≤ℤ b → (a -ℤ s) ≤ℤ (b -ℤ s)
+less-both {a} {b} s h = omega (zarith, sub-parts a s, sub-parts b s)
 
 -- ---- a coordinate of the centre
 
@@ -184,54 +184,54 @@ module _ (f : Pt → ℤ) (minus : (a b : Pt) → f (a -ᵖ b) ≡ f a -ℤ f b)
   offset-between =
       let k : Coordinate (f c) = small c (h .grid .0) in
       let d : 0 < 3 * natAbs (areaOf seen) = omega (zarith, area-above, abs-parts (areaOf seen)) in (
-        rounded-least (momentOf f seen) (low (f c)) (3 * natAbs (areaOf seen)) d
-            (third-least (low (f c)) (areaOf seen) (momentOf f seen) (low-below k) area-above (moment-between .0)),
-        rounded-most (momentOf f seen) (high (f c)) (3 * natAbs (areaOf seen)) d
-            (third-most (high (f c)) (areaOf seen) (momentOf f seen) (high-above k) area-above (moment-between .1)),
+        rounded-least (low (f c)) d
+            (third-least (areaOf seen) (low-below k) area-above (moment-between .0)),
+        rounded-most (momentOf f seen) (high (f c)) d
+            (third-most (areaOf seen) (high-above k) area-above (moment-between .1)),
       )
 
   -- where a coordinate of every corner is at least a, the centre's is; where at most, too
-  pub centre-least : (a : ℤ) → All (λ p. a ≤ℤ f p) (c ∷ l) → a ≤ℤ (f c +ℤ rounded (momentOf f seen) (3 * natAbs (areaOf seen)))
-  centre-least a g =
+  pub centre-least : {a : ℤ} → All (λ p. a ≤ℤ f p) (c ∷ l) → a ≤ℤ (f c +ℤ rounded (momentOf f seen) (3 * natAbs (areaOf seen)))
+  centre-least {a} g =
       let k : ℤ = a -ℤ f c in
       let r : ℤ = rounded (momentOf f seen) (3 * natAbs (areaOf seen)) in
       let d : 0 < 3 * natAbs (areaOf seen) = omega (zarith, area-above, abs-parts (areaOf seen)) in
-      let e : All (λ p. k ≤ℤ f p) (seenFrom c (c ∷ l)) = all-image (λ p. k ≤ℤ f p) (λ p. p -ᵖ c) (c ∷ l) .1 (all-map (c ∷ l) (λ p q. rw (minus p c) (less-both a (f p) (f c) q)) g) in
+      let e : All (λ p. k ≤ℤ f p) (seenFrom c (c ∷ l)) = all-image (λ p. k ≤ℤ f p) (λ p. p -ᵖ c) (c ∷ l) .1 (all-map (c ∷ l) (λ p q. rw (minus p c) (less-both (f c) q)) g) in
       let b : k ≤ℤ r =
-      rounded-least (momentOf f seen) k (3 * natAbs (areaOf seen)) d
-      (third-least k (areaOf seen) (momentOf f seen) (omega (zarith, sub-parts a (f c), g .0)) area-above (moment-least f k seen (h .wedges) (all-neighbours (λ p. k ≤ℤ f p) (seenFrom c (c ∷ l)) e))) in
+      rounded-least k d
+      (third-least {k = k} (areaOf seen) (omega (zarith, sub-parts a (f c), g .0)) area-above (moment-least f k seen (h .wedges) (all-neighbours (λ p. k ≤ℤ f p) (seenFrom c (c ∷ l)) e))) in
       omega (zarith, b, sub-parts a (f c), add-parts (f c) r)
 
-  pub centre-most : (a : ℤ) → All (λ p. f p ≤ℤ a) (c ∷ l) → (f c +ℤ rounded (momentOf f seen) (3 * natAbs (areaOf seen))) ≤ℤ a
-  centre-most a g =
+  pub centre-most : {a : ℤ} → All (λ p. f p ≤ℤ a) (c ∷ l) → (f c +ℤ rounded (momentOf f seen) (3 * natAbs (areaOf seen))) ≤ℤ a
+  centre-most {a} g =
       let k : ℤ = a -ℤ f c in
       let r : ℤ = rounded (momentOf f seen) (3 * natAbs (areaOf seen)) in
       let d : 0 < 3 * natAbs (areaOf seen) = omega (zarith, area-above, abs-parts (areaOf seen)) in
-      let e : All (λ p. f p ≤ℤ k) (seenFrom c (c ∷ l)) = all-image (λ p. f p ≤ℤ k) (λ p. p -ᵖ c) (c ∷ l) .1 (all-map (c ∷ l) (λ p q. rw (minus p c) (less-both (f p) a (f c) q)) g) in
+      let e : All (λ p. f p ≤ℤ k) (seenFrom c (c ∷ l)) = all-image (λ p. f p ≤ℤ k) (λ p. p -ᵖ c) (c ∷ l) .1 (all-map (c ∷ l) (λ p q. rw (minus p c) (less-both (f c) q)) g) in
       let b : r ≤ℤ k =
-      rounded-most (momentOf f seen) k (3 * natAbs (areaOf seen)) d
-      (third-most k (areaOf seen) (momentOf f seen) (omega (zarith, sub-parts a (f c), g .0)) area-above (moment-most f k seen (h .wedges) (all-neighbours (λ p. f p ≤ℤ k) (seenFrom c (c ∷ l)) e))) in
+      rounded-most (momentOf f seen) k d
+      (third-most {k = k} (areaOf seen) (omega (zarith, sub-parts a (f c), g .0)) area-above (moment-most f k seen (h .wedges) (all-neighbours (λ p. f p ≤ℤ k) (seenFrom c (c ∷ l)) e))) in
       omega (zarith, b, sub-parts a (f c), add-parts (f c) r)
 
   pub coordinate-in-range : inRange (f c +ℤ rounded (momentOf f seen) (3 * natAbs (areaOf seen))) ≡ true
-  coordinate-in-range = from-offset (f c) (rounded (momentOf f seen) (3 * natAbs (areaOf seen))) (offset-between .0) (offset-between .1)
+  coordinate-in-range = from-offset (f c) (offset-between .0) (offset-between .1)
 
-pub centre-on-grid : (c : Pt) (l : List Pt) → Summable (c ∷ l) → onGrid (centreOf c (c ∷ l)) ≡ true
+pub centre-on-grid : {c : Pt} {l : List Pt} → Summable (c ∷ l) → onGrid (centreOf c (c ∷ l)) ≡ true
 unfolding onGrid centreOf momentX momentY contourArea
-centre-on-grid c l h =
+centre-on-grid {c} {l} h =
     rw (coordinate-in-range (λ p. p .x) (λ a b. refl) (λ p g. on-grid-both p g .0) c l h) (coordinate-in-range (λ p. p .y) (λ a b. refl) (λ p g. on-grid-both p g .1) c l h)
 
 -- the centre is within any bounds of the corners
-pub centre-within : (c : Pt) (l : List Pt) → Summable (c ∷ l) → (a b d e : ℤ) → All (λ p. ((a ≤ℤ p .x) × (p .x ≤ℤ b)) × ((d ≤ℤ p .y) × (p .y ≤ℤ e))) (c ∷ l)
+pub centre-within : {c : Pt} {l : List Pt} → Summable (c ∷ l) → {a b d e : ℤ} → All (λ p. ((a ≤ℤ p .x) × (p .x ≤ℤ b)) × ((d ≤ℤ p .y) × (p .y ≤ℤ e))) (c ∷ l)
     → ((a ≤ℤ centreOf c (c ∷ l) .x) × (centreOf c (c ∷ l) .x ≤ℤ b)) × ((d ≤ℤ centreOf c (c ∷ l) .y) × (centreOf c (c ∷ l) .y ≤ℤ e))
 unfolding centreOf momentX momentY contourArea
-centre-within c l h a b d e g = (
+centre-within {c} {l} h {a} {b} {d} {e} g = (
   (
-    centre-least (λ p. p .x) (λ u v. refl) (λ p k. on-grid-both p k .0) c l h a (all-map (c ∷ l) (λ p q. q .0 .0) g),
-    centre-most (λ p. p .x) (λ u v. refl) (λ p k. on-grid-both p k .0) c l h b (all-map (c ∷ l) (λ p q. q .0 .1) g),
+    centre-least (λ p. p .x) (λ u v. refl) (λ p k. on-grid-both p k .0) c l h (all-map (c ∷ l) (λ p q. q .0 .0) g),
+    centre-most (λ p. p .x) (λ u v. refl) (λ p k. on-grid-both p k .0) c l h (all-map (c ∷ l) (λ p q. q .0 .1) g),
   ),
   (
-    centre-least (λ p. p .y) (λ u v. refl) (λ p k. on-grid-both p k .1) c l h d (all-map (c ∷ l) (λ p q. q .1 .0) g),
-    centre-most (λ p. p .y) (λ u v. refl) (λ p k. on-grid-both p k .1) c l h e (all-map (c ∷ l) (λ p q. q .1 .1) g),
+    centre-least (λ p. p .y) (λ u v. refl) (λ p k. on-grid-both p k .1) c l h (all-map (c ∷ l) (λ p q. q .1 .0) g),
+    centre-most (λ p. p .y) (λ u v. refl) (λ p k. on-grid-both p k .1) c l h (all-map (c ∷ l) (λ p q. q .1 .1) g),
   ),
 )

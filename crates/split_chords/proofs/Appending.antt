@@ -20,8 +20,8 @@ use Rattle.split_chords.specs.Runs.{runOf}
 
 -- ---- a point copied
 
-pub row-appended : (points : List (List ℤ)) (n : ℕ) (row : List ℤ) → n < length points → Appended (cornerOf row ∷ []) points n (set points n row) (n + 1)
-row-appended points n row h = record {
+pub row-appended : (points : List (List ℤ)) {n : ℕ} (row : List ℤ) → n < length points → Appended (cornerOf row ∷ []) points n (set points n row) (n + 1)
+row-appended points {n} row h = record {
   size = length-set points n row;
   count = refl;
   written = ap (map cornerOf) (ap (λ k. take k (set points n row)) (add-one n) ∙ take-suc-set points n row h) ∙ map-append cornerOf (take n points) (row ∷ []);
@@ -51,20 +51,20 @@ module _ (contour : List (List ℤ)) (i : ℕ) (points : List (List ℤ)) (count
 -- ---- one part
 
 module _ (s : List ℕ) (p : List (List ℤ)) (t : Tally) where
-  room-points : (q : List Pt) → RoomFor s p t (q ∷ []) → t .corners + length q ≤ length p
+  room-points : {q : List Pt} → RoomFor s p t (q ∷ []) → t .corners + length q ≤ length p
   unfolding flatten
-  room-points q r = omega (arith, r .for-points, ap length (append-nil q))
+  room-points {q} r = omega (arith, r .for-points, ap length (append-nil q))
 
   -- there is room for a part's first point, then for the others
-  pub room-point : (a : Pt) (l : List Pt) → RoomFor s p t ((a ∷ l) ∷ []) → t .corners < length p
-  room-point a l r = omega (arith, room-points (a ∷ l) r)
+  pub room-point : {a : Pt} {l : List Pt} → RoomFor s p t ((a ∷ l) ∷ []) → t .corners < length p
+  room-point {a} {l} r = omega (arith, room-points r)
 
-  pub room-run : (a : Pt) (l : List Pt) {p′ : List (List ℤ)} {n : ℕ} → RoomFor s p t ((a ∷ l) ∷ []) → Appended (a ∷ []) p (t .corners) p′ n → n + length l ≤ length p′
-  room-run a l r e = omega (arith, room-points (a ∷ l) r, e .count, e .size)
+  pub room-run : {a : Pt} {l : List Pt} {p′ : List (List ℤ)} {n : ℕ} → RoomFor s p t ((a ∷ l) ∷ []) → Appended (a ∷ []) p (t .corners) p′ n → n + length l ≤ length p′
+  room-run {a} {l} r e = omega (arith, room-points r, e .count, e .size)
 
   -- the part's end has a number of 32 bits
   pub room-end : {q : List Pt} {p′ : List (List ℤ)} {n : ℕ} → RoomFor s p t (q ∷ []) → Appended q p (t .corners) p′ n → n < 2 ^ 32
-  room-end {q} r e = omega (arith, room-points q r, e .count, r .small)
+  room-end {q} r e = omega (arith, room-points r, e .count, r .small)
 
 -- a part's points are put after the others, and the part is ended
 pub part-ended : {q : List Pt} {s : List ℕ} {p : List (List ℤ)} {t : Tally} {s′ : List ℕ} {p′ : List (List ℤ)} {n : ℕ} {r : Tally} → RoomFor s p t (q ∷ []) → Appended q p (t .corners) p′ n → (s′ ≡ set s (t .parts + 1) n) × (r ≡ record { parts = t .parts + 1; corners = n }) → PartsAppended (q ∷ []) s p t s′ p′ r

@@ -38,7 +38,7 @@ fan-whole (c ∷ l) limit h = ap (λ n. fanned (triangleShares (suc n) limit) (c
 module _ (contour : List (List ℤ)) (s₀ : List ℕ) (p₀ : List (List ℤ)) (t₀ : Tally) where
   pub fanning-start : (limit : ℕ) {k : ℕ} → 3 ≤ length contour → 0 < k → k ≡ ceilDiv (length contour - 2) (limit - 2) → Fanning contour (fanParts limit (cornersIn contour)) (length contour - 2) k 0 1 s₀ p₀ t₀ s₀ p₀ t₀
   fanning-start limit {k} h some e = record {
-    size = omega (arith, h, ap sumℕ (shares-all (length contour - 2) k), sum-shares (length contour - 2) k some);
+    size = omega (arith, h, ap sumℕ (shares-all (length contour - 2) k), sum-shares (length contour - 2) some);
     partway = partway-start (fanParts limit (cornersIn contour)) s₀ p₀ t₀ (ap (λ ss. fanned ss (cornerIn contour 0) (drop 1 (cornersIn contour))) (shares-all (length contour - 2) k ∙ ap (shares (length contour - 2)) e) ∙ fan-whole contour limit h);
   }
 
@@ -47,21 +47,21 @@ module _ (contour : List (List ℤ)) (s₀ : List ℕ) (p₀ : List (List ℤ)) 
       next : fanFrom contour n k i start ≡ ((cornerIn contour 0 ∷ runOf contour start (m + 1)) ∷ []) ++ fanFrom contour n k (i + 1) (start + m)
       unfolding fanned
       next =
-          ap (λ ss. fanned ss (cornerIn contour 0) (drop start (cornersIn contour))) (shares-next n k i h ∙ ap (λ q. q ∷ sharesFrom n k (i + 1) (k - (i + 1))) (sym e))
+          ap (λ ss. fanned ss (cornerIn contour 0) (drop start (cornersIn contour))) (shares-next n h ∙ ap (λ q. q ∷ sharesFrom n k (i + 1) (k - (i + 1))) (sym e))
           ∙ ap (λ l. (cornerIn contour 0 ∷ runOf contour start (m + 1)) ∷ fanned (sharesFrom n k (i + 1) (k - (i + 1))) (cornerIn contour 0) l) (drop-drop m start (cornersIn contour))
 
       pub fanning-within : start + m < length contour
-      fanning-within = omega (arith, f .size, sum-next n k i h, e)
+      fanning-within = omega (arith, f .size, sum-next n h, e)
 
       pub fanning-room : RoomFor s₀ p₀ t₀ qs → RoomFor s p t ((cornerIn contour 0 ∷ runOf contour start (m + 1)) ∷ [])
       fanning-room r = partway-room qs s₀ p₀ t₀ ((cornerIn contour 0 ∷ runOf contour start (m + 1)) ∷ []) (fanFrom contour n k (i + 1) (start + m)) r (f .partway) next
 
       pub fanning-turn : {s′ : List ℕ} {p′ : List (List ℤ)} {t′ : Tally} → PartsAppended ((cornerIn contour 0 ∷ runOf contour start (m + 1)) ∷ []) s p t s′ p′ t′ → Fanning contour qs n k (i + 1) (start + m) s₀ p₀ t₀ s′ p′ t′
       fanning-turn a = record {
-        size = omega (arith, f .size, sum-next n k i h, e);
+        size = omega (arith, f .size, sum-next n h, e);
         partway = partway-turn qs s₀ p₀ t₀ (f .partway) next a;
       }
 
     pub fanning-end : k ≤ i → PartsAppended qs s₀ p₀ t₀ s p t
     unfolding fanned
-    fanning-end h = partway-end qs s₀ p₀ t₀ (f .partway) (ap (λ ss. fanned ss (cornerIn contour 0) (drop start (cornersIn contour))) (shares-none n k i h))
+    fanning-end h = partway-end qs s₀ p₀ t₀ (f .partway) (ap (λ ss. fanned ss (cornerIn contour 0) (drop start (cornersIn contour))) (shares-none n h))

@@ -65,7 +65,7 @@ centre-grid [] n h e = absurd (omega arith)
 centre-grid (r ∷ contour) n h e =
     let l = cornersIn (r ∷ contour) in
     let f = at-of (centreServes (roundedCentre l) l) (gridPoint (roundedCentre l)) e in
-    let k = on-grid-both (roundedCentre l) (centre-on-grid (cornerOf r) (cornersIn contour) h) in
+    let k = on-grid-both (roundedCentre l) (centre-on-grid h) in
     rw (f .1) (record { x-small = k .0; y-small = k .1 })
 
 -- else the fan's

@@ -46,8 +46,8 @@ module _ (contour : List (List ℤ)) (s₀ : List ℕ) (p₀ : List (List ℤ)) 
   clipping-start limit {k} h some e f = record {
     left = upTo (length contour);
     ringed = ringed-start (omega arith) f;
-    here = sym (getD-upTo (length contour) 0 0 (omega arith));
-    size = omega (arith, h, length-upTo (length contour), ap sumℕ (shares-all (length contour - 2) k), sum-shares (length contour - 2) k some);
+    here = sym (getD-upTo (length contour) 0 (omega arith));
+    size = omega (arith, h, length-upTo (length contour), ap sumℕ (shares-all (length contour - 2) k), sum-shares (length contour - 2) some);
     partway = partway-start (earParts limit (cornersIn contour)) s₀ p₀ t₀
         (ap₂ clipped (shares-all (length contour - 2) k ∙ ap (shares (length contour - 2)) e ∙ ap (λ n. triangleShares n limit) (sym (length-map contour cornerOf))) (corners-all contour));
   }
@@ -62,7 +62,7 @@ module _ (contour : List (List ℤ)) (s₀ : List ℕ) (p₀ : List (List ℤ)) 
       rest = drop (m + 1) (f .left) ++ take 1 (f .left)
 
       enough : m + 1 < length (f .left)
-      enough = omega (arith, f .size, sum-next n k i h, e)
+      enough = omega (arith, f .size, sum-next n h, e)
 
       ear : take (m + 2) (map (cornerIn contour) (f .left)) ≡ cornerIn contour start ∷ cornersAfter contour ring start (m + 1)
       ear =
@@ -76,7 +76,7 @@ module _ (contour : List (List ℤ)) (s₀ : List ℕ) (p₀ : List (List ℤ)) 
       next : earsFrom contour n k i (f .left) ≡ ((cornerIn contour start ∷ cornersAfter contour ring start (m + 1)) ∷ []) ++ earsFrom contour n k (i + 1) rest
       unfolding clipped
       next =
-          ap (λ ss. clipped ss (map (cornerIn contour) (f .left))) (shares-next n k i h ∙ ap (λ q. q ∷ sharesFrom n k (i + 1) (k - (i + 1))) (sym e))
+          ap (λ ss. clipped ss (map (cornerIn contour) (f .left))) (shares-next n h ∙ ap (λ q. q ∷ sharesFrom n k (i + 1) (k - (i + 1))) (sym e))
           ∙ ap₂ (λ q l. q ∷ clipped (sharesFrom n k (i + 1) (k - (i + 1))) l) ear left-corners
 
       pub clipping-room : RoomFor s₀ p₀ t₀ qs → RoomFor s p t ((cornerIn contour start ∷ cornersAfter contour ring start (m + 1)) ∷ [])
@@ -90,10 +90,10 @@ module _ (contour : List (List ℤ)) (s₀ : List ℕ) (p₀ : List (List ℤ)) 
               left = rest;
               ringed = ringed-turn ring (length contour) (f .left) (f .ringed) (m + 1) (omega arith) enough c;
               here = b ∙ ap (λ j. getD ring′ j 0) (f .here) ∙ ringed-next ring (length contour) (f .left) (f .ringed) (m + 1) (omega arith) enough c;
-              size = omega (arith, f .size, sum-next n k i h, e, length-append (drop (m + 1) (f .left)) (take 1 (f .left)), length-drop (m + 1) (f .left), length-take-le 1 (f .left) (omega (arith, enough)));
+              size = omega (arith, f .size, sum-next n h, e, length-append (drop (m + 1) (f .left)) (take 1 (f .left)), length-drop (m + 1) (f .left), length-take-le 1 (f .left) (omega (arith, enough)));
               partway = partway-turn qs s₀ p₀ t₀ (f .partway) next (a .1);
             }
 
     pub clipping-end : k ≤ i → PartsAppended qs s₀ p₀ t₀ s p t
     unfolding clipped
-    clipping-end h = partway-end qs s₀ p₀ t₀ (f .partway) (ap (λ ss. clipped ss (map (cornerIn contour) (f .left))) (shares-none n k i h))
+    clipping-end h = partway-end qs s₀ p₀ t₀ (f .partway) (ap (λ ss. clipped ss (map (cornerIn contour) (f .left))) (shares-none n h))

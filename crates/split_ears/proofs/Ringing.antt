@@ -33,8 +33,8 @@ filled-turn ring {i} h f e j k =
     (λ t. let q : j ≡ i = eqb-true j i t in ap (λ n. getD (set ring i (i + 1)) n 0) q ∙ getD-set-same ring i (i + 1) 0 h ∙ ap (λ n. n + 1) (sym q))
     (λ t. getD-set-other ring i j (i + 1) 0 (eqb-false j i t) ∙ f j (omega (arith, eqb-false j i t)))
 
-pub filled-end : (ring : List ℕ) (n : ℕ) {ring′ : List ℕ} → 0 < n → n ≤ length ring → Filled ring (n - 1) → ring′ ≡ set ring (n - 1) 0 → Fresh ring′ n
-filled-end ring n h k f e = record {
+pub filled-end : (ring : List ℕ) {n : ℕ} {ring′ : List ℕ} → 0 < n → n ≤ length ring → Filled ring (n - 1) → ring′ ≡ set ring (n - 1) 0 → Fresh ring′ n
+filled-end ring {n} h k f e = record {
   room = omega (arith, ap length e, length-set ring (n - 1) 0);
   next = λ i j. ap (λ l. getD l i 0) e ∙ getD-set-other ring (n - 1) i 0 0 (λ q. omega (arith, q)) ∙ f i j;
   last = ap (λ l. getD l (n - 1) 0) e ∙ getD-set-same ring (n - 1) 0 0 (omega arith);
@@ -91,17 +91,17 @@ pub record Ringed (ring : List ℕ) (n : ℕ) (ks : List ℕ) : Type 0 where
 pub ringed-start : {ring : List ℕ} {n : ℕ} → 0 < n → Fresh ring n → Ringed ring n (upTo n)
 ringed-start {ring} {n} some f = record {
   steps = record { room = f .room; below = below };
-  within = λ j h. omega (arith, at j h, size);
-  linked = λ j h. ap (λ i. getD ring i 0) (at j (omega arith)) ∙ f .next j (omega (arith, size)) ∙ sym (at (j + 1) h);
-  closed = λ h. ap (λ i. getD ring i 0) (at (length (upTo n) - 1) (omega arith) ∙ ap (λ m. m - 1) size) ∙ f .last ∙ sym (at 0 h);
-  distinct = λ i j h k e. sym (at i h) ∙ e ∙ at j k;
+  within = λ j h. omega (arith, at h, size);
+  linked = λ j h. ap (λ i. getD ring i 0) (at (omega arith)) ∙ f .next j (omega (arith, size)) ∙ sym (at h);
+  closed = λ h. ap (λ i. getD ring i 0) (at (omega arith) ∙ ap (λ m. m - 1) size) ∙ f .last ∙ sym (at h);
+  distinct = λ i j h k e. sym (at h) ∙ e ∙ at k;
 }
   where
     size : length (upTo n) ≡ n
     size = length-upTo n
 
-    at : (j : ℕ) → j < length (upTo n) → getD (upTo n) j 0 ≡ j
-    at j h = getD-upTo n j 0 (omega (arith, size))
+    at : {j : ℕ} → j < length (upTo n) → getD (upTo n) j 0 ≡ j
+    at {j} h = getD-upTo n 0 (omega (arith, size))
 
     below : (i : ℕ) → i < n → getD ring i 0 < n
     below i h =
@@ -141,16 +141,16 @@ module _ (ring : List ℕ) (n : ℕ) (ks : List ℕ) (r : Ringed ring n ks) wher
     abbrev place : ℕ → ℕ
     place j = cond (ltb (m + j) (length ks)) (m + j) 0
 
-    at-place : (j : ℕ) → j < length (drop m ks ++ take 1 ks) → getD (drop m ks ++ take 1 ks) j 0 ≡ getD ks (place j) 0
-    at-place j h = by-test (ltb (m + j) (length ks))
+    at-place : {j : ℕ} → j < length (drop m ks ++ take 1 ks) → getD (drop m ks ++ take 1 ks) j 0 ≡ getD ks (place j) 0
+    at-place {j} h = by-test (ltb (m + j) (length ks))
         (λ t. rw t (at-near j (ltb-true (m + j) (length ks) t)))
         (λ t. rw t (at-last j (omega (arith, ltb-false (m + j) (length ks) t, length-left))))
 
     place-below : (j : ℕ) → place j < length ks
     place-below j = by-test (ltb (m + j) (length ks)) (λ t. rw t (ltb-true (m + j) (length ks) t)) (λ t. rw t (omega arith))
 
-    place-once : (i j : ℕ) → i < length (drop m ks ++ take 1 ks) → j < length (drop m ks ++ take 1 ks) → place i ≡ place j → i ≡ j
-    place-once i j h k = by-test (ltb (m + i) (length ks))
+    place-once : {i j : ℕ} → i < length (drop m ks ++ take 1 ks) → j < length (drop m ks ++ take 1 ks) → place i ≡ place j → i ≡ j
+    place-once {i} {j} h k = by-test (ltb (m + i) (length ks))
         (λ t. by-test (ltb (m + j) (length ks))
         (λ u. rw (t, u) (λ q. omega (arith, q)))
         (λ u. rw (t, u) (λ q. omega (arith, q))))
@@ -163,18 +163,18 @@ module _ (ring : List ℕ) (n : ℕ) (ks : List ℕ) (r : Ringed ring n ks) wher
         ap (λ l. getD l (getD ks 0 0) 0) e ∙ getD-set-same ring (getD ks 0 0) (stepped ring (getD ks 0 0) m) 0 (omega (arith, r .within 0 (omega arith), r .steps .room))
         ∙ ringed-steps m few
 
-    next-other : (i : ℕ) → (i ≡ getD ks 0 0 → ⊥) → getD ring′ i 0 ≡ getD ring i 0
-    next-other i d = ap (λ l. getD l i 0) e ∙ getD-set-other ring (getD ks 0 0) i (stepped ring (getD ks 0 0) m) 0 d
+    next-other : {i : ℕ} → (i ≡ getD ks 0 0 → ⊥) → getD ring′ i 0 ≡ getD ring i 0
+    next-other {i} d = ap (λ l. getD l i 0) e ∙ getD-set-other ring (getD ks 0 0) i (stepped ring (getD ks 0 0) m) 0 d
 
     below : (i : ℕ) → i < n → getD ring′ i 0 < n
     below i h = by-test (eqb i (getD ks 0 0))
         (λ t. omega (arith, ap (λ k. getD ring′ k 0) (eqb-true i (getD ks 0 0) t), next-first, r .within m few))
-        (λ t. omega (arith, next-other i (eqb-false i (getD ks 0 0) t), r .steps .below i h))
+        (λ t. omega (arith, next-other (eqb-false i (getD ks 0 0) t), r .steps .below i h))
 
     linked : (j : ℕ) → j + 1 < length (drop m ks ++ take 1 ks) → getD ring′ (getD (drop m ks ++ take 1 ks) j 0) 0 ≡ getD (drop m ks ++ take 1 ks) (j + 1) 0
     linked j h =
         let k : m + j < length ks = omega (arith, length-left) in
-        ap (λ i. getD ring′ i 0) (at-near j k) ∙ next-other (getD ks (m + j) 0) (λ q. omega (arith, r .distinct (m + j) 0 k (omega arith) q))
+        ap (λ i. getD ring′ i 0) (at-near j k) ∙ next-other {i = getD ks (m + j) 0} (λ q. omega (arith, r .distinct (m + j) 0 k (omega arith) q))
         ∙ by-test (ltb (m + j + 1) (length ks))
         (λ t. r .linked (m + j) (ltb-true (m + j + 1) (length ks) t) ∙ ap (λ i. getD ks i 0) (omega arith) ∙ sym (at-near (j + 1) (omega (arith, ltb-true (m + j + 1) (length ks) t))))
         (λ t. ap (λ i. getD ring (getD ks i 0) 0) (omega (arith, ltb-false (m + j + 1) (length ks) t)) ∙ r .closed (omega arith) ∙ sym (at-last (j + 1) (omega (arith, ltb-false (m + j + 1) (length ks) t))))
@@ -185,8 +185,8 @@ module _ (ring : List ℕ) (n : ℕ) (ks : List ℕ) (r : Ringed ring n ks) wher
     pub ringed-turn : Ringed ring′ n (drop m ks ++ take 1 ks)
     ringed-turn = record {
       steps = record { room = omega (arith, r .steps .room, ap length e, length-set ring (getD ks 0 0) (stepped ring (getD ks 0 0) m)); below = below };
-      within = λ j h. omega (arith, at-place j h, r .within (place j) (place-below j));
+      within = λ j h. omega (arith, at-place h, r .within (place j) (place-below j));
       linked = linked;
       closed = λ h. ap (λ i. getD ring′ i 0) (at-last (length (drop m ks ++ take 1 ks) - 1) (omega (arith, length-left))) ∙ ringed-next;
-      distinct = λ i j h k q. place-once i j h k (r .distinct (place i) (place j) (place-below i) (place-below j) (sym (at-place i h) ∙ q ∙ at-place j k));
+      distinct = λ i j h k q. place-once h k (r .distinct (place i) (place j) (place-below i) (place-below j) (sym (at-place h) ∙ q ∙ at-place k));
     }

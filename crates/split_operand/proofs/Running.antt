@@ -24,28 +24,28 @@ use Rattle.convex_pairs.proofs.Triples.{Triples, triples-rotate}
 use Rattle.convex_pairs.proofs.Convexity.{Polygon, triples-wedges}
 
 -- at least 0 and no more than 2^63 − 1
-in-word : (z : ℤ) → pos 0 ≤ℤ z → z ≤ℤ pos 9223372036854775807 → inWord z ≡ true
-in-word z h k = rw (≤-ltZ {x = z} {y = negsuc 9223372036854775807} (omega zarith), ≤-leZ {x = z} {y = pos 9223372036854775807} k)
+in-word : {z : ℤ} → pos 0 ≤ℤ z → z ≤ℤ pos 9223372036854775807 → inWord z ≡ true
+in-word {z} h k = rw (≤-ltZ {x = z} {y = negsuc 9223372036854775807} (omega zarith), ≤-leZ {x = z} {y = pos 9223372036854775807} k)
 
 -- t and the terms so far are no more than t and all
-running : (t : ℤ) (l : List ℤ) → pos 0 ≤ℤ t → All (λ k. pos 0 ≤ℤ k) l → (t +ℤ sumℤ l) ≤ℤ pos 9223372036854775807 → totalLeaves t l ≡ false
+running : {t : ℤ} (l : List ℤ) → pos 0 ≤ℤ t → All (λ k. pos 0 ≤ℤ k) l → (t +ℤ sumℤ l) ≤ℤ pos 9223372036854775807 → totalLeaves t l ≡ false
 unfolding totalLeaves
-running t [] n h k = refl
-running t (x ∷ l) n h k =
-    let p = parts t x (sumℤ l) (sum-cons x l) n (h .0) (nn-sum l (h .1)) k in
-    rw (in-word (t +ℤ x) (p .0) (p .1)) (running (t +ℤ x) l (p .0) (h .1) (p .2))
+running [] n h k = refl
+running {t} (x ∷ l) n h k =
+    let p = parts (sum-cons x l) n (h .0) (nn-sum l (h .1)) k in
+    rw (in-word (p .0) (p .1)) (running l (p .0) (h .1) (p .2))
   where
-    parts : (t x r : ℤ) {s : ℤ} → s ≡ x +ℤ r → pos 0 ≤ℤ t → pos 0 ≤ℤ x → pos 0 ≤ℤ r → (t +ℤ s) ≤ℤ pos 9223372036854775807
+    parts : {t x r : ℤ} {s : ℤ} → s ≡ x +ℤ r → pos 0 ≤ℤ t → pos 0 ≤ℤ x → pos 0 ≤ℤ r → (t +ℤ s) ≤ℤ pos 9223372036854775807
         → (pos 0 ≤ℤ (t +ℤ x)) × ((t +ℤ x) ≤ℤ pos 9223372036854775807) × (((t +ℤ x) +ℤ r) ≤ℤ pos 9223372036854775807)
-    parts t x r {s} e a b c d =
+    parts {t} {x} {r} {s} e a b c d =
         (omega (zarith, add-parts t x), omega (zarith, add-parts t x, add-parts x r, add-parts t s), omega (zarith, add-parts t x, add-parts x r, add-parts t s, add-parts (t +ℤ x) r))
 
 -- seen from the corner at s
-terms-above : (s : ℕ) (l : List Pt) → s < length l → Triples l → All (λ k. pos 0 ≤ℤ k) (windingTerms s l)
+terms-above : {s : ℕ} (l : List Pt) → s < length l → Triples l → All (λ k. pos 0 ≤ℤ k) (windingTerms s l)
 unfolding windingTerms
-terms-above s l h t =
+terms-above {s} l h t =
     let c : Pt = cornerAt l s in
-    let at : rotate s l ≡ cornerAt l s ∷ (drop (suc s) l ++ take s l) = rotate-at s l O h in
+    let at : rotate s l ≡ cornerAt l s ∷ (drop (suc s) l ++ take s l) = rotate-at l O h in
     all-image (λ k. pos 0 ≤ℤ k) (λ e. cross (e .0 -ᵖ c) (e .1 -ᵖ c)) (neighbours (rotate s l)) .1
     (subst (λ r. All (λ e. pos 0 ≤ℤ areaTwo (cornerAt l s) (e .0) (e .1)) (neighbours r)) (sym at)
     (triples-wedges (cornerAt l s) (drop (suc s) l ++ take s l) (subst Triples at (triples-rotate s l t))))
@@ -54,7 +54,7 @@ pub winding-stays : (reflected : Bool) {l : List Pt} → Polygon l → contourAr
 unfolding windingLeaves
 winding-stays reflected {l} p k =
     let s : ℕ = startAt reflected l in
-    running (pos 0) (windingTerms s l) (omega zarith) (terms-above s l (start-inside reflected l (omega (arith, p .long))) (p .triples)) (from (winding-area s l) k)
+    running {t = pos 0} (windingTerms s l) (omega zarith) (terms-above l (start-inside reflected l (omega (arith, p .long))) (p .triples)) (from (winding-area s l) k)
   where
     from : {w a : ℤ} → w ≡ a → a ≤ℤ pos 9223372036854775807 → (pos 0 +ℤ w) ≤ℤ pos 9223372036854775807
     from {w} e h = omega (zarith, add-parts (pos 0) w)

@@ -26,10 +26,10 @@ use Rattle.split_operand.proofs.Operand.{split-fits}
 total-sum : (ps : List (List Pt)) → All Polygon ps → pos (totalArea ps) ≡ sumℤ (map contourArea ps)
 unfolding totalArea sumℤ
 total-sum [] h = refl
-total-sum (p ∷ ps) h = one (contourArea p) (totalArea ps) (polygon-area (h .0)) (total-sum ps (h .1))
+total-sum (p ∷ ps) h = one (polygon-area (h .0)) (total-sum ps (h .1))
   where
-    one : (a : ℤ) (n : ℕ) {s : ℤ} → pos 0 <ℤ a → pos n ≡ s → pos (natAbs a + n) ≡ a +ℤ s
-    one a n {s} h e = omega (zarith, abs-parts a, add-parts a s)
+    one : {a : ℤ} {n : ℕ} {s : ℤ} → pos 0 <ℤ a → pos n ≡ s → pos (natAbs a + n) ≡ a +ℤ s
+    one {a} {s} h e = omega (zarith, abs-parts a, add-parts a s)
 
 pub listing-total : ListingTotal
 listing-total how m mesh h =
@@ -38,9 +38,9 @@ listing-total how m mesh h =
     let total : pos (totalArea ps) ≡ meshArea mesh = total-sum ps polygons ∙ split-areas how m mesh h in
     record {
       total = total;
-      fits = below (totalArea ps) total (accepted mesh h .fits);
-      each = all-map2 ps (λ l p f. fits-word (contourArea l) (polygon-area p) f) polygons (split-fits how m mesh h);
+      fits = below total (accepted mesh h .fits);
+      each = all-map2 ps (λ l p f. fits-word (polygon-area p) f) polygons (split-fits how m mesh h);
     }
   where
-    below : (n : ℕ) {s : ℤ} → pos n ≡ s → s ≤ℤ pos 9223372036854775807 → n < 2 ^ 63
-    below n e h = omega zarith
+    below : {n : ℕ} {s : ℤ} → pos n ≡ s → s ≤ℤ pos 9223372036854775807 → n < 2 ^ 63
+    below e h = omega zarith

@@ -117,7 +117,7 @@ group-polygons (suc n) g s l h k =
     (λ d.
     let z : s ≡ 0 → ⊥ = eqb-false s 0 d in
     let e : ℕ = edgesTaken g s l in
-    let few : e ≤ s = edgesTaken-le g s l (omega (arith, z)) in
+    let few : e ≤ s = edgesTaken-le g l (omega (arith, z)) in
     rw d (group-polygon s l (omega (arith, z)) h k, group-polygons n g (s - e) (drop e l) (omega (arith, few, length-drop e l)) (around-drop g e l k)))
 
 sector-polygons : (ss : List ℕ) (g : Pt) (l : List Pt) → sumℕ ss < length l → Around g l → All Polygon (sectors ss g l)
@@ -136,18 +136,18 @@ spokes-of g a [] h = tt
 spokes-of g a (b ∷ l) h =
     by-test (ltZ (pos 0) (areaTwo a b g)) (λ e. (pos-is (sym (area-cycle g a b)) (ltZ-< (pos 0) (areaTwo a b g) e), spokes-of g b l (rw e at h))) (λ e. differ (rw e at h))
 
-around-contour : (g c : Pt) (l : List Pt) → Polygon (c ∷ l) → leftOfAll g (neighbours (c ∷ l)) ≡ true → Around g (c ∷ l ++ (c ∷ []))
+around-contour : (g : Pt) {c : Pt} (l : List Pt) → Polygon (c ∷ l) → leftOfAll g (neighbours (c ∷ l)) ≡ true → Around g (c ∷ l ++ (c ∷ []))
 unfolding neighbours
-around-contour g c [] p h = absurd (omega (arith, p .long))
-around-contour g c (a ∷ []) p h = absurd (omega (arith, p .long))
-around-contour g c (a ∷ b ∷ l) p h = (
+around-contour g [] p h = absurd (omega (arith, p .long))
+around-contour g (a ∷ []) p h = absurd (omega (arith, p .long))
+around-contour g {c} (a ∷ b ∷ l) p h = (
   spokes-of g c (a ∷ b ∷ l ++ (c ∷ [])) h,
   bends-front c a (b ∷ l ++ (c ∷ [])) a (subst (Bends c a) (sym (append-assoc (b ∷ l) (c ∷ []) (a ∷ []))) (triples-bends c a b l (p .triples))),
 )
 
-pub centroid-polygons : (m : ℕ) (g c : Pt) (l : List Pt) → 3 ≤ m → Polygon (c ∷ l) → leftOfAll g (neighbours (c ∷ l)) ≡ true → All Polygon (centroidParts m g c (c ∷ l))
-centroid-polygons m g c l h p t =
+pub centroid-polygons : {m : ℕ} (g : Pt) {c : Pt} {l : List Pt} → 3 ≤ m → Polygon (c ∷ l) → leftOfAll g (neighbours (c ∷ l)) ≡ true → All Polygon (centroidParts m g c (c ∷ l))
+centroid-polygons {m} g {c} {l} h p t =
     let k : ℕ = ceilDiv (suc (length l)) (m - 2) in
-    let all : sumℕ (shares (suc (length l)) k) ≡ suc (length l) = sum-shares (suc (length l)) k (ceil-pos (suc (length l)) (m - 2) (omega arith) (omega arith)) in
+    let all : sumℕ (shares (suc (length l)) k) ≡ suc (length l) = sum-shares (suc (length l)) (ceil-pos (suc (length l)) (m - 2) (omega arith) (omega arith)) in
     let size : length (c ∷ l ++ (c ∷ [])) ≡ suc (length l) + 1 = length-append (c ∷ l) (c ∷ []) in
-    sector-polygons (shares (suc (length l)) k) g (c ∷ l ++ (c ∷ [])) (omega (arith, all, size)) (around-contour g c l p t)
+    sector-polygons (shares (suc (length l)) k) g (c ∷ l ++ (c ∷ [])) (omega (arith, all, size)) (around-contour g l p t)

@@ -20,10 +20,10 @@ use Rattle.split.proofs.Sizes.{ceil-pos, shares-bound}
 
 -- n corners, three or more, for a limit of at least 3: a triangle or more in each share, n − 2 in
 -- all
-pub triangle-shares : (n m : ℕ) → 3 ≤ n → 3 ≤ m → All (λ s. 0 < s) (triangleShares n m) × (sumℕ (triangleShares n m) + 2 ≡ n)
-triangle-shares n m h k = (
+pub triangle-shares : {n m : ℕ} → 3 ≤ n → 3 ≤ m → All (λ s. 0 < s) (triangleShares n m) × (sumℕ (triangleShares n m) + 2 ≡ n)
+triangle-shares {n} {m} h k = (
   all-map (triangleShares n m) (λ s b. omega (arith, b .0)) (shares-bound (n - 2) (m - 2) (omega arith) (omega arith)),
-  omega (arith, sum-shares (n - 2) (ceilDiv (n - 2) (m - 2)) (ceil-pos (n - 2) (m - 2) (omega arith) (omega arith))),
+  omega (arith, sum-shares (n - 2) (ceil-pos (n - 2) (m - 2) (omega arith) (omega arith))),
 )
 
 -- ---- ear clipping
@@ -42,8 +42,8 @@ clipped-polygons (s ∷ ss) l p h t = (
       (omega (arith, h, length-append (drop (s + 1) l) (take 1 l), length-drop (s + 1) l, length-take 1 l)) (clipped-rest s l t),
 )
 
-pub ear-polygons : (m : ℕ) {l : List Pt} → 3 ≤ m → Polygon l → All Polygon (earParts m l)
-ear-polygons m {l} h p = let s = triangle-shares (length l) m (p .long) h in clipped-polygons (triangleShares (length l) m) l (s .0) (s .1) (p .triples)
+pub ear-polygons : {m : ℕ} {l : List Pt} → 3 ≤ m → Polygon l → All Polygon (earParts m l)
+ear-polygons {m} {l} h p = let s = triangle-shares (p .long) h in clipped-polygons (triangleShares (length l) m) l (s .0) (s .1) (p .triples)
 
 -- ---- fan
 
@@ -55,7 +55,7 @@ fanned-polygons (s ∷ ss) c l p h t = (
   fanned-polygons ss c (drop s l) (p .1) (omega (arith, h, length-drop s l)) (triples-after s c l t),
 )
 
-pub fan-polygons : (m : ℕ) {l : List Pt} → 3 ≤ m → Polygon l → All Polygon (fanParts m l)
+pub fan-polygons : {m : ℕ} {l : List Pt} → 3 ≤ m → Polygon l → All Polygon (fanParts m l)
 unfolding fanParts
-fan-polygons m {l = []} h p = tt
-fan-polygons m {l = c ∷ l} h p = let s = triangle-shares (suc (length l)) m (p .long) h in fanned-polygons (triangleShares (suc (length l)) m) c l (s .0) (omega (arith, s .1)) (p .triples)
+fan-polygons {l = []} h p = tt
+fan-polygons {m} {l = c ∷ l} h p = let s = triangle-shares (p .long) h in fanned-polygons (triangleShares (suc (length l)) m) c l (s .0) (omega (arith, s .1)) (p .triples)

@@ -37,13 +37,13 @@ use Rattle.split_pairs.specs.Premise.{PartsSummable}
 pub terms-most : (l : List ℤ) → All (λ k. pos 0 ≤ℤ k) l → All (λ k. k ≤ℤ sumℤ l) l
 terms-most [] h = tt
 terms-most (k ∷ l) h =
-    (first k (sumℤ l) (sum-cons k l) (nn-sum l (h .1)), all-map l (λ j g. other j k (sumℤ l) (sum-cons k l) (h .0) g) (terms-most l (h .1)))
+    (first k (sum-cons k l) (nn-sum l (h .1)), all-map l (λ j g. other (sum-cons k l) (h .0) g) (terms-most l (h .1)))
   where
-    first : (k t : ℤ) {s : ℤ} → s ≡ k +ℤ t → pos 0 ≤ℤ t → k ≤ℤ s
-    first k t e h = omega (zarith, add-parts k t)
+    first : (k : ℤ) {t : ℤ} {s : ℤ} → s ≡ k +ℤ t → pos 0 ≤ℤ t → k ≤ℤ s
+    first k {t} e h = omega (zarith, add-parts k t)
 
-    other : (j k t : ℤ) {s : ℤ} → s ≡ k +ℤ t → pos 0 ≤ℤ k → j ≤ℤ t → j ≤ℤ s
-    other j k t e h g = omega (zarith, add-parts k t)
+    other : {j k t : ℤ} {s : ℤ} → s ≡ k +ℤ t → pos 0 ≤ℤ k → j ≤ℤ t → j ≤ℤ s
+    other {k} {t} e h g = omega (zarith, add-parts k t)
 
 -- polygons whose doubled areas add up to what fits 64 bits: each does
 pub areas-fit : (ps : List (List Pt)) → All Polygon ps → sumℤ (map contourArea ps) ≤ℤ pos 9223372036854775807 → All (λ l. contourArea l ≤ℤ pos 9223372036854775807) ps
@@ -63,8 +63,8 @@ seen-wedges (c ∷ l) h =
     (all-map (neighbours (c ∷ l)) (λ e k. ≤-leZ k) (triples-wedges c l h)))
 
 -- a doubled area above 0 and no more than 2^63 − 1
-pub fits-word : (z : ℤ) → pos 0 <ℤ z → z ≤ℤ pos 9223372036854775807 → natAbs z < 2 ^ 63
-fits-word z h k = omega (zarith, abs-parts z)
+pub fits-word : {z : ℤ} → pos 0 <ℤ z → z ≤ℤ pos 9223372036854775807 → natAbs z < 2 ^ 63
+fits-word {z} h k = omega (zarith, abs-parts z)
 
 summable : {l : List Pt} → Polygon l → All (λ p. onGrid p ≡ true) l → length l ≤ maxContour → contourArea l ≤ℤ pos 9223372036854775807 → Summable l
 summable {l} p g s k = record {
@@ -72,7 +72,7 @@ summable {l} p g s k = record {
   size = s;
   wedges = seen-wedges l (p .triples);
   above = <-ltZ (polygon-area p);
-  below = fits-word (contourArea l) (polygon-area p) k;
+  below = fits-word (polygon-area p) k;
 }
 
 -- ---- all

@@ -40,18 +40,18 @@ pub serves-left : (g : Pt) (l : List Pt) → centreServes g l ≡ true → leftO
 unfolding centreServes
 serves-left g l h = by-test (ltZ (pos 3074457345618258602) (contourArea l)) (λ e. differ (rw e at h)) (λ e. rw e at h)
 
-by-polygons : (how : ConvexSplitStrategy) (m : ℕ) {l : List Pt} → 3 ≤ m → Polygon l → All Polygon (splitBy how m l)
+by-polygons : (how : ConvexSplitStrategy) {m : ℕ} {l : List Pt} → 3 ≤ m → Polygon l → All Polygon (splitBy how m l)
 unfolding centredParts
-by-polygons EarClipping m h p = ear-polygons m h p
-by-polygons Fan m h p = fan-polygons m h p
-by-polygons Centroid m {l = []} h p = tt
-by-polygons Centroid m {l = c ∷ l} h p =
+by-polygons EarClipping {m} h p = ear-polygons h p
+by-polygons Fan {m} h p = fan-polygons h p
+by-polygons Centroid {l = []} h p = tt
+by-polygons Centroid {m} {l = c ∷ l} h p =
     by-test (centreServes (centreOf c (c ∷ l)) (c ∷ l))
-    (λ e. rw e (centroid-polygons m (centreOf c (c ∷ l)) c l h p (serves-left (centreOf c (c ∷ l)) (c ∷ l) e))) (λ e. rw e (fan-polygons m h p))
+    (λ e. rw e (centroid-polygons (centreOf c (c ∷ l)) h p (serves-left (centreOf c (c ∷ l)) (c ∷ l) e))) (λ e. rw e (fan-polygons h p))
 
 contour-polygons : (how : ConvexSplitStrategy) (m : ℕ) {l : List Pt} → 3 ≤ m → Polygon l → All Polygon (splitContour how m l)
 unfolding splitContour
-contour-polygons how m {l} h p = by-test (leb (length l) m) (λ e. rw e (p, tt)) (λ e. rw e (by-polygons how m h p))
+contour-polygons how m {l} h p = by-test (leb (length l) m) (λ e. rw e (p, tt)) (λ e. rw e (by-polygons how h p))
 
 -- ---- all
 
@@ -66,7 +66,7 @@ split-polygons how m mesh h = all-split Polygon how m mesh (λ l p. contour-poly
 
 pub split-meets-premise : SplitMeetsPremise
 split-meets-premise how m mesh h =
-    all-map (splitParts how m mesh) (λ l p. record { premise = meets l (polygon-convex p); above = <-ltZ (polygon-area p) }) (split-polygons how m mesh h)
+    all-map (splitParts how m mesh) (λ l p. record { premise = meets (polygon-convex p); above = <-ltZ (polygon-area p) }) (split-polygons how m mesh h)
 
 pub split-reach : SplitReach
 split-reach reflected how m mesh how' m' mesh' h k =
@@ -77,7 +77,7 @@ split-reach reflected how m mesh how' m' mesh' h k =
 -- a part is not empty, for its doubled area is above 0
 part-centre : {l : List Pt} → Summable l → onGrid (roundedCentre l) ≡ true
 part-centre {l = []} s = unfold contourArea neighbours sumℤ in differ (s .above)
-part-centre {l = c ∷ l} s = centre-on-grid c l s
+part-centre {l = c ∷ l} s = centre-on-grid s
 
 pub split-on-grid : SplitOnGrid
 split-on-grid how m mesh h =

@@ -21,8 +21,8 @@ use Rattle.split_operand.specs.Operand.{splitOperand}
 use Rattle.split_results.specs.Chain.{Exact, EveryContourExact}
 
 -- of two parts that meet the premise
-pub exact-pair : (reflected : Bool) (A B : List Pt) → PartMeets A → PartMeets B → Exact reflected A B (pairContour reflected A B)
-exact-pair reflected A B a b = record {
+pub exact-pair : (reflected : Bool) {A B : List Pt} → PartMeets A → PartMeets B → Exact reflected A B (pairContour reflected A B)
+exact-pair reflected {A} {B} a b = record {
   whole = emitted reflected A B (a .premise .1) (b .premise .1);
   berg = λ e. ap (λ t. pairContour t A B) e ∙ sum-is-de-berg A B (inl (a .premise .0)) (inl (b .premise .0));
 }
@@ -35,4 +35,4 @@ every-contour-exact reflected how m mesh b how′ m′ mesh′ b′ s c h k f i 
     (sym (ap (λ ps. getD ps (i * length (splitParts how′ m′ mesh′) + j) [])
     (result-is-pairs reflected (splitOperand how m mesh b) (splitOperand how′ m′ mesh′ b′) s c f ∙ ap₂ (pairsOf reflected) (parts-table (splitParts how m mesh)) (parts-table (splitParts how′ m′ mesh′)))
     ∙ each-pair reflected (splitParts how m mesh) (splitParts how′ m′ mesh′) i j hi hj))
-    (exact-pair reflected A B (all-getD PartMeets (splitParts how m mesh) [] (split-meets-premise how m mesh h) i hi) (all-getD PartMeets (splitParts how′ m′ mesh′) [] (split-meets-premise how′ m′ mesh′ k) j hj))
+    (exact-pair reflected (all-getD PartMeets (splitParts how m mesh) [] (split-meets-premise how m mesh h) i hi) (all-getD PartMeets (splitParts how′ m′ mesh′) [] (split-meets-premise how′ m′ mesh′ k) j hj))

@@ -21,8 +21,8 @@ module _ (contour : List (List ℤ)) where
   pub length-closed : length (closedOf contour) ≡ length contour + 1
   length-closed = omega (arith, length-append (cornersIn contour) (cornerIn contour 0 ∷ []), length-in)
 
-  pub closed-near : (i : ℕ) → i < length contour → getD (closedOf contour) i O ≡ cornerIn contour i
-  closed-near i h = List·getD-append (cornersIn contour) (cornerIn contour 0 ∷ []) O i (omega (arith, length-in)) ∙ corner-in contour i
+  pub closed-near : {i : ℕ} → i < length contour → getD (closedOf contour) i O ≡ cornerIn contour i
+  closed-near {i} h = List·getD-append (cornersIn contour) (cornerIn contour 0 ∷ []) O i (omega (arith, length-in)) ∙ corner-in contour i
 
   pub closed-last : (i : ℕ) → i ≡ length contour → getD (closedOf contour) i O ≡ cornerIn contour 0
   closed-last i e = getD-at (cornersIn contour) (cornerIn contour 0) [] O i (length-in ∙ sym e)

@@ -86,7 +86,7 @@ module _ (contour : List (List ℤ)) (g : Pt) (target at : ℕ) where
     sector-some = omega (arith, e)
 
     pub sector-within : end ≤ target
-    sector-within = omega (arith, e, edgesTaken-le g (target - at) (drop at (closedOf contour)) (omega arith))
+    sector-within = omega (arith, e, edgesTaken-le g {s = target - at} (drop at (closedOf contour)) (omega arith))
 
     pub group-turn : groupFrom contour g target at ≡ ((g ∷ arcOf contour at (end - at + 1)) ∷ []) ++ groupFrom contour g target end
     group-turn =
@@ -111,7 +111,7 @@ pub record Sectoring (contour : List (List ℤ)) (g : Pt) (qs : List (List Pt)) 
 module _ (contour : List (List ℤ)) (g : Pt) (s₀ : List ℕ) (p₀ : List (List ℤ)) (t₀ : Tally) where
   pub sectoring-start : (limit : ℕ) {k : ℕ} → 0 < k → k ≡ ceilDiv (length contour) (limit - 2) → Sectoring contour g (centroidParts limit g (cornerIn contour 0) (cornersIn contour)) (length contour) k 0 0 s₀ p₀ t₀ s₀ p₀ t₀
   sectoring-start limit {k} some e = record {
-    size = omega (arith, ap sumℕ (shares-all (length contour) k), sum-shares (length contour) k some);
+    size = omega (arith, ap sumℕ (shares-all (length contour) k), sum-shares (length contour) some);
     partway = partway-start (centroidParts limit g (cornerIn contour 0) (cornersIn contour)) s₀ p₀ t₀
         (ap (λ ss. sectors ss g (closedOf contour))
         (shares-all (length contour) k ∙ ap (shares (length contour)) e ∙ ap (λ n. shares n (ceilDiv n (limit - 2))) (sym (length-map contour cornerOf))));
@@ -123,21 +123,21 @@ module _ (contour : List (List ℤ)) (g : Pt) (s₀ : List ℕ) (p₀ : List (Li
       unfolding sectors
       next =
           let q : m ≡ start + m - start = omega arith in
-          ap (λ ss. sectors ss g (drop start (closedOf contour))) (shares-next n k i h ∙ ap (λ q. q ∷ sharesFrom n k (i + 1) (k - (i + 1))) (sym e))
+          ap (λ ss. sectors ss g (drop start (closedOf contour))) (shares-next n h ∙ ap (λ q. q ∷ sharesFrom n k (i + 1) (k - (i + 1))) (sym e))
           ∙ ap₂ (λ j l. groupParts j g j (drop start (closedOf contour)) ++ sectors (sharesFrom n k (i + 1) (k - (i + 1))) g l) q (drop-drop m start (closedOf contour))
 
       pub sectoring-within : start + m ≤ length contour
-      sectoring-within = omega (arith, f .size, sum-next n k i h, e)
+      sectoring-within = omega (arith, f .size, sum-next n h, e)
 
       pub sectoring-room : RoomFor s₀ p₀ t₀ qs → RoomFor s p t (groupFrom contour g (start + m) start)
       sectoring-room r = partway-room qs s₀ p₀ t₀ (groupFrom contour g (start + m) start) (sectorsFrom contour g n k (i + 1) (start + m)) r (f .partway) next
 
       pub sectoring-turn : {s′ : List ℕ} {p′ : List (List ℤ)} {t′ : Tally} → PartsAppended (groupFrom contour g (start + m) start) s p t s′ p′ t′ → Sectoring contour g qs n k (i + 1) (start + m) s₀ p₀ t₀ s′ p′ t′
       sectoring-turn a = record {
-        size = omega (arith, f .size, sum-next n k i h, e);
+        size = omega (arith, f .size, sum-next n h, e);
         partway = partway-turn qs s₀ p₀ t₀ (f .partway) next a;
       }
 
     pub sectoring-end : k ≤ i → PartsAppended qs s₀ p₀ t₀ s p t
     unfolding sectors
-    sectoring-end h = partway-end qs s₀ p₀ t₀ (f .partway) (ap (λ ss. sectors ss g (drop start (closedOf contour))) (shares-none n k i h))
+    sectoring-end h = partway-end qs s₀ p₀ t₀ (f .partway) (ap (λ ss. sectors ss g (drop start (closedOf contour))) (shares-none n h))

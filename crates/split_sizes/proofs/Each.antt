@@ -76,14 +76,14 @@ unfolding flatten startsOf startsFrom
 first-gathered s p h e = record { parts = refl; corners = refl; begins = ap (take 1) e ∙ take-suc-set s 0 0 h; gathered = refl }
 
 -- the room is the same once a start is put
-pub resized : (s s′ : List ℕ) (p : List (List ℤ)) {t : Tally} {qs : List (List Pt)} → length s′ ≡ length s → RoomFor s p t qs → RoomFor s′ p t qs
-resized s s′ p e r = record { for-starts = omega (arith, r .for-starts, e); for-points = r .for-points; small = r .small }
+pub resized : {s : List ℕ} (s′ : List ℕ) {p : List (List ℤ)} {t : Tally} {qs : List (List Pt)} → length s′ ≡ length s → RoomFor s p t qs → RoomFor s′ p t qs
+resized s′ e r = record { for-starts = omega (arith, r .for-starts, e); for-points = r .for-points; small = r .small }
 
 -- ---- joined parts
 
 -- the buffers hold just the parts gathered there
-pub parts-in : (s : List ℕ) (p : List (List ℤ)) (t : Tally) (ps : List (List Pt)) → Gathered s p t ps → partsIn s p t ≡ ps
-parts-in s p t ps g = (λ i. partsOf (g .begins i) (g .gathered i)) ∙ parts-starts ps
+pub parts-in : {s : List ℕ} {p : List (List ℤ)} {t : Tally} {ps : List (List Pt)} → Gathered s p t ps → partsIn s p t ≡ ps
+parts-in {ps} g = (λ i. partsOf (g .begins i) (g .gathered i)) ∙ parts-starts ps
 
 -- joined part k: where it lies in the buffers, and that its sums fit
 module _ (s : List ℕ) (p : List (List ℤ)) (t : Tally) (k : ℕ) (j : Splittable s p t) (h : k < t .parts) where
@@ -91,7 +91,7 @@ module _ (s : List ℕ) (p : List (List ℤ)) (t : Tally) (k : ℕ) (j : Splitta
   starts-enough = omega (arith, h, enough-starts s p t (partsIn s p t) (j .gathered))
 
   pub placed : PartPlaced s p k (getD (partsIn s p t) k [])
-  placed = part-placed s p t (partsIn s p t) (j .gathered) k (omega (arith, h, j .gathered .parts))
+  placed = part-placed s p t (partsIn s p t) (j .gathered) (omega (arith, h, j .gathered .parts))
 
   pub sums-fit : Summable (getD (partsIn s p t) k [])
   sums-fit = all-getD Summable (partsIn s p t) [] (j .summable) k (omega (arith, h, j .gathered .parts))
@@ -100,14 +100,14 @@ module _ (s : List ℕ) (p : List (List ℤ)) (t : Tally) (k : ℕ) (j : Splitta
 module _ (s : List ℕ) (p : List (List ℤ)) (t : Tally) (rows : List (List ℤ)) (e : firstFault (meshKinds (rowsMesh rows)) ≡ 0) (g : Gathered s p t (parts (rowsMesh rows))) where
   pub splittable : Splittable s p t
   splittable =
-      let q = sym (parts-in s p t (parts (rowsMesh rows)) g) in
+      let q = sym (parts-in g) in
       record { gathered = subst (Gathered s p t) q g; summable = subst (All Summable) q (parts-summable (rowsMesh rows) e) }
 
   module _ (how : ConvexSplitStrategy) (m : ℕ) {r : ℕ} (q : r ≡ raised m) where
     -- they split as the mesh's parts do
     pub split-in : splitEach how r (partsIn s p t) ≡ splitParts how m (rowsMesh rows)
     unfolding splitParts
-    split-in = (λ i. splitEach how (q i) (parts-in s p t (parts (rowsMesh rows)) g i))
+    split-in = (λ i. splitEach how (q i) (parts-in g i))
 
     -- Σ 2 (n − 2) parts and Σ 6 (n − 2) corners, and Σ (n − 2) is at most the number of triangles
     pub few-in : (length (splitEach how r (partsIn s p t)) ≤ 2 * length rows) × (length (flatten (splitEach how r (partsIn s p t))) ≤ 6 * length rows)

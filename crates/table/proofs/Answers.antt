@@ -48,7 +48,7 @@ module _ (ps : List (List Pt)) (s : List ℕ) (c : List ℤ) where
   corners-back =
       let n : length (startsOf ps) ≡ suc (length ps) = length-starts ps in
       let total : getD (startsOf ps) (length ps) 0 ≡ length (flatten ps) = unfold startsOf in (start-last 0 ps ∙ omega arith) in
-      let last : getD (overlay (startsOf ps) s) (length ps) 0 ≡ length (flatten ps) = getD-overlay (startsOf ps) s (length ps) 0 (omega (arith, n)) ∙ total in
+      let last : getD (overlay (startsOf ps) s) (length ps) 0 ≡ length (flatten ps) = getD-overlay (startsOf ps) s 0 (omega (arith, n)) ∙ total in
       let size : 2 * length (flatten ps) ≡ length (cornersOf ps) = unfold cornersOf in sym (length-numbers (flatten ps)) in
       ap (λ m. take m (overlay (cornersOf ps) c)) (ap (λ m. 2 * m) last ∙ size) ∙ take-overlay (cornersOf ps) c
 

@@ -97,9 +97,9 @@ module _ (m n a b : ℕ) (s : List ℕ) (i : ℕ) (h : i < length s) (p : b ≡ 
       let f = either-false (ltb b a) (ltb (a + m) b) (sym e ∙ k) in
       rw (add-one, drop-cons s i 0, ← p, f .0, f .1)
 
-pub steps-end : (m n a : ℕ) (s : List ℕ) (i : ℕ) → length s ≤ i → stepsBroken m n a (drop i s) ≡ not (eqb a n)
+pub steps-end : (m n a : ℕ) (s : List ℕ) {i : ℕ} → length s ≤ i → stepsBroken m n a (drop i s) ≡ not (eqb a n)
 unfolding stepsBroken
-steps-end m n a s i h = rw (drop-of-length-le s {i = i} h)
+steps-end m n a s {i} h = rw (drop-of-length-le s {i = i} h)
 
 -- ---- a table that is not broken
 
@@ -156,10 +156,10 @@ pub record Ascends (m n : ℕ) (starts : List ℕ) : Type 0 where
   pub last : getD starts (partCount starts) 0 ≡ n
 
 ascends : {m n : ℕ} {starts : List ℕ} → From0 m n starts → Ascends m n starts
-ascends {m} {n} f = subst (Ascends m n) (sym (f .shape)) (of (f .rest) (f .steps))
+ascends {m} {n} f = subst (Ascends m n) (sym (f .shape)) (of (f .steps))
   where
-    of : (r : List ℕ) → stepsBroken m n 0 r ≡ false → Ascends m n (0 ∷ r)
-    of r q = record {
+    of : {r : List ℕ} → stepsBroken m n 0 r ≡ false → Ascends m n (0 ∷ r)
+    of {r} q = record {
       some = omega arith;
       first = refl;
       rises = λ k h. starts-step _ _ 0 r q k (omega arith) .0;
@@ -192,8 +192,8 @@ result-ascends s c e = ascends (from-0 s (was-taken (eqb (length c % 2) 0) _ e .
 -- ---- its parts give it back
 
 -- a part and the points from its end on are the points from its start on
-slice-drop : {A : Type 0} (a b : ℕ) (l : List A) → a ≤ b → b ≤ length l → slice a b l ++ drop b l ≡ drop a l
-slice-drop a b l h k =
+slice-drop : {A : Type 0} {a b : ℕ} (l : List A) → a ≤ b → b ≤ length l → slice a b l ++ drop b l ≡ drop a l
+slice-drop {a} {b} l h k =
     let e : a ≤ length (take b l) = subst (λ n. a ≤ n) (sym (length-take-le b l k)) h in
     sym (drop-append-le a (take b l) (drop b l) e) ∙ ap (drop a) (take-append-drop b l)
 
@@ -202,7 +202,7 @@ unfolding flatten partsOf
 flatten-parts m a [] l e = rw (last-step m (length l) a e) (sym (drop-length l))
 flatten-parts m a (b ∷ s) l e =
     let t = step m (length l) a b s e in
-    ap (λ r. slice a b l ++ r) (flatten-parts m b s l (t .rest)) ∙ slice-drop a b l (t .rises) (start-bound m (length l) b s (t .rest))
+    ap (λ r. slice a b l ++ r) (flatten-parts m b s l (t .rest)) ∙ slice-drop l (t .rises) (start-bound m (length l) b s (t .rest))
 
 pub startsFrom-parts : (m a : ℕ) (s : List ℕ) (l : List Pt) → stepsBroken m (length l) a s ≡ false → startsFrom a (partsOf (a ∷ s) l) ≡ a ∷ s
 unfolding startsFrom partsOf
@@ -296,10 +296,10 @@ unfolding tableParts cornersOf
 parts-table ps = rw points-numbers (parts-starts ps)
 
 -- no part has more corners than all have
-each-short : (k : ℕ) (ps : List (List Pt)) → length (flatten ps) ≤ k → All (λ p. length p ≤ k) ps
+each-short : {k : ℕ} (ps : List (List Pt)) → length (flatten ps) ≤ k → All (λ p. length p ≤ k) ps
 unfolding flatten
-each-short k [] h = tt
-each-short k (p ∷ ps) h = let e = length-append p (flatten ps) in (omega (arith, e, h), each-short k ps (omega (arith, e, h)))
+each-short [] h = tt
+each-short {k} (p ∷ ps) h = let e = length-append p (flatten ps) in (omega (arith, e, h), each-short ps (omega (arith, e, h)))
 
 -- any parts make a pair result's table
 pub parts-result : (ps : List (List Pt)) → resultBroken (startsOf ps) (cornersOf ps) ≡ false
@@ -307,5 +307,5 @@ unfolding resultBroken startsBroken startsOf cornersOf
 parts-result ps =
     let e : length (numbersOf (flatten ps)) ≡ 2 * length (flatten ps) = length-numbers (flatten ps) in
     let half : length (numbersOf (flatten ps)) / 2 ≡ length (flatten ps) = omega arith in
-    let r = startsFrom-steps (length (flatten ps)) (length (flatten ps)) 0 ps (omega arith) (each-short (length (flatten ps)) ps (omega arith)) in
+    let r = startsFrom-steps (length (flatten ps)) (length (flatten ps)) 0 ps (omega arith) (each-short ps (omega arith)) in
     rw (eq-eqb (length (numbersOf (flatten ps)) % 2) 0 (omega arith), half, r .1) (r .2)

@@ -53,9 +53,9 @@ module _ (ls : List ℕ) (lc : List ℤ) (rs : List ℕ) (rc : List ℤ) (right 
   pub shows : shownFault ls lc rs rc right k ≡ 0 → Shows
   unfolding shownFault
   shows e =
-      let f = first-none 7 (tableBroken ls lc) _ (omega arith) e in
-      let g = first-none 7 (tableBroken rs rc) _ (omega arith) (f .1) in
-      let h = first-none 12 (leb (partCount (cond right rs ls)) k) _ (omega arith) (g .1) in
+      let f = first-none (tableBroken ls lc) _ (omega arith) e in
+      let g = first-none (tableBroken rs rc) _ (omega arith) (f .1) in
+      let h = first-none (leb (partCount (cond right rs ls)) k) _ (omega arith) (g .1) in
       record { left = f .0; right-too = g .0; part = leb-false _ k (h .0) }
 
   -- the part, by the fault
@@ -75,8 +75,8 @@ pub record Placed (a b : ℕ) (corners : List ℤ) : Type 0 where
   pub within : 2 * b ≤ length corners
   pub few : b ≤ maxCorners
 
-pub placed : (starts : List ℕ) (corners : List ℤ) (k : ℕ) → tableBroken starts corners ≡ false → k < partCount starts → Placed (getD starts k 0) (getD starts (k + 1) 0) corners
-placed s c k e h =
+pub placed : (starts : List ℕ) (corners : List ℤ) {k : ℕ} → tableBroken starts corners ≡ false → k < partCount starts → Placed (getD starts k 0) (getD starts (k + 1) 0) corners
+placed s c {k} e h =
     let t = sound s c e in
     rw add-one (record { rises = t .rises k (omega arith); within = omega (arith, t .bounded (suc k) (omega arith)); few = omega (arith, t .bounded (suc k) (omega arith), t .few-corners) })
 
@@ -95,9 +95,9 @@ parts-at (a ∷ []) l k h = absurd (omega arith)
 parts-at (a ∷ b ∷ s) l zero h = refl
 parts-at (a ∷ b ∷ s) l (suc k) h = parts-at (b ∷ s) l k (omega arith)
 
-pub part-is : (starts : List ℕ) (corners : List ℤ) (k : ℕ) → k < partCount starts → pointsOf (partNumbers starts corners k) ≡ getD (tableParts starts corners) k []
+pub part-is : (starts : List ℕ) (corners : List ℤ) {k : ℕ} → k < partCount starts → pointsOf (partNumbers starts corners k) ≡ getD (tableParts starts corners) k []
 unfolding partNumbers tableParts
-part-is s c k h = points-slice (getD s k 0) (getD s (suc k) 0) c ∙ sym (parts-at s (pointsOf c) k h)
+part-is s c {k} h = points-slice (getD s k 0) (getD s (suc k) 0) c ∙ sym (parts-at s (pointsOf c) k h)
 
 -- ---- a part of corners in range
 

@@ -148,10 +148,10 @@ module _ (bytes : List ℕ) (e : lengthBroken bytes ≡ false) (whole : tableBro
 pub accepted : (bytes : List ℕ) (rs rc : ℕ) → readFault bytes rs rc ≡ 0 → Accepted bytes rs rc
 unfolding readFault storedBroken
 accepted bytes rs rc e =
-    let f = first-none 7 _ _ (omega arith) e in
-    let g = first-none 2 (offRange (storedCorners bytes)) _ (omega arith) (f .1) in
-    let h = first-none 22 (ltb rs (length (startsOf (storedParts bytes)))) _ (omega arith) (g .1) in
-    let i = first-none 21 (ltb (rc / 2) (length (flatten (storedParts bytes)))) _ (omega arith) (h .1) in
+    let f = first-none _ _ (omega arith) e in
+    let g = first-none (offRange (storedCorners bytes)) _ (omega arith) (f .1) in
+    let h = first-none (ltb rs (length (startsOf (storedParts bytes)))) _ (omega arith) (g .1) in
+    let i = first-none (ltb (rc / 2) (length (flatten (storedParts bytes)))) _ (omega arith) (h .1) in
     let l = either-false (lengthBroken bytes) _ (f .0) in
     record {
       sized-right = l .0;

@@ -76,9 +76,9 @@ crosses-round (p ∷ l) h =
     ∙ sym (ap crosses (links-last p l p) ∙ ap sumℤ (map-append f (links p l) ((lastOf p l, p) ∷ [])) ∙ sum-snoc (map f (links p l)) (f (lastOf p l, p)))
 
 -- the edge into corner k, and those after it
-crosses-next : (l : List Pt) (a : Pt) (k : ℕ) → k < length l → crosses (links a (drop k l)) ≡ cross a (cornerAt l k) +ℤ crosses (links (cornerAt l k) (drop (k + 1) l))
+crosses-next : (l : List Pt) (a : Pt) {k : ℕ} → k < length l → crosses (links a (drop k l)) ≡ cross a (cornerAt l k) +ℤ crosses (links (cornerAt l k) (drop (k + 1) l))
 unfolding links sumℤ
-crosses-next l a k h = rw (add-one, drop-cons l k O)
+crosses-next l a {k} h = rw (add-one, drop-cons l k O)
 
 -- (t + c) + r = t + (c + r)
 added : (t c r : ℤ) {u s x : ℤ} → t +ℤ x ≡ s → x ≡ c +ℤ r → u ≡ t +ℤ c → u +ℤ r ≡ s
@@ -96,7 +96,7 @@ module _ (l : List Pt) where
 
   pub sums-turn : {i k : ℕ} {t r : SignedProduct} {z : ℤ} → Summing i k t → k < length l → z ≡ cross (cornerAt l i) (cornerAt l k) → CrossSize z → value r ≡ value t +ℤ z → Summing k (k + 1) r
   sums-turn {i} {k} {t} {r} {z} s h e c v = record {
-    sum = added (value t) z (crosses (links (cornerAt l k) (drop (k + 1) l))) (s .sum) (crosses-next l (cornerAt l i) k h ∙ ap (λ x. x +ℤ crosses (links (cornerAt l k) (drop (k + 1) l))) (sym e)) v;
+    sum = added (value t) z (crosses (links (cornerAt l k) (drop (k + 1) l))) (s .sum) (crosses-next l (cornerAt l i) h ∙ ap (λ x. x +ℤ crosses (links (cornerAt l k) (drop (k + 1) l))) (sym e)) v;
     size = record { most = omega (arith, ap natAbs v, abs-+ (value t) z, s .size .most, c .abs) };
   }
 
@@ -114,10 +114,10 @@ no-corners (p ∷ l) h = absurd (omega (arith, h))
 -- contour k as the machine takes it has as many corners as lie between its starts, or fewer
 pub taken-terms : (starts : List ℕ) (corners : List ℤ) (k : ℕ) {l : List ℤ} {p : SignedProduct}
     → l ≡ cornersBetween (getD starts k 0) (getD starts (k + 1) 0) corners → Terms (length (pointsOf l)) p → Terms (getD starts (k + 1) 0 - getD starts k 0) p
-taken-terms s c k {l} {p} e t = of _ (getD s (k + 1) 0) (getD s k 0) (ap (λ m. length (pointsOf m)) e ∙ ap length (points-slice (getD s k 0) (getD s (k + 1) 0) c) ∙ length-drop (getD s k 0) (take (getD s (k + 1) 0) (pointsOf c))) (omega (arith, length-take (getD s (k + 1) 0) (pointsOf c))) t
+taken-terms s c k {l} {p} e t = of (getD s (k + 1) 0) (getD s k 0) (ap (λ m. length (pointsOf m)) e ∙ ap length (points-slice (getD s k 0) (getD s (k + 1) 0) c) ∙ length-drop (getD s k 0) (take (getD s (k + 1) 0) (pointsOf c))) (omega (arith, length-take (getD s (k + 1) 0) (pointsOf c))) t
   where
-    of : (n b a : ℕ) {m : ℕ} → n ≡ m - a → m ≤ b → Terms n p → Terms (b - a) p
-    of n b a e h t = let l : n ≤ b - a = omega arith in record { most = omega (arith, t .most) }
+    of : {n : ℕ} (b a : ℕ) {m : ℕ} → n ≡ m - a → m ≤ b → Terms n p → Terms (b - a) p
+    of {n} b a e h t = let l : n ≤ b - a = omega arith in record { most = omega (arith, t .most) }
 
 module _ (ps : List (List Pt)) where
   -- the total, and the areas from contour k on, make the whole; n corners are before it
@@ -128,13 +128,13 @@ module _ (ps : List (List Pt)) where
   pub totals-start : {n : ℕ} → Totalling n 0 (record { negative = false; words = record { high = 0; low = 0 } })
   totals-start = record { sum = +ℤ-idl (totalArea ps); size = record { most = omega arith } }
 
-  totals-next : (k : ℕ) → k < length ps → totalArea (drop k ps) ≡ contourArea (getD ps k []) +ℤ totalArea (drop (k + 1) ps)
+  totals-next : {k : ℕ} → k < length ps → totalArea (drop k ps) ≡ contourArea (getD ps k []) +ℤ totalArea (drop (k + 1) ps)
   unfolding totalArea sumℤ
-  totals-next k h = rw (add-one, drop-cons ps k [])
+  totals-next {k} h = rw (add-one, drop-cons ps k [])
 
   pub totals-turn : {n m k : ℕ} {t a r : SignedProduct} → Totalling n k t → k < length ps → value a ≡ contourArea (getD ps k []) → Terms (m - n) a → n ≤ m → value r ≡ value t +ℤ value a → Totalling m (k + 1) r
   totals-turn {n} {m} {k} {t} {a} {r} s h e c rises v = record {
-    sum = added (value t) (value a) (totalArea (drop (k + 1) ps)) (s .sum) (totals-next k h ∙ ap (λ x. x +ℤ totalArea (drop (k + 1) ps)) (sym e)) v;
+    sum = added (value t) (value a) (totalArea (drop (k + 1) ps)) (s .sum) (totals-next h ∙ ap (λ x. x +ℤ totalArea (drop (k + 1) ps)) (sym e)) v;
     size = record { most = omega (arith, ap natAbs v, abs-+ (value t) (value a), s .size .most, c .most, rises) };
   }
 

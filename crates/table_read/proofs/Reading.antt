@@ -79,8 +79,8 @@ module _ (bytes : List ℕ) where
 
 -- ---- start i is word i + 2
 
-pub start-at : (bytes : List ℕ) (i : ℕ) → i < wordAt bytes 0 + 1 → wordAt bytes (i + 2) ≡ getD (storedStarts bytes) i 0
-start-at bytes i h =
+pub start-at : (bytes : List ℕ) {i : ℕ} → i < wordAt bytes 0 + 1 → wordAt bytes (i + 2) ≡ getD (storedStarts bytes) i 0
+start-at bytes {i} h =
     ap (λ k. getD (wordsOf bytes) k 0) (add-comm i 2)
     ∙ sym (getD-take (wordAt bytes 0 + 1) (drop 2 (wordsOf bytes)) i 0 h ∙ getD-drop 2 (wordsOf bytes) i 0)
 
@@ -89,21 +89,21 @@ module _ (bytes : List ℕ) (e : lengthBroken bytes ≡ false) (count : ℕ) whe
   many = count-starts bytes (sized bytes e)
 
   pub starts-not-0 : {w : ℕ} → w ≡ wordAt bytes 2 → (w ≡ 0 → ⊥) → startsBroken maxContour count (storedStarts bytes) ≡ true
-  starts-not-0 p h = not-from-0 maxContour count (storedStarts bytes) (λ z. h (p ∙ start-at bytes 0 (omega arith) ∙ z))
+  starts-not-0 p h = not-from-0 maxContour count (storedStarts bytes) (λ z. h (p ∙ start-at bytes {i = 0} (omega arith) ∙ z))
 
   pub starts-at-0 : {w : ℕ} → w ≡ wordAt bytes 2 → w ≡ 0 → startsBroken maxContour count (storedStarts bytes) ≡ stepsBroken maxContour count 0 (drop 1 (storedStarts bytes))
-  starts-at-0 p h = steps-begin maxContour count (storedStarts bytes) (λ z. omega (arith, many)) (sym (p ∙ start-at bytes 0 (omega arith)) ∙ h)
+  starts-at-0 p h = steps-begin maxContour count (storedStarts bytes) (λ z. omega (arith, many)) (sym (p ∙ start-at bytes {i = 0} (omega arith)) ∙ h)
 
   -- start i comes after `last`; r is whether it may not
   module _ (last next i : ℕ) (h : i < wordAt bytes 0 + 1) (p : next ≡ wordAt bytes (i + 2)) {r : Bool} (f : r ≡ cond (ltb next last) true (ltb (last + maxContour) next)) where
     pub next-broken : r ≡ true → stepsBroken maxContour count last (drop i (storedStarts bytes)) ≡ true
-    next-broken k = step-broken maxContour count last next (storedStarts bytes) i (omega (arith, many)) (p ∙ start-at bytes i h) f k
+    next-broken k = step-broken maxContour count last next (storedStarts bytes) i (omega (arith, many)) (p ∙ start-at bytes h) f k
 
     pub next-passed : r ≡ false → stepsBroken maxContour count last (drop i (storedStarts bytes)) ≡ stepsBroken maxContour count next (drop (i + 1) (storedStarts bytes))
-    next-passed k = step-passed maxContour count last next (storedStarts bytes) i (omega (arith, many)) (p ∙ start-at bytes i h) f k
+    next-passed k = step-passed maxContour count last next (storedStarts bytes) i (omega (arith, many)) (p ∙ start-at bytes h) f k
 
   pub last-start : (last i : ℕ) → wordAt bytes 0 + 1 ≤ i → stepsBroken maxContour count last (drop i (storedStarts bytes)) ≡ not (eqb last count)
-  last-start last i h = steps-end maxContour count last (storedStarts bytes) i (omega (arith, many))
+  last-start last i h = steps-end maxContour count last (storedStarts bytes) {i = i} (omega (arith, many))
 
 -- ---- number i, judged
 

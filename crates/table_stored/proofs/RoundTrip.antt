@@ -107,8 +107,8 @@ module _ (bytes os : List ℕ) (oc : List ℤ) (e : faultRead bytes os oc ≡ 0)
   corners-told : cornersTold bytes os oc ≡ storedCorners bytes
   corners-told = (λ i. take (corners-many i) (corners-left i)) ∙ take-overlay (storedCorners bytes) oc
 
-pub written-again : (bytes os : List ℕ) (oc : List ℤ) (buf : List ℕ) → All Byte bytes → countsRead bytes os oc .fault ≡ 0 → length bytes ≤ length buf → WrittenAgain bytes os oc buf
-written-again bytes os oc buf h e room =
+pub written-again : {bytes os : List ℕ} {oc : List ℤ} {buf : List ℕ} → All Byte bytes → countsRead bytes os oc .fault ≡ 0 → length bytes ≤ length buf → WrittenAgain bytes os oc buf
+written-again {bytes} {os} {oc} {buf} h e room =
     let f = sym (read-told bytes os oc) ∙ e in
     let a = accepted bytes (length os) (length oc) f in
     let s = starts-told bytes os oc f in

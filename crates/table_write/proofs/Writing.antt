@@ -89,9 +89,9 @@ module _ (s : List ℕ) (c : List ℤ) (room : ℕ) where
   pub writes : writeFault s c room ≡ 0 → Writes
   unfolding writeFault
   writes e =
-      let f = first-none 7 (tableBroken s c) _ (omega arith) e in
-      let g = first-none 2 (offRange c) _ (omega arith) (f .1) in
-      let h = first-none 21 (ltb room (length (storedOf s c))) [] (omega arith) (g .1) in
+      let f = first-none (tableBroken s c) _ (omega arith) e in
+      let g = first-none (offRange c) _ (omega arith) (f .1) in
+      let h = first-none (ltb room (length (storedOf s c))) [] (omega arith) (g .1) in
       record { whole = f .0; ranged = g .0; fits = omega (arith, ltb-false room _ (h .0), length-stored s c) }
 
 -- ---- the answer

@@ -84,10 +84,10 @@ points-of P (suc n) [] h f = absurd (omega arith)
 points-of P (suc n) (a ∷ []) h f = absurd (omega arith)
 points-of P (suc n) (a ∷ b ∷ L) h f =
     let e : 2 * suc n ≡ suc (suc (2 * n)) = omega arith in
-    rw e (f 0 (omega arith), points-of P n L (omega arith) (λ i k. later i k))
+    rw e (f 0 (omega arith), points-of P n L (omega arith) (λ i k. later k))
   where
-    later : (i : ℕ) → i < n → P (record { x = signed (getD L (2 * i) 0); y = signed (getD L (2 * i + 1) 0) })
-    later i k =
+    later : {i : ℕ} → i < n → P (record { x = signed (getD L (2 * i) 0); y = signed (getD L (2 * i + 1) 0) })
+    later {i} k =
         let d : 2 * suc i + 1 ≡ suc (suc (2 * i + 1)) = omega arith in
         let c : 2 * suc i ≡ suc (suc (2 * i)) = omega arith in
         rw (d, c) at (f (suc i) (omega arith))

@@ -94,11 +94,11 @@ module _ (bytes : List ℕ) where
   pub good : tablesFault bytes ≡ 0 → Good
   unfolding tablesFault
   good z =
-      let a = first-none 13 (ltb (length bytes) 4) _ (omega arith) z in
-      let b = first-none 13 (ltb 1 (wordAt bytes 0)) _ (omega arith) (a .1) in
-      let c = first-none 7 (tablesLengthBroken bytes) _ (omega arith) (b .1) in
-      let d = first-none 7 (brokenAt bytes 1) _ (omega arith) (c .1) in
-      let f = first-none 7 (brokenAt bytes (rightTable bytes)) _ (omega arith) (d .1) in
+      let a = first-none (ltb (length bytes) 4) _ (omega arith) z in
+      let b = first-none (ltb 1 (wordAt bytes 0)) _ (omega arith) (a .1) in
+      let c = first-none (tablesLengthBroken bytes) _ (omega arith) (b .1) in
+      let d = first-none (brokenAt bytes 1) _ (omega arith) (c .1) in
+      let f = first-none (brokenAt bytes (rightTable bytes)) _ (omega arith) (d .1) in
       let x = within bytes 1 (either-false (countsBroken bytes 1) _ (d .0) .0) in
       let y = within bytes (rightTable bytes) (either-false (countsBroken bytes (rightTable bytes)) _ (f .0) .0) in
       record { length-is = sized-tables (c .0); left-parts = x .0; left-corners = x .1; right-parts = y .0; right-corners = y .1 }
@@ -150,19 +150,19 @@ module _ (bytes : List ℕ) where
 
 -- ---- the answer
 
-counts : (n : ℕ) (l : List ℕ) → n ≤ length l → Counts n l
-counts n l h = (h, sym (length-take-le n l h))
+counts : {n : ℕ} (l : List ℕ) → n ≤ length l → Counts n l
+counts {n} l h = (h, sym (length-take-le n l h))
 
 module _ (bytes old : List ℕ) where
   pub refused-job : {f : ℕ} → f ≡ tablesFault bytes → (f ≡ 0 → ⊥) → (record { fault = f; size = 0 } ≡ madeOf bytes) × ((old ≡ bytesMade bytes old) × Counts 0 old)
   refused-job e d =
       let n : tablesFault bytes ≡ 0 → ⊥ = λ z. d (e ∙ z) in
-      (rw (ne-eqb (tablesFault bytes) 0 n) (λ k. record { fault = e k; size = 0 }), (sym (refused-buffer _ n (jobOf bytes) old), counts 0 old (omega arith)))
+      (rw (ne-eqb (tablesFault bytes) 0 n) (λ k. record { fault = e k; size = 0 }), (sym (refused-buffer _ n (jobOf bytes) old), counts old (omega arith)))
 
   pub made-job : tablesFault bytes ≡ 0 → 147516 ≤ length old → {n : ℕ} {b : List ℕ} → (n ≡ length (jobOf bytes)) × (b ≡ overlay (jobOf bytes) old)
       → (record { fault = 0; size = n } ≡ madeOf bytes) × ((b ≡ bytesMade bytes old) × Counts n b)
   made-job z h {n} {b} w =
       let m = length-job bytes (good bytes z) in (
         rw (eq-eqb (tablesFault bytes) 0 z) (λ k. record { fault = sym z k; size = w .0 k }),
-        (w .1 ∙ sym (accepted-buffer _ z (jobOf bytes) old), counts n b (omega (arith, w .0, m, h, ap length (w .1), length-overlay (jobOf bytes) old (omega (arith, m, h))))),
+        (w .1 ∙ sym (accepted-buffer _ z (jobOf bytes) old), counts b (omega (arith, w .0, m, h, ap length (w .1), length-overlay (jobOf bytes) old (omega (arith, m, h))))),
       )

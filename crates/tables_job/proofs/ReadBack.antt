@@ -168,11 +168,11 @@ record Good (bytes : List ℕ) : Type 0 where
 good : (bytes : List ℕ) → tablesFault bytes ≡ 0 → Good bytes
 unfolding tablesFault
 good bytes z =
-    let a = first-none 13 (ltb (length bytes) 4) _ (omega arith) z in
-    let b = first-none 13 (ltb 1 (wordAt bytes 0)) _ (omega arith) (a .1) in
-    let c = first-none 7 (tablesLengthBroken bytes) _ (omega arith) (b .1) in
-    let d = first-none 7 (brokenAt bytes 1) _ (omega arith) (c .1) in
-    let f = first-none 7 (brokenAt bytes (rightTable bytes)) _ (omega arith) (d .1) in
+    let a = first-none (ltb (length bytes) 4) _ (omega arith) z in
+    let b = first-none (ltb 1 (wordAt bytes 0)) _ (omega arith) (a .1) in
+    let c = first-none (tablesLengthBroken bytes) _ (omega arith) (b .1) in
+    let d = first-none (brokenAt bytes 1) _ (omega arith) (c .1) in
+    let f = first-none (brokenAt bytes (rightTable bytes)) _ (omega arith) (d .1) in
     record {
       long = ltb-false (length bytes) 4 (a .0);
       known = b .0;

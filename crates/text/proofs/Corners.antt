@@ -55,8 +55,8 @@ module _ (l : List Pt) (k : ℕ) (h : k < length l) {p : IntPoint} (q : point p 
   corner-put h s t = put-as (sym corner-next) (put-after h s t)
 
 -- none is put yet, and all are
-pub corners-start : (l : List Pt) (at : ℕ) (o : List ℕ) → at ≤ length o → PutText (cornersText (take 0 l)) at o o at
-corners-start l at o h = put-as (sym corners-none) (put-none at o h)
+pub corners-start : (l : List Pt) {at : ℕ} (o : List ℕ) → at ≤ length o → PutText (cornersText (take 0 l)) at o o at
+corners-start l {at} o h = put-as (sym corners-none) (put-none at o h)
 
-pub corners-all : (l : List Pt) (k : ℕ) {at r : ℕ} {o o′ : List ℕ} → length l ≤ k → PutText (cornersText (take k l)) at o o′ r → PutText (cornersText l) at o o′ r
-corners-all l k h s = put-as (ap cornersText (take-all k l h)) s
+pub corners-all : (l : List Pt) {k : ℕ} {at r : ℕ} {o o′ : List ℕ} → length l ≤ k → PutText (cornersText (take k l)) at o o′ r → PutText (cornersText l) at o o′ r
+corners-all l {k} h s = put-as (ap cornersText (take-all k l h)) s

@@ -32,7 +32,7 @@ digits-fewest (suc j) {k = suc (suc k)} {n} t h f =
     let least : 10 ^ suc k ≤ n = rw (before (suc k)) at (f .2 (omega arith)) in
     let big : 10 ≤ n = omega (arith, least, one-le-pow k 10 (omega arith), pow-suc 10 k) in
     rw (le-ltb n 10 big)
-    (digits-fewest j ((48 + n % 10) ∷ t) (omega arith) (omega arith, tenth (suc k) n (f .1), λ m. rw (before k) (omega (arith, least, pow-suc 10 k)))
+    (digits-fewest j ((48 + n % 10) ∷ t) (omega arith) (omega arith, tenth (suc k) (f .1), λ m. rw (before k) (omega (arith, least, pow-suc 10 k)))
     ∙ sym (append-assoc (placesOf 10 (suc k) (n / 10)) (glyph (n % 10) ∷ []) t ∙ ap (λ d. placesOf 10 (suc k) (n / 10) ++ (d ∷ t)) (glyph-digit (n % 10) (omega arith))))
 
 -- more than 20 would make n at least 10^20

@@ -26,7 +26,7 @@ module _ (from old : List ℕ) (at : ℕ) where
 
   pub put-turn : {buf : List ℕ} (i : ℕ) → i < length from → at + i < length old → buf ≡ putAt at (take i from) old → set buf (at + i) (getD from i 0) ≡ putAt at (take (i + 1) from) old
   unfolding putAt
-  put-turn i h k p = copy-turn-past (take at old) from old i 0 (omega (arith, length-take-le at old (omega arith))) h k p refl
+  put-turn i h k p = copy-turn-past (take at old) from old 0 (omega (arith, length-take-le at old (omega arith))) h k p refl
 
   pub put-end : {buf : List ℕ} (i : ℕ) → length from ≤ i → buf ≡ putAt at (take i from) old → PutText from at old buf (at + length from)
   put-end i h p = record { after = refl; bytes = p ∙ ap (λ t. putAt at t old) (take-all i from h) }

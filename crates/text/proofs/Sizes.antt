@@ -26,18 +26,18 @@ digits-size zero n t = omega arith
 digits-size (suc k) n t = by-test (ltb n 10) (λ e. rw e (omega arith)) (λ e. rw e (omega (arith, digits-size k (n / 10) ((48 + n % 10) ∷ t))))
 
 -- no more than the power of ten that it is below
-digits-below : (j k n : ℕ) (t : List ℕ) → n < 10 ^ suc k → length (digits j n t) ≤ suc k + length t
+digits-below : (j k : ℕ) {n : ℕ} (t : List ℕ) → n < 10 ^ suc k → length (digits j n t) ≤ suc k + length t
 unfolding digits
-digits-below zero k n t h = omega arith
-digits-below (suc j) zero n t h = by-test (ltb n 10) (λ e. rw e (omega arith)) (λ e. absurd (omega (arith, h, ltb-false n 10 e)))
-digits-below (suc j) (suc k) n t h =
-    by-test (ltb n 10) (λ e. rw e (omega arith)) (λ e. rw e (omega (arith, digits-below j k (n / 10) ((48 + n % 10) ∷ t) (tenth (suc k) n h))))
+digits-below zero k t h = omega arith
+digits-below (suc j) zero {n} t h = by-test (ltb n 10) (λ e. rw e (omega arith)) (λ e. absurd (omega (arith, h, ltb-false n 10 e)))
+digits-below (suc j) (suc k) {n} t h =
+    by-test (ltb n 10) (λ e. rw e (omega arith)) (λ e. rw e (omega (arith, digits-below j k ((48 + n % 10) ∷ t) (tenth (suc k) h))))
 
 pub decimal-size : (n : ℕ) → length (decimal n) ≤ 20
 decimal-size n = omega (arith, digits-size 20 n [])
 
 pub decimal-below : (k n : ℕ) → n < 10 ^ suc k → length (decimal n) ≤ suc k
-decimal-below k n h = omega (arith, digits-below 20 k n [] h)
+decimal-below k n h = omega (arith, digits-below 20 k [] h)
 
 pub signed-size : {z : ℤ} → SFits w32 z → length (signedDecimal z) ≤ 11
 unfolding signedDecimal

@@ -95,12 +95,12 @@ module _ {M : Type 1} (𝓤 : URA M) (H : Heap 𝓤) (A : Atoms 𝓤) (W : Given
       (λ h. forget ! 0 refl $ below (leb→le n size h) _ refl)
       (λ h. skips ! $ exec ! (𝓣 .C) (𝓣 .Λ) En more (atRet En Kf) $ forget ! 0 refl $ above (nleb→lt n size h))
 
-  pub reads-rows : (κ : Lft) (q : Share) (s : RefT (List IntTriangle)) (size : ℕ) {i : ℕ} {#rows : Name} {Γ : List (Item 𝓤)} {rest : Body} {Q : Post 𝓤 H}
+  pub reads-rows : {κ : Lft} {q : Share} (s : RefT (List IntTriangle)) {size : ℕ} {i : ℕ} {#rows : Name} {Γ : List (Item 𝓤)} {rest : Body} {Q : Post 𝓤 H}
       → Lies 𝓤 H En 1 sl → Lies 𝓤 H En i (big size) → Triple 𝓤 (𝓣 .C #rows) (Rows 𝓤 H A size) → length (s .now) ≤ size
       → ((z : List (List ℤ)) (u : Val) → AreRead (s .now) z
       → Sq W (‵ (Big size .own z (u ∷ [])) ∷ Token 𝓤 κ q ∷ ‵ (Own κ s) ∷ holds 𝓤 H En i (big size) u ∷ holds 𝓤 H En 1 sl (lent s) ∷ Γ) (runs (𝓣 .C) (𝓣 .Λ) En rest Q))
       → Sq W (Token 𝓤 κ q ∷ ‵ (Own κ s) ∷ room 𝓤 H En i (big size) ∷ holds 𝓤 H En 1 sl (lent s) ∷ Γ) (runs (𝓣 .C) (𝓣 .Λ) En (seq (call #rows (copy (place 1 []) ∷ []) (place i [])) rest) Q)
-  reads-rows κ q s size at-mesh at-rows known few k =
+  reads-rows {κ} {q} s {size} at-mesh at-rows known few k =
       use2 W (raw (Rows 𝓤 H A size .pre (to-rows 𝓤 H A κ q s size)) ⊛ ‵ (Own κ s)) (goes-rows 𝓤 H A κ q s size W few) $ split ! $
       calls-at ! (fmOf 𝓤 H (W .laws) 𝓣) (Rows 𝓤 H A size) known (to-rows 𝓤 H A κ q s size) (and-then ! (load ! (lies ! at-mesh (stop !)) (look ! 3 refl)) (no-more !)) (λ u.
       use1 W (later (some (λ (z : List (List ℤ)). (Token 𝓤 κ q ⊛ ‵ (Big size .own z (u ∷ []))) ⊛ raw (RowsSaid 𝓤 H A κ q s size z)))) (id⊢ 𝓤 _) $ await ! tt $ pick ! (λ z.
@@ -109,12 +109,12 @@ module _ {M : Type 1} (𝓤 : URA M) (H : Heap 𝓤) (A : Atoms 𝓤) (W : Given
       peeks ! (Big size) (Is (Big size)) (shows 𝓤 H A (Big size)) z (u ∷ []) (λ is.
       land ! (lies ! at-rows (stop !)) (init ! 3 refl (big-lawful 𝓤 H A W size .typed z _ is .0)) $ k z u ez))))
 
-  pub lends : {X : Type 0} (x : RefT (List X)) (τ : Ty) {ℓ : Lifetime} {i a b : ℕ} {Γ : List (Item 𝓤)} {rest : Body} {Q : Post 𝓤 H} → length (x .now) < 2 ^ 64
+  pub lends : {X : Type 0} (x : RefT (List X)) {τ : Ty} {ℓ : Lifetime} {i a b : ℕ} {Γ : List (Item 𝓤)} {rest : Body} {Q : Post 𝓤 H} → length (x .now) < 2 ^ 64
       → Lies 𝓤 H En i (sliceTy (tyRef ℓ mut τ)) → Lies 𝓤 H En a (tyRef erased mut τ) → Lies 𝓤 H En b (sliceTy (tyRef erased mut τ))
       → Sq W (holds 𝓤 H En b (sliceTy (tyRef erased mut τ)) (held x) ∷ holds 𝓤 H En a (tyRef erased mut τ) (vptr (x .ptr .0) (x .ptr .1)) ∷ holds 𝓤 H En i (sliceTy (tyRef ℓ mut τ)) (held x) ∷ Γ) (runs (𝓣 .C) (𝓣 .Λ) En rest Q)
       → Sq W (room 𝓤 H En b (sliceTy (tyRef erased mut τ)) ∷ room 𝓤 H En a (tyRef erased mut τ) ∷ holds 𝓤 H En i (sliceTy (tyRef ℓ mut τ)) (held x) ∷ Γ)
       (runs (𝓣 .C) (𝓣 .Λ) En (seq (assign (place a []) (addrOf (place i (field 0 ∷ deref τ ∷ [])))) (seq (assign (place b []) (aggregate (copy (place a []) ∷ copy (place i (field 1 ∷ [])) ∷ []))) rest)) Q)
-  lends x τ fits at-x at-ref at-slice k =
+  lends x fits at-x at-ref at-slice k =
       assigns ! (addr ! (lies ! at-x (fld ! refl (hop ! (look-in ! 2 (sub ! 0 refl (whole !))) (stop !))))) (lies ! at-ref (stop !)) (init ! 1 refl (tt, tt)) $
       assigns ! (agg ! (and-then ! (load ! (lies ! at-ref (stop !)) (look ! 1 refl)) (and-then ! (load ! (lies ! at-x (fld ! refl (stop !))) (look-in ! 2 (sub ! 1 refl (whole !)))) (no-more !)))) (lies ! at-slice (stop !))
       (init ! 0 refl (tt, (tt, (record { fits = fits }, tt)))) $ k

@@ -211,12 +211,12 @@ module _ {M : Type 1} (𝓤 : URA M) (H : Heap 𝓤) (A : Atoms 𝓤) (W : Given
         (λ few Q back. move ! (2 ∷ 3 ∷ 11 ∷ 14 ∷ []) $
         -- [mesh's token; what mesh owns; the array; mesh; the test; its length; the others' tokens;
         -- what starts and corners own; …]
-        reads-rows 𝓤 H A W 𝓣 En κ q s size (o .at-mesh) (l .at-rows) read few (λ z u ez.
+        reads-rows 𝓤 H A W 𝓣 En s (o .at-mesh) (l .at-rows) read few (λ z u ez.
         -- [what the rows own; the token; what mesh owns; the array; mesh; the test; its length; the
         -- others' tokens; what starts and corners own; corners' two; starts' two; corners; starts;
         -- …]
-        move ! (12 ∷ 13 ∷ 15 ∷ []) $ lends 𝓤 H A W 𝓣 En x num fits-x (o .at-starts) (l .at-to-starts) (l .at-starts) (
-        move ! (13 ∷ 14 ∷ 15 ∷ []) $ lends 𝓤 H A W 𝓣 En y num fits-y (o .at-corners) (l .at-to-corners) (l .at-corners) (
+        move ! (12 ∷ 13 ∷ 15 ∷ []) $ lends 𝓤 H A W 𝓣 En x fits-x (o .at-starts) (l .at-to-starts) (l .at-starts) (
+        move ! (13 ∷ 14 ∷ 15 ∷ []) $ lends 𝓤 H A W 𝓣 En y fits-y (o .at-corners) (l .at-to-corners) (l .at-corners) (
         -- [corners lent on, and by what; corners; starts the same; what the rows own; the token;
         -- what mesh owns; the array; mesh; the test; its length; the others' tokens; what starts
         -- and corners own; …]
@@ -233,7 +233,7 @@ module _ {M : Type 1} (𝓤 : URA M) (H : Heap 𝓤) (A : Atoms 𝓤) (W : Given
     past : {size : ℕ} (l : OfSize 𝓤 H En size) {Γ : List (Item 𝓤)} → Triple 𝓤 (𝓣 .C #refuse) (Refuse 𝓤 H A mem run) → ((r : Counts) → r ≡ refusedCounts 1 → Answers (trianglesMesh (s .now)) r (x .now) (y .now))
         → Ends l Γ → Sq W (Before l Γ) (runs (𝓣 .C) (𝓣 .Λ) En refusing (atRet En Kf))
     past l known refused ends =
-        refuses 𝓤 H A W mem run 1 tt 𝓣 En known (λ r u er.
+        refuses 𝓤 H A W mem run 1 tt 𝓣 known (λ r u er.
         -- [what the answer owns; mesh's token; what mesh owns; the others' tokens; what starts
         -- owns; what corners owns; …]
         move ! (4 ∷ []) $ use1 W (‵ (finally u32 (x .name) (x .now))) (unwritten 𝓤 H A W (named 1) κ₁ u32 x) $ move ! (5 ∷ []) $ use1 W (‵ (finally i32 (y .name) (y .now))) (unwritten 𝓤 H A W (named 2) κ₂ i32 y) $

@@ -26,16 +26,16 @@ pub none-read : (ys : List IntTriangle) (rows : List (List ℤ)) → rowsMesh (t
 unfolding rowsMesh trianglesMesh
 none-read ys rows = refl
 
-pub next-read : (ys : List IntTriangle) (i : ℕ) (rows : List (List ℤ)) (row : List ℤ) {t : IntTriangle} → i < length ys → i < length rows → t ≡ getD ys i noStruct → rowTriangle row ≡ structTriangle t
+pub next-read : (ys : List IntTriangle) {i : ℕ} (rows : List (List ℤ)) (row : List ℤ) {t : IntTriangle} → i < length ys → i < length rows → t ≡ getD ys i noStruct → rowTriangle row ≡ structTriangle t
     → rowsMesh (take i rows) ≡ trianglesMesh (take i ys) → rowsMesh (take (i + 1) (set rows i row)) ≡ trianglesMesh (take (i + 1) ys)
 unfolding rowsMesh trianglesMesh
-next-read ys i rows row h l e f so =
+next-read ys {i} rows row h l e f so =
     let one : i + 1 ≡ suc i = omega arith in
     ap (λ (n : ℕ). map rowTriangle (take n (set rows i row))) one ∙ ap (map rowTriangle) (take-suc-set rows i row l) ∙ map-append rowTriangle (take i rows) (row ∷ [])
     ∙ ap (λ (m : List _). m ++ (rowTriangle row ∷ [])) so ∙ ap (λ (t : _). map structTriangle (take i ys) ++ (t ∷ [])) (f ∙ ap structTriangle e)
     ∙ sym (map-append structTriangle (take i ys) (getD ys i noStruct ∷ [])) ∙ sym (ap (map structTriangle) (take-suc ys i noStruct h)) ∙ sym (ap (λ (n : ℕ). map structTriangle (take n ys)) one)
 
-pub all-read : (ys : List IntTriangle) (i : ℕ) (rows : List (List ℤ)) → i ≤ length ys → length ys ≤ i → rowsMesh (take i rows) ≡ trianglesMesh (take i ys) → rowsMesh (take (length ys) rows) ≡ trianglesMesh ys
-all-read ys i rows h l so =
+pub all-read : (ys : List IntTriangle) {i : ℕ} (rows : List (List ℤ)) → i ≤ length ys → length ys ≤ i → rowsMesh (take i rows) ≡ trianglesMesh (take i ys) → rowsMesh (take (length ys) rows) ≡ trianglesMesh ys
+all-read ys {i} rows h l so =
     let e : i ≡ length ys = omega (arith, h, l) in
     ap (λ (n : ℕ). rowsMesh (take n rows)) (sym e) ∙ so ∙ ap trianglesMesh (take-all i ys l)

@@ -54,10 +54,10 @@ module _ {M : Type 1} (𝓤 : URA M) (H : Heap 𝓤) (A : Atoms 𝓤) (W : Given
   said : (r : Counts) → ent 𝓤 (Said r) (fact 𝓤 (r ≡ refusedCounts fault))
   said r = exE 𝓤 _ (λ ws. snd∗ 𝓤 (sem 𝓤 H A (lasts refuse.ended tt (fault, tt) ws)) (fact 𝓤 (r ≡ refusedCounts fault)))
 
-  pub refuses : (𝓣 : Tables 𝓤 H) (En : Env 𝓤 H) {Γ : List (Item 𝓤)} {rest : Body} {Q : Post 𝓤 H} → Triple 𝓤 (𝓣 .C #refuse) (Refuse 𝓤 H A mem run)
+  pub refuses : (𝓣 : Tables 𝓤 H) {En : Env 𝓤 H} {Γ : List (Item 𝓤)} {rest : Body} {Q : Post 𝓤 H} → Triple 𝓤 (𝓣 .C #refuse) (Refuse 𝓤 H A mem run)
       → ((r : Counts) (u : Val) → r ≡ refusedCounts fault → Sq W (‵ (N.the-row .own r (u ∷ [])) ∷ Γ) (lands (𝓣 .C) (𝓣 .Λ) En (place 0 []) u rest Q))
       → Sq W Γ (runs (𝓣 .C) (𝓣 .Λ) En (seq (call #refuse (int w32 fault ∷ []) (place 0 [])) rest) Q)
-  refuses 𝓣 En known k =
+  refuses 𝓣 known k =
       nothing ! $ use1 W (raw (Refuse 𝓤 H A mem run .pre to-refuse)) goes-refuse $
       calls-at ! (fmOf 𝓤 H (W .laws) 𝓣) (Refuse 𝓤 H A mem run) known to-refuse (and-then ! (lit ! fits) (no-more !)) (λ u.
       use1 W (later (some (λ (r : Counts). (‵ ftrue ⊛ ‵ (N.the-row .own r (u ∷ []))) ⊛ raw (Said r)))) (id⊢ 𝓤 _) $ await ! tt $ pick ! (λ r.

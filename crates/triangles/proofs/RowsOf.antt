@@ -178,8 +178,8 @@ module _ (size : ℕ) (#blank : Name) where
     abbrev to-get : ℕ → Get 𝓤 H A mem run .Ghost
     to-get i = (((κ, tt), (q, tt), tt, (s, (i, tt)), (v ∷ [], (vint w64 i ∷ [], tt))), tt)
 
-    goes-get : (i : ℕ) → i < length ys → i < 2 ^ 64 → ent 𝓤 (⋆ 𝓤 H A (tok ∷ ‵ Own ∷ [])) (sep 𝓤 (Get 𝓤 H A mem run .pre (to-get i)) (sem 𝓤 H A Own))
-    goes-get i l g =
+    goes-get : {i : ℕ} → i < length ys → i < 2 ^ 64 → ent 𝓤 (⋆ 𝓤 H A (tok ∷ ‵ Own ∷ [])) (sep 𝓤 (Get 𝓤 H A mem run .pre (to-get i)) (sem 𝓤 H A Own))
+    goes-get {i} l g =
         qed W (tok ∷ ‵ Own ∷ []) ∵ move ! (1 ∷ []) $ use1 W (‵ Own ⊛ ‵ Own) (shr-slice-copy 𝓤 H A W (named 0) κ T.the-row .twice s (v ∷ [])) $ split ! $
         nothing ! $ owned ! usize (Is usize) (uint-makes 𝓤 H A W w64) i (vint w64 i ∷ []) (refl, g) $ fjoin ! $ move ! (1 ∷ 0 ∷ []) $ fjoin ! $
         move ! (2 ∷ 0 ∷ []) $ use2 W (raw (Get 𝓤 H A mem run .pre (to-get i)))
@@ -234,7 +234,7 @@ module _ (size : ℕ) (#blank : Name) where
           assigns ! (of-opd ! (load ! (from ! (fld ! refl (stop !))) (look-in ! 20 (sub ! 1 refl (whole !))))) (from ! (stop !)) (init ! 11 refl (tt, record { fits = fits-len })) $
           assigns ! (bin ! (load ! (from ! (stop !)) (look ! 17 refl)) (load ! (from ! (stop !)) (look ! 11 refl)) tt) (from ! (stop !)) (init ! 9 refl (tt, tt)) $
           rewrite ! 9 (λ (t : Bool). ‵ (fat fullShare tyBool l₇ 0 (vbool t))) e refl $ stays ! (load ! (from ! (stop !)) (look ! 9 refl)) $
-          use2 W (raw (Get 𝓤 H A mem run .pre (to-get (a .i))) ⊛ ‵ Own) (goes-get (a .i) less (omega (arith, less, fits-len))) $ split ! $
+          use2 W (raw (Get 𝓤 H A mem run .pre (to-get (a .i))) ⊛ ‵ Own) (goes-get less (omega (arith, less, fits-len))) $ split ! $
           calls-at ! (fmOf 𝓤 H (W .laws) 𝓣) (Get 𝓤 H A mem run) known-get (to-get (a .i)) (and-then ! (load ! (from ! (stop !)) (look ! 20 refl)) (and-then ! (load ! (from ! (stop !)) (look ! 17 refl)) (no-more !))) (λ u.
           use1 W (later (some (λ (r : IntTriangle). (tok ⊛ ‵ (T.the-row .own r (u ∷ []))) ⊛ raw (ensured 𝓤 H A get.ended (get.clauses 𝓤 H A mem run) (κ, tt) (s, (a .i, tt)) tt r)))) (id⊢ 𝓤 _) $ await ! tt $ pick ! (λ r.
           split ! $ move ! (1 ∷ []) $ use1 W (raw (fact 𝓤 (r ≡ getD ys (a .i) noStruct))) (get-said (a .i) r) $ heard ! (r ≡ getD ys (a .i) noStruct) (λ er. split ! $ move ! (1 ∷ []) $
@@ -259,7 +259,7 @@ module _ (size : ℕ) (#blank : Name) where
           move ! (1 ∷ []) $ forgo ! $ move ! (0 ∷ 2 ∷ 1 ∷ []) $ elem-put ! R fullShare (a .rows) (a .i) t (u′ ∷ []) l₂ 0 in-rows $
           assigns-last ! (bin ! (load ! (from ! (stop !)) (look ! 17 refl)) (lit ! tt) (record { fits = omega (arith, less, fits-len) })) (from ! (stop !)) (store ! 17 refl (tt, record { fits = omega (arith, less, fits-len) })) $
           forget ! 3 refl $ forget ! 5 refl $ forget ! 7 refl $ forget ! 9 refl $ forget ! 11 refl $ forget ! 15 refl $ move ! (1 ∷ 2 ∷ 0 ∷ []) $
-          again ! Nearer At a (record { i = a .i + 1; rows = set (a .rows) (a .i) t; within = omega (arith, less); long = length-set (a .rows) (a .i) t ∙ a .long; so = next-read ys (a .i) (a .rows) t less in-rows er et (a .so) }) (omega (arith, less)))))))))))
+          again ! Nearer At a (record { i = a .i + 1; rows = set (a .rows) (a .i) t; within = omega (arith, less); long = length-set (a .rows) (a .i) t ∙ a .long; so = next-read ys (a .rows) t less in-rows er et (a .so) }) (omega (arith, less)))))))))))
         where
           less : a .i < length ys
           less = ltb-true _ _ e
@@ -278,7 +278,7 @@ module _ (size : ℕ) (#blank : Name) where
           returns ! (look ! 23 refl) $ forget ! 1 refl $ forget ! 10 refl $ forget ! 12 refl $ forget ! 18 refl $ forget ! 21 refl $ forget ! 23 refl $
           move ! (23 ∷ 24 ∷ []) $ free1 ! $ move ! (21 ∷ 22 ∷ []) $ free1 ! $ move ! (1 ∷ 20 ∷ []) $ free1 ! $ move ! (17 ∷ 18 ∷ []) $ free1 ! $ move ! (15 ∷ 16 ∷ []) $ free1 ! $ move ! (13 ∷ 14 ∷ []) $ free1 ! $ move ! (11 ∷ 12 ∷ []) $ free1 ! $ move ! (9 ∷ 10 ∷ []) $ free1 ! $
           move ! (7 ∷ 8 ∷ []) $ free1 ! $ move ! (5 ∷ 6 ∷ []) $ free1 ! $ move ! (3 ∷ 4 ∷ []) $ free1 ! $ free0 ! $
-          move ! (1 ∷ 2 ∷ 0 ∷ []) $ by ! (exits (a .rows) w (all-read ys (a .i) (a .rows) (a .within) (ltb-false _ _ e) (a .so)))))
+          move ! (1 ∷ 2 ∷ 0 ∷ []) $ by ! (exits (a .rows) w (all-read ys (a .rows) (a .within) (ltb-false _ _ e) (a .so)))))
 
       turns : (a : Read size ys) → Sq W (At a) (runs C Λ En turn (anyQ (Turned a)))
       turns a = turn-by a refl

@@ -34,9 +34,9 @@ use Rattle.walk.specs.Calls.{lengthBroken, misplaced, finished, offAt, b
 -- ---- numbers
 
 -- an answer chosen by whether the fault is 0 has the fault's number, where each choice has its own
-pub choice-number : {A : Type 0} (number : A → ℕ) (f : ℕ) (good bad : A) → number good ≡ 0 → number bad ≡ f → number (cond (eqb f 0) good bad) ≡ f
-choice-number number zero good bad g b = g
-choice-number number (suc f) good bad g b = rw (ne-eqb (suc f) 0 (omega arith), b)
+pub choice-number : {A : Type 0} (number : A → ℕ) (f : ℕ) {good bad : A} → number good ≡ 0 → number bad ≡ f → number (cond (eqb f 0) good bad) ≡ f
+choice-number number zero g b = g
+choice-number number (suc f) g b = rw (ne-eqb (suc f) 0 (omega arith), b)
 
 -- the answer where there is no fault, and where there is one
 pub accepts : {A : Type 0} {f : ℕ} (good bad : A) → f ≡ 0 → good ≡ cond (eqb f 0) good bad
@@ -52,15 +52,15 @@ by-answer (suc f) good bad e g b = let n : suc f ≡ 0 → ⊥ = λ z. absurd (o
 
 pub begun-number : (l : List ℤ) (reflected : Bool) → begunNumber (begunOf l reflected) ≡ beginFault l reflected
 unfolding begunOf
-begun-number l reflected = choice-number begunNumber (beginFault l reflected) _ _ refl refl
+begun-number l reflected = choice-number begunNumber (beginFault l reflected) refl refl
 
 pub pointed-number : (l : List ℤ) (w : Place) → pointedNumber (pointedOf l w) ≡ pointFault l w
 unfolding pointedOf
-pointed-number l w = choice-number pointedNumber (pointFault l w) _ _ refl refl
+pointed-number l w = choice-number pointedNumber (pointFault l w) refl refl
 
 pub stepped-number : (l : List ℤ) (w : Place) → steppedNumber (steppedOf l w) ≡ stepFault l w
 unfolding steppedOf
-stepped-number l w = choice-number steppedNumber (stepFault l w) _ _ refl refl
+stepped-number l w = choice-number steppedNumber (stepFault l w) refl refl
 
 -- a corner or the end is no fault
 emitted-number : (e : Emitted) → nextNumber (nextOf e) ≡ 0
@@ -69,7 +69,7 @@ emitted-number (end t) = refl
 
 pub next-number : (l r : List ℤ) (s : ConvexSum) → nextNumber (pairSteppedOf l r s) ≡ pairStepFault l r s
 unfolding pairSteppedOf
-next-number l r s = choice-number nextNumber (pairStepFault l r s) _ _ (emitted-number (pairStep (pointsOf l) (pointsOf r) s)) refl
+next-number l r s = choice-number nextNumber (pairStepFault l r s) (emitted-number (pairStep (pointsOf l) (pointsOf r) s)) refl
 
 -- ---- a refusal hands back what came
 
@@ -110,9 +110,9 @@ unfolding misplaced
 index-inside n w h = leb-false n (w .index) (all-false (leb n (w .index)) (w .segment) (leb n (w .start)) (leb n (w .end)) h .0)
 
 -- off a segment its ends don't matter
-flat-next : (n : ℕ) (w : Place) → w .segment ≡ false → w .index < n → nextIndex n w < n
+flat-next : {n : ℕ} (w : Place) → w .segment ≡ false → w .index < n → nextIndex n w < n
 unfolding nextIndex
-flat-next n w h k = rw h (valid-next {n = n} {w = record { index = w .index; remaining = 0; reverse = w .reverse; reflected = false; segment = false; start = w .index; end = w .index }} (record { index = k; start = k; end = k }))
+flat-next {n} w h k = rw h (valid-next {n = n} {w = record { index = w .index; remaining = 0; reverse = w .reverse; reflected = false; segment = false; start = w .index; end = w .index }} (record { index = k; start = k; end = k }))
 
 pub next-inside : (n : ℕ) (w : Place) → misplaced n w ≡ false → nextIndex n w < n
 unfolding misplaced
@@ -120,7 +120,7 @@ next-inside n w h =
     let t = all-false (leb n (w .index)) (w .segment) (leb n (w .start)) (leb n (w .end)) h in
     by-test (w .segment)
     (λ s. valid-next (record { index = leb-false n (w .index) (t .0); start = leb-false n (w .start) (t .1 s .0); end = leb-false n (w .end) (t .1 s .1) }))
-    (λ s. flat-next n w s (leb-false n (w .index) (t .0)))
+    (λ s. flat-next w s (leb-false n (w .index) (t .0)))
 
 -- the place stepped to is a corner again, and so are the ends, which stay
 pub advance-placed : (n : ℕ) (w : Place) → misplaced n w ≡ false → misplaced n (advance n w) ≡ false
@@ -144,9 +144,9 @@ pub record Accepted (l : List ℤ) (w : Place) : Type 0 where
 pub accepted : (l : List ℤ) (w : Place) → stepFault l w ≡ 0 → Accepted l w
 unfolding stepFault
 accepted l w h =
-    let a = first-none 7 _ _ (omega arith) h in
-    let b = first-none 23 _ _ (omega arith) (a .1) in
-    let c = first-none 2 _ _ (omega arith) (b .1) in
+    let a = first-none _ _ (omega arith) h in
+    let b = first-none _ _ (omega arith) (a .1) in
+    let c = first-none _ _ (omega arith) (b .1) in
     let p = either-false (finished w) _ (b .0) in
     let q = either-false (offAt (pointsOf l) (w .index)) _ (c .0) in
     let e : w .remaining ≡ 0 → ⊥ = eqb-false (w .remaining) 0 (p .0) in

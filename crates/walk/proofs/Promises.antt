@@ -58,7 +58,7 @@ pub edged-by : (l : List ℤ) (w : Place) → EdgedBy l w (edgedOf l w)
 unfolding edgedOf
 edged-by l w = record {
   answer = refl;
-  number = choice-number edgedNumber (stepFault l w) _ _ refl refl;
+  number = choice-number edgedNumber (stepFault l w) refl refl;
   edge = choice-value edgedEdge (stepFault l w) _ _;
   free = strays (length (pointsOf l)) w;
 }
@@ -79,7 +79,7 @@ pub advanced-by : (l : List ℤ) (w : Place) → AdvancedBy l w (advancedOf l w)
 unfolding advancedOf
 advanced-by l w = record {
   answer = refl;
-  number = choice-number advancedNumber (stepFault l w) _ _ refl refl;
+  number = choice-number advancedNumber (stepFault l w) refl refl;
   moves = moved-by l w (choice-value advancedPlace (stepFault l w) _ _);
 }
 
@@ -98,7 +98,7 @@ pub paired-by : (reflected : Bool) (l r : List ℤ) → PairedBy reflected l r (
 unfolding pairedOf
 paired-by reflected l r = record {
   answer = refl;
-  number = choice-number pairedNumber (pairBeginFault reflected l r) _ _ refl refl;
+  number = choice-number pairedNumber (pairBeginFault reflected l r) refl refl;
   places = choice-value pairedPlaces (pairBeginFault reflected l r) _ _;
   free = (begin-flat false (pointsOf l), begin-flat reflected (pointsOf r));
 }

@@ -75,7 +75,7 @@ module _ (reflected : Bool) (l : List Pt) {s : ℕ} (e : s ≡ startAt reflected
   pub total-by : {t : ℤ} → windingOf (pos 0) (windingTerms s l) ≡ Total t → (windingLeaves reflected l ≡ false) × (t ≡ winding reflected l)
   unfolding windingLeaves winding
   total-by {t} h =
-      let q = wound-total (windingTerms (startAt reflected l) l) (pos 0) t (ap (λ k. windingOf (pos 0) (windingTerms k l)) (sym e) ∙ h) in
+      let q = wound-total (windingTerms (startAt reflected l) l) (pos 0) (ap (λ k. windingOf (pos 0) (windingTerms k l)) (sym e) ∙ h) in
       (q .0, q .1 ∙ zero-plus (sumℤ (windingTerms (startAt reflected l) l)))
     where
       zero-plus : (t : ℤ) → pos 0 +ℤ t ≡ t

@@ -72,13 +72,13 @@ module _ (A B : List Pt) (h : Heading) (s : ConvexSum) where
   pub run-first : (e : Pt) → first e ≡ nextStep A B s → run (stepsLeft s) A B h s ≡ cond (belongs h e) (run (stepsLeft (stepFirst A s)) A B (headed h e) (stepFirst A s)) here
   unfolding run advance
   run-first e p =
-      let k : stepsLeft s ≡ suc (stepsLeft (stepFirst A s)) = omega (arith, first-left A B s e p .0) in
+      let k : stepsLeft s ≡ suc (stepsLeft (stepFirst A s)) = omega (arith, first-left A B s p .0) in
       ap (λ n. run n A B h s) k ∙ rw (sym p, run)
 
   pub run-second : (e : Pt) → second e ≡ nextStep A B s → run (stepsLeft s) A B h s ≡ cond (belongs h e) (run (stepsLeft (stepSecond B s)) A B (headed h e) (stepSecond B s)) here
   unfolding run advance
   run-second e p =
-      let k : stepsLeft s ≡ suc (stepsLeft (stepSecond B s)) = omega (arith, second-left A B s e p .0) in
+      let k : stepsLeft s ≡ suc (stepsLeft (stepSecond B s)) = omega (arith, second-left A B s p .0) in
       ap (λ n. run n A B h s) k ∙ rw (sym p, run)
 
 -- ---- both walks stay judged
@@ -156,13 +156,13 @@ module _ (l r : List ℤ) (g : Going) (on : g .on ≡ true) (ready : MayStep l r
   pub took-first : {e : Pt} → first e ≡ nextStep A B (g .at) → belongs (headingOf g) e ≡ true → {t : ConvexSum} {h : Going} → t ≡ stepFirst A (g .at) → Took g e t h → SteppedOn l r g h
   unfolding advance
   took-first {e} p b {t} {h} u k =
-      went-on k (subst (Judged l r) (sym u) (first-judged (ready .judged))) (omega (arith, first-left A B (g .at) e p .0) ∙ ap (λ z. suc (stepsLeft z)) (sym u))
+      went-on k (subst (Judged l r) (sym u) (first-judged (ready .judged))) (omega (arith, first-left A B (g .at) p .0) ∙ ap (λ z. suc (stepsLeft z)) (sym u))
       (run-first A B (headingOf g) (g .at) e p ∙ ap (λ z. cond z (run (stepsLeft (stepFirst A (g .at))) A B (headed (headingOf g) e) (stepFirst A (g .at))) (stopOf g)) b ∙ ap (λ z. run (stepsLeft z) A B (headed (headingOf g) e) z) (sym u))
 
   pub took-second : {e : Pt} → second e ≡ nextStep A B (g .at) → belongs (headingOf g) e ≡ true → {t : ConvexSum} {h : Going} → t ≡ stepSecond B (g .at) → Took g e t h → SteppedOn l r g h
   unfolding advance
   took-second {e} p b {t} {h} u k =
-      went-on k (subst (Judged l r) (sym u) (second-judged (ready .judged))) (omega (arith, second-left A B (g .at) e p .0) ∙ ap (λ z. suc (stepsLeft z)) (sym u))
+      went-on k (subst (Judged l r) (sym u) (second-judged (ready .judged))) (omega (arith, second-left A B (g .at) p .0) ∙ ap (λ z. suc (stepsLeft z)) (sym u))
       (run-second A B (headingOf g) (g .at) e p ∙ ap (λ z. cond z (run (stepsLeft (stepSecond B (g .at))) A B (headed (headingOf g) e) (stepSecond B (g .at))) (stopOf g)) b ∙ ap (λ z. run (stepsLeft z) A B (headed (headingOf g) e) z) (sym u))
 
   -- one that does not is left

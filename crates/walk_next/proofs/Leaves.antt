@@ -42,9 +42,9 @@ run-after A B n h s = by refl
 
 after-placed : {A B : List Pt} (n : ℕ) (h : Heading) {s : ConvexSum} → Placed A B s → ((g : Heading) (t : ConvexSum) → Placed A B t → Placed A B (run n A B g t .at)) → (k : Pick) → Placed A B (after A B n h s k .at)
 after-placed n h p ih none = p
-after-placed {A} {B} n h {s} p ih (first e) = cond-ind (belongs h e) (run n A B (headed h e) (stepFirst A s)) (record { heading = h; at = s }) (λ (r : Run). Placed A B (r .at))
+after-placed {A} {B} n h {s} p ih (first e) = cond-ind (belongs h e) (λ (r : Run). Placed A B (r .at))
     (λ t. ih (headed h e) (stepFirst A s) (record { left = advance-placed (length A) (s .a) (p .left); right = p .right })) (λ t. p)
-after-placed {A} {B} n h {s} p ih (second e) = cond-ind (belongs h e) (run n A B (headed h e) (stepSecond B s)) (record { heading = h; at = s }) (λ (r : Run). Placed A B (r .at))
+after-placed {A} {B} n h {s} p ih (second e) = cond-ind (belongs h e) (λ (r : Run). Placed A B (r .at))
     (λ t. ih (headed h e) (stepSecond B s) (record { left = p .left; right = advance-placed (length B) (s .b) (p .right) })) (λ t. p)
 
 pub run-placed : {A B : List Pt} (n : ℕ) (h : Heading) {s : ConvexSum} → Placed A B s → Placed A B (run n A B h s .at)
@@ -55,14 +55,14 @@ run-placed {A} {B} (suc n) h {s} p = subst (λ (r : Run). Placed A B (r .at)) (s
 -- ---- run out
 
 -- with no step left
-out-done : (l : List Pt) (w : Place) → w .remaining ≡ 0 → RunOut l w w
+out-done : (l : List Pt) {w : Place} → w .remaining ≡ 0 → RunOut l w w
 unfolding handed live afterSteps
-out-done l w h = record { idle = ap (λ k. live (handed k l w)) h; over = sym (ap (λ k. afterSteps k (length l) w) h); done = h }
+out-done l {w} h = record { idle = ap (λ k. live (handed k l w)) h; over = sym (ap (λ k. afterSteps k (length l) w) h); done = h }
 
 -- a zero edge is stepped over
-out-step : {l : List Pt} (w : Place) {t : Place} → 0 < w .remaining → isZero (edgeOf l w) ≡ true → RunOut l (advance (length l) w) t → RunOut l w t
+out-step : {l : List Pt} {w : Place} {t : Place} → 0 < w .remaining → isZero (edgeOf l w) ≡ true → RunOut l (advance (length l) w) t → RunOut l w t
 unfolding handed live afterSteps advance
-out-step {l} w h z o =
+out-step {l} {w} h z o =
     let k : w .remaining ≡ suc (w .remaining - 1) = omega arith in
     record {
       idle = ap (λ m. live (handed m l w)) k ∙ ap (λ b. cond b (live (handed (w .remaining - 1) l (advance (length l) w))) (edgeOf l w ∷ live (handed (w .remaining - 1) l (advance (length l) w)))) z ∙ o .idle;
@@ -89,23 +89,23 @@ module _ (A B : List Pt) (n : ℕ) (s : ConvexSum) where
 
   first-out : 0 < s .a .remaining → stepsLeft (stepFirst A s) ≤ n → OutFrom unset (stepFirst A s) (stepFirst A s) → OutFrom (begunBy (edgeOf A (s .a))) (stepFirst A s) s
   first-out q f ih = by-test (isZero (edgeOf A (s .a)))
-      (λ z. subst (λ b. OutFrom (cond b unset (along (edgeOf A (s .a)))) (stepFirst A s) s) (sym z) (λ u. let o = ih u in record { left = out-step (s .a) q z (o .left); right = o .right }))
+      (λ z. subst (λ b. OutFrom (cond b unset (along (edgeOf A (s .a)))) (stepFirst A s) s) (sym z) (λ u. let o = ih u in record { left = out-step q z (o .left); right = o .right }))
       (λ z. subst (λ b. OutFrom (cond b unset (along (edgeOf A (s .a)))) (stepFirst A s) s) (sym z) (λ u. absurd (differs (edgeOf A (s .a)) (sym (run-along A B n (edgeOf A (s .a)) (stepFirst A s) f .heads) ∙ u))))
 
   second-out : 0 < s .b .remaining → stepsLeft (stepSecond B s) ≤ n → OutFrom unset (stepSecond B s) (stepSecond B s) → OutFrom (begunBy (edgeOf B (s .b))) (stepSecond B s) s
   second-out q f ih = by-test (isZero (edgeOf B (s .b)))
-      (λ z. subst (λ b. OutFrom (cond b unset (along (edgeOf B (s .b)))) (stepSecond B s) s) (sym z) (λ u. let o = ih u in record { left = o .left; right = out-step (s .b) q z (o .right) }))
+      (λ z. subst (λ b. OutFrom (cond b unset (along (edgeOf B (s .b)))) (stepSecond B s) s) (sym z) (λ u. let o = ih u in record { left = o .left; right = out-step q z (o .right) }))
       (λ z. subst (λ b. OutFrom (cond b unset (along (edgeOf B (s .b)))) (stepSecond B s) s) (sym z) (λ u. absurd (differs (edgeOf B (s .b)) (sym (run-along A B n (edgeOf B (s .b)) (stepSecond B s) f .heads) ∙ u))))
 
   after-out : stepsLeft s ≤ suc n → ((t : ConvexSum) → stepsLeft t ≤ n → OutFrom unset t t) → {k : Pick} → Picked A B s k → after A B n unset s k .heading ≡ unset → BothOut A B s (after A B n unset s k .at)
   unfolding belongs headed advance
-  after-out h ih {k = none} (none-left a b) u = record { left = out-done A (s .a) a; right = out-done B (s .b) b }
+  after-out h ih {k = none} (none-left a b) u = record { left = out-done A a; right = out-done B b }
   after-out h ih {k = first e} (first-steps q) u = first-out q (omega arith) (ih (stepFirst A s) (omega arith)) u
   after-out h ih {k = second e} (second-steps q) u = second-out q (omega arith) (ih (stepSecond B s) (omega arith)) u
 
-pub run-out : (A B : List Pt) (n : ℕ) (s : ConvexSum) → stepsLeft s ≤ n → run n A B unset s .heading ≡ unset → BothOut A B s (run n A B unset s .at)
+pub run-out : {A B : List Pt} (n : ℕ) {s : ConvexSum} → stepsLeft s ≤ n → run n A B unset s .heading ≡ unset → BothOut A B s (run n A B unset s .at)
 unfolding run
-run-out A B zero s h = λ u. record { left = out-done A (s .a) (omega arith); right = out-done B (s .b) (omega arith) }
-run-out A B (suc n) s h =
+run-out {A} {B} zero {s} h = λ u. record { left = out-done A (omega arith); right = out-done B (omega arith) }
+run-out {A} {B} (suc n) {s} h =
     subst (λ (r : Run). r .heading ≡ unset → BothOut A B s (r .at)) (sym (run-after A B n unset s))
-    (after-out A B n s h (λ t k. run-out A B n t k) (picked A B s))
+    (after-out A B n s h (λ t k. run-out n k) (picked A B s))

@@ -76,12 +76,12 @@ module _ (l r : List ℤ) (s : ConvexSum) where
   pub judged-by : pairStepFault l r s ≡ 0 → Judged l r s
   unfolding pairStepFault
   judged-by h =
-      let a = first-none 7 _ _ (omega arith) h in
-      let b = first-none 7 _ _ (omega arith) (a .1) in
-      let c = first-none 23 _ _ (omega arith) (b .1) in
-      let d = first-none 23 _ _ (omega arith) (c .1) in
-      let e = first-none 2 _ _ (omega arith) (d .1) in
-      let f = first-none 2 _ _ (omega arith) (e .1) in
+      let a = first-none _ _ (omega arith) h in
+      let b = first-none _ _ (omega arith) (a .1) in
+      let c = first-none _ _ (omega arith) (b .1) in
+      let d = first-none _ _ (omega arith) (c .1) in
+      let e = first-none _ _ (omega arith) (d .1) in
+      let f = first-none _ _ (omega arith) (e .1) in
       record { left-short = a .0; right-short = b .0; left-placed = c .0; right-placed = d .0; left-range = e .0; right-range = f .0 }
 
 -- ---- the answer by its fault
@@ -121,14 +121,14 @@ module _ (A B : List Pt) (s : ConvexSum) where
       by (went d u f c) = f
 
   -- the end is told where no edge is left
-  pub out : (t : ConvexSum) → nextOf (pairStep A B s) ≡ next.End t → BothOut A B s t
+  pub out : {t : ConvexSum} → nextOf (pairStep A B s) ≡ next.End t → BothOut A B s t
   unfolding pairStep
-  out t h = by (stops .heading) refl
+  out {t} h = by (stops .heading) refl
     where
       by : (k : Heading) → stops .heading ≡ k → BothOut A B s t
       by unset e =
           let q : next.End (stops .at) ≡ next.End t = sym (rw e) ∙ h in
-          subst (BothOut A B s) (cc) (run-out A B (stepsLeft s) s (omega arith) e)
+          subst (BothOut A B s) (cc) (run-out (stepsLeft s) (omega arith) e)
       by (along d) e =
           absurd (let q : next.Corner (record { x = sumPoint A B s .x; y = sumPoint A B s .y }) (stops .at) ≡ next.End t = sym (rw e) ∙ h in let z : _≡_ {A = ℕ} 0 1 = cc in omega (arith, z))
 
@@ -189,5 +189,5 @@ next-by l r s = record {
 
     ends : (t : ConvexSum) → pairSteppedOf l r s ≡ next.End t → RunOut (pointsOf l) (s .a) (t .a) × RunOut (pointsOf r) (s .b) (t .b)
     ends t h =
-        by-fault (λ z. let o = out (pointsOf l) (pointsOf r) s t (sym (taken z) ∙ h) in (o .left, o .right))
+        by-fault (λ z. let o = out (pointsOf l) (pointsOf r) s (sym (taken z) ∙ h) in (o .left, o .right))
         (λ e. absurd (let q : next.Refused (pairStepFault l r s) s ≡ next.End t = sym e ∙ h in let z : _≡_ {A = ℕ} 0 1 = cc in omega (arith, z)))

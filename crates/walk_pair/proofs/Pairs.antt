@@ -24,15 +24,15 @@ use Rattle.walk_pair.specs.Pairing.{firstOf}
 
 -- ---- what a walk begun tells
 
-begun-place : (l : List ℤ) (reflected : Bool) (w : Place) → begunOf l reflected ≡ begun.At w → (beginFault l reflected ≡ 0) × (w ≡ begin reflected (pointsOf l))
+begun-place : (l : List ℤ) (reflected : Bool) {w : Place} → begunOf l reflected ≡ begun.At w → (beginFault l reflected ≡ 0) × (w ≡ begin reflected (pointsOf l))
 unfolding begunOf
-begun-place l reflected w h =
+begun-place l reflected h =
     by-answer (beginFault l reflected) (begun.At (begin reflected (pointsOf l))) (begun.Refused (beginFault l reflected)) h (λ z q. (z, (cc)))
     (λ n q. absurd (let k : _≡_ {A = ℕ} 0 1 = cc in omega (arith, k)))
 
-begun-fault : (l : List ℤ) (reflected : Bool) (f : ℕ) → begunOf l reflected ≡ begun.Refused f → (f ≡ beginFault l reflected) × (f ≡ 0 → ⊥)
+begun-fault : (l : List ℤ) (reflected : Bool) {f : ℕ} → begunOf l reflected ≡ begun.Refused f → (f ≡ beginFault l reflected) × (f ≡ 0 → ⊥)
 unfolding begunOf
-begun-fault l reflected f h =
+begun-fault l reflected {f} h =
     by-answer (beginFault l reflected) (begun.At (begin reflected (pointsOf l))) (begun.Refused (beginFault l reflected)) h
     (λ z q. absurd (let k : _≡_ {A = ℕ} 0 1 = cc in omega (arith, k)))
     (λ n q. let same : f ≡ beginFault l reflected = cc in (same, λ z. n (sym same ∙ z)))
@@ -103,25 +103,25 @@ module _ (reflected : Bool) (l r : List ℤ) where
           pub pair-at : {w v : Place} → begunOf l false ≡ begun.At w → begunOf r reflected ≡ begun.At v → paired.At (record { a = w; b = v }) ≡ pairedOf reflected l r
           unfolding pairedOf
           pair-at {w} {v} p q =
-              let x = begun-place l false w p in
-              let y = begun-place r reflected v q in
+              let x = begun-place l false p in
+              let y = begun-place r reflected q in
               (λ i. paired.At (record { a = x .1 i; b = y .1 i }))
               ∙ accepts (paired.At (startOf reflected (pointsOf l) (pointsOf r))) (paired.Refused (pairBeginFault reflected l r)) (both-faults ∙ (λ i. merged (x .0 i) (y .0 i)))
 
           pub pair-second : {w : Place} {g : ℕ} → begunOf l false ≡ begun.At w → begunOf r reflected ≡ begun.Refused g → paired.Refused g ≡ pairedOf reflected l r
           pair-second {w} {g} p q =
-              let y = begun-fault r reflected g q in
-              refused-by (both-faults ∙ (λ i. merged (begun-place l false w p .0 i) (sym (y .0) i))) (y .1)
+              let y = begun-fault r reflected q in
+              refused-by (both-faults ∙ (λ i. merged (begun-place l false p .0 i) (sym (y .0) i))) (y .1)
 
           pub pair-first : {f : ℕ} {v : Place} → begunOf l false ≡ begun.Refused f → begunOf r reflected ≡ begun.At v → paired.Refused f ≡ pairedOf reflected l r
           pair-first {f} {v} p q =
-              let x = begun-fault l false f p in
-              refused-by (both-faults ∙ (λ i. merged (sym (x .0) i) (begun-place r reflected v q .0 i)) ∙ rw (ne-eqb f 0 (x .1))) (x .1)
+              let x = begun-fault l false p in
+              refused-by (both-faults ∙ (λ i. merged (sym (x .0) i) (begun-place r reflected q .0 i)) ∙ rw (ne-eqb f 0 (x .1))) (x .1)
 
           pub pair-both : {f g : ℕ} → begunOf l false ≡ begun.Refused f → begunOf r reflected ≡ begun.Refused g → {k : ℕ} → k ≡ firstOf f g → paired.Refused k ≡ pairedOf reflected l r
           pair-both {f} {g} p q {k} e =
-              let x = begun-fault l false f p in
-              let y = begun-fault r reflected g q in
+              let x = begun-fault l false p in
+              let y = begun-fault r reflected q in
               refused-by (both-faults ∙ (λ i. merged (sym (x .0) i) (sym (y .0) i)) ∙ rw (ne-eqb f 0 (x .1), ne-eqb g 0 (y .1)) (sym e)) (λ z. either-of (ltb g f) (sym e ∙ z) (x .1) (y .1))
             where
               either-of : (t : Bool) → cond t g f ≡ 0 → (f ≡ 0 → ⊥) → (g ≡ 0 → ⊥) → ⊥

@@ -37,33 +37,33 @@ module _ (l r : List ℤ) where
   -- ---- all steps
 
   -- the calls from s hand out K, where they do so from each t with fewer steps
-  from-step : (n : ℕ) (s : ConvexSum) → Judged l r s → ((t : ConvexSum) → Gave l r s t → HandsOut l r t (emit n A B t)) → (e : Emitted) → pairStep A B s ≡ e → HandsOut l r s (elim e [ corner p t ↦ p ∷ emit n A B t | end t ↦ [] ])
-  from-step n s j ih (corner p t) h = hands s t (intPoint p) (emit n A B t) (answered l r j ∙ ap nextOf h) (ih t (gave l r j p t h))
-  from-step n s j ih (end t) h = ends s t (answered l r j ∙ ap nextOf h)
+  from-step : (n : ℕ) {s : ConvexSum} → Judged l r s → ((t : ConvexSum) → Gave l r s t → HandsOut l r t (emit n A B t)) → (e : Emitted) → pairStep A B s ≡ e → HandsOut l r s (elim e [ corner p t ↦ p ∷ emit n A B t | end t ↦ [] ])
+  from-step n {s} j ih (corner p t) h = hands s t (intPoint p) (emit n A B t) (answered l r j ∙ ap nextOf h) (ih t (gave l r j p h))
+  from-step n {s} j ih (end t) h = ends s t (answered l r j ∙ ap nextOf h)
 
-  hands-emit : (n : ℕ) (s : ConvexSum) → Judged l r s → stepsLeft s ≤ n → HandsOut l r s (emit (suc n) A B s)
+  hands-emit : (n : ℕ) {s : ConvexSum} → Judged l r s → stepsLeft s ≤ n → HandsOut l r s (emit (suc n) A B s)
   unfolding emit
-  hands-emit zero s j h = from-step zero s j (λ t g. absurd (omega (arith, g .fewer))) (pairStep A B s) refl
-  hands-emit (suc n) s j h = from-step (suc n) s j (λ t g. hands-emit n t (g .judged) (omega (arith, g .fewer))) (pairStep A B s) refl
+  hands-emit zero {s} j h = from-step zero j (λ t g. absurd (omega (arith, g .fewer))) (pairStep A B s) refl
+  hands-emit (suc n) {s} j h = from-step (suc n) j (λ t g. hands-emit n (g .judged) (omega (arith, g .fewer))) (pairStep A B s) refl
 
   -- the calls are functions
-  handed-once : (s : ConvexSum) (K L : List Pt) → HandsOut l r s K → HandsOut l r s L → K ≡ L
-  handed-once s _ _ (ends _ t h) (ends _ u k) = refl
-  handed-once s _ _ (ends _ t h) (hands _ u p L k m) = absurd (let q : next.End t ≡ next.Corner p u = sym h ∙ k in let z : _≡_ {A = ℕ} 0 1 = cc in omega (arith, z))
-  handed-once s _ _ (hands _ t p K h m) (ends _ u k) = absurd (let q : next.Corner p t ≡ next.End u = sym h ∙ k in let z : _≡_ {A = ℕ} 0 1 = cc in omega (arith, z))
-  handed-once s _ _ (hands _ t p K h m) (hands _ u q L k n) =
+  handed-once : {s : ConvexSum} {K L : List Pt} → HandsOut l r s K → HandsOut l r s L → K ≡ L
+  handed-once (ends _ t h) (ends _ u k) = refl
+  handed-once (ends _ t h) (hands _ u p L k m) = absurd (let q : next.End t ≡ next.Corner p u = sym h ∙ k in let z : _≡_ {A = ℕ} 0 1 = cc in omega (arith, z))
+  handed-once (hands _ t p K h m) (ends _ u k) = absurd (let q : next.Corner p t ≡ next.End u = sym h ∙ k in let z : _≡_ {A = ℕ} 0 1 = cc in omega (arith, z))
+  handed-once (hands _ t p K h m) (hands _ u q L k n) =
       let e : next.Corner p t ≡ next.Corner q u = sym h ∙ k in
       let same : t ≡ u = cc in
       let here : p ≡ q = cc in
-      let rest : K ≡ L = handed-once t K L m (subst (λ z. HandsOut l r z L) (sym same) n) in
+      let rest : K ≡ L = handed-once m (subst (λ z. HandsOut l r z L) (sym same) n) in
       λ i. point (here i) ∷ rest i
 
 -- ---- a pair begun
 
 -- what is accepted: both walks at their starts
-pub begun-at : (reflected : Bool) (l r : List ℤ) (s : ConvexSum) → pairedOf reflected l r ≡ paired.At s → (pairBeginFault reflected l r ≡ 0) × (s ≡ startOf reflected (pointsOf l) (pointsOf r))
+pub begun-at : (reflected : Bool) (l r : List ℤ) {s : ConvexSum} → pairedOf reflected l r ≡ paired.At s → (pairBeginFault reflected l r ≡ 0) × (s ≡ startOf reflected (pointsOf l) (pointsOf r))
 unfolding pairedOf
-begun-at reflected l r s h =
+begun-at reflected l r h =
     by-answer (pairBeginFault reflected l r) (paired.At (startOf reflected (pointsOf l) (pointsOf r))) (paired.Refused (pairBeginFault reflected l r)) h (λ z q. (z, (cc)))
     (λ n q. absurd (let k : _≡_ {A = ℕ} 0 1 = cc in omega (arith, k)))
 
@@ -76,14 +76,14 @@ pub record Begun (reflected : Bool) (l r : List ℤ) : Type 0 where
 pub begun-judged : (reflected : Bool) (l r : List ℤ) → pairBeginFault reflected l r ≡ 0 → Begun reflected l r
 unfolding pairBeginFault
 begun-judged reflected l r h =
-    let a = first-none 7 _ _ (omega arith) h in
-    let b = first-none 7 _ _ (omega arith) (a .1) in
-    let c = first-none 2 _ _ (omega arith) (b .1) in
-    let d = first-none 2 _ _ (omega arith) (c .1) in
-    let e = first-none 8 _ _ (omega arith) (d .1) in
-    let f = first-none 8 _ _ (omega arith) (e .1) in
-    let g = first-none 20 _ _ (omega arith) (f .1) in
-    let k = first-none 20 _ _ (omega arith) (g .1) in
+    let a = first-none _ _ (omega arith) h in
+    let b = first-none _ _ (omega arith) (a .1) in
+    let c = first-none _ _ (omega arith) (b .1) in
+    let d = first-none _ _ (omega arith) (c .1) in
+    let e = first-none _ _ (omega arith) (d .1) in
+    let f = first-none _ _ (omega arith) (e .1) in
+    let g = first-none _ _ (omega arith) (f .1) in
+    let k = first-none _ _ (omega arith) (g .1) in
     let p = some-corner l (a .0) (eqb-false (length l) 0 (g .0)) in
     let q = some-corner r (b .0) (eqb-false (length r) 0 (k .0)) in
     record {
@@ -116,14 +116,14 @@ all-handed-out reflected l r s h = record { contour = contour; only = only; fart
 
     same : emit (suc (stepsLeft first)) (pointsOf l) (pointsOf r) first ≡ pairContour reflected (pointsOf l) (pointsOf r)
     same =
-        let b = begun-judged reflected l r (begun-at reflected l r s h .0) in
+        let b = begun-judged reflected l r (begun-at reflected l r h .0) in
         emit-enough (pointsOf l) (pointsOf r) (suc (stepsLeft first)) (stepsLeft first) first (omega arith) (omega arith) ∙ sym (begun-contour reflected (pointsOf l) (pointsOf r) (b .left) (b .right))
 
     contour : HandsOut l r s (pairContour reflected (pointsOf l) (pointsOf r))
     contour =
-        let b = begun-judged reflected l r (begun-at reflected l r s h .0) in
-        subst (λ z. HandsOut l r z (pairContour reflected (pointsOf l) (pointsOf r))) (sym (begun-at reflected l r s h .1))
-        (subst (HandsOut l r first) same (hands-emit l r (stepsLeft first) first (b .judged) (omega arith)))
+        let b = begun-judged reflected l r (begun-at reflected l r h .0) in
+        subst (λ z. HandsOut l r z (pairContour reflected (pointsOf l) (pointsOf r))) (sym (begun-at reflected l r h .1))
+        (subst (HandsOut l r first) same (hands-emit l r (stepsLeft first) (b .judged) (omega arith)))
 
     only : (K : List Pt) → HandsOut l r s K → K ≡ pairContour reflected (pointsOf l) (pointsOf r)
-    only K m = handed-once l r s K (pairContour reflected (pointsOf l) (pointsOf r)) m contour
+    only K m = handed-once l r m contour

@@ -26,7 +26,7 @@ use Rattle.walk_read.proofs.Grid.{off-nowhere}
 
 pub edge-ready : (l : List ℤ) (w : Place) → lengthBroken l ≡ false → misplaced (length (pointsOf l)) w ≡ false → offRange l ≡ false → (lengthBroken l ≡ false) × (misplaced (length (pointsOf l)) w ≡ false) × (offAt (pointsOf l) (w .index) ≡ false) × (offAt (pointsOf l) (nextIndex (length (pointsOf l)) w) ≡ false)
 edge-ready l w a b c =
-    (a, b, off-nowhere l (w .index) c (index-inside (length (pointsOf l)) w b), off-nowhere l (nextIndex (length (pointsOf l)) w) c (next-inside (length (pointsOf l)) w b))
+    (a, b, off-nowhere l c (index-inside (length (pointsOf l)) w b), off-nowhere l c (next-inside (length (pointsOf l)) w b))
 
 -- ---- the lesser edge
 
@@ -89,24 +89,24 @@ module _ (A B : List Pt) (s : ConvexSum) where
       (λ e. by-test (eqb (s .b .remaining) 0)
       (λ f. subst Picked (by-tests e f) (first-steps (above (s .a .remaining) e)))
       (λ f. subst Picked (by-tests e f)
-      (cond-ind (isZero (edgeOf A (s .a))) (first (edgeOf A (s .a))) _ Picked (λ t. first-steps (above (s .a .remaining) e))
-      (λ t. cond-ind (isZero (edgeOf B (s .b))) (second (edgeOf B (s .b))) _ Picked (λ t. second-steps (above (s .b .remaining) f))
-      (λ t. cond-ind (isGreater (angleCmp (edgeOf A (s .a)) (edgeOf B (s .b)))) (second (edgeOf B (s .b))) (first (edgeOf A (s .a))) Picked
+      (cond-ind (isZero (edgeOf A (s .a))) Picked (λ t. first-steps (above (s .a .remaining) e))
+      (λ t. cond-ind (isZero (edgeOf B (s .b))) Picked (λ t. second-steps (above (s .b .remaining) f))
+      (λ t. cond-ind (isGreater (angleCmp (edgeOf A (s .a)) (edgeOf B (s .b)))) Picked
       (λ t. second-steps (above (s .b .remaining) f)) (λ t. first-steps (above (s .a .remaining) e)))))))
     where
       above : (k : ℕ) → eqb k 0 ≡ false → 0 < k
       above k e = let n : k ≡ 0 → ⊥ = eqb-false k 0 e in omega arith
 
-  pub first-left : (e : Pt) → first e ≡ nextStep A B s → (0 < s .a .remaining) × (e ≡ edgeOf A (s .a))
-  first-left e h = by (nextStep A B s) (sym h) picked
+  pub first-left : {e : Pt} → first e ≡ nextStep A B s → (0 < s .a .remaining) × (e ≡ edgeOf A (s .a))
+  first-left {e} h = by (nextStep A B s) (sym h) picked
     where
       by : (p : Pick) → p ≡ first e → Picked p → (0 < s .a .remaining) × (e ≡ edgeOf A (s .a))
       by none h (none-left a b) = absurd (let z : _≡_ {A = ℕ} 0 1 = cc in omega (arith, z))
       by (first v) h (first-steps k) = (k, cc)
       by (second v) h (second-steps k) = absurd (let z : _≡_ {A = ℕ} 0 1 = cc in omega (arith, z))
 
-  pub second-left : (e : Pt) → second e ≡ nextStep A B s → (0 < s .b .remaining) × (e ≡ edgeOf B (s .b))
-  second-left e h = by (nextStep A B s) (sym h) picked
+  pub second-left : {e : Pt} → second e ≡ nextStep A B s → (0 < s .b .remaining) × (e ≡ edgeOf B (s .b))
+  second-left {e} h = by (nextStep A B s) (sym h) picked
     where
       by : (p : Pick) → p ≡ second e → Picked p → (0 < s .b .remaining) × (e ≡ edgeOf B (s .b))
       by none h (none-left a b) = absurd (let z : _≡_ {A = ℕ} 0 1 = cc in omega (arith, z))

@@ -35,9 +35,9 @@ module _ (l : List ℤ) (w : Place) {f : ℕ} (e : f ≡ pointFault l w) where
   pub point-sound : f ≡ 0 → (misplaced (length (pointsOf l)) w ≡ false) × (offAt (pointsOf l) (w .index) ≡ false)
   unfolding pointFault
   point-sound z =
-      let a = first-none 7 _ _ (omega arith) (sym e ∙ z) in
-      let b = first-none 23 _ _ (omega arith) (a .1) in
-      (b .0, first-none 2 _ _ (omega arith) (b .1) .0)
+      let a = first-none _ _ (omega arith) (sym e ∙ z) in
+      let b = first-none _ _ (omega arith) (a .1) in
+      (b .0, first-none _ _ (omega arith) (b .1) .0)
 
 -- ---- the step, its edge and its advance
 

@@ -15,10 +15,10 @@ half-product x b h k = mul-le-mul {n₁ = x} {m₁ = b} {n₂ = 4294967295} {m�
 
 -- a b = a₁ b 2^32 + a₀ b, with a₀ b = p₁ 2^32 + p₀ and a₁ b + p₁ = q₁ 2^32 + q₀
 pub halves : (a b : ℕ) → twoWords ((a / H * b + a % H * b / H) / H) ((a / H * b + a % H * b / H) % H * H + a % H * b % H) ≡ a * b
-halves a b = of (a / H * b) (a % H * b) (a * b) (split ∙ ap (λ z. z * b) (div-add-mod' a H))
+halves a b = of (a / H * b) (a % H * b) (split ∙ ap (λ z. z * b) (div-add-mod' a H))
   where
     split : a / H * b * H + a % H * b ≡ (a / H * H + a % H) * b
     split = omega arith
 
-    of : (above below n : ℕ) → above * H + below ≡ n → twoWords ((above + below / H) / H) ((above + below / H) % H * H + below % H) ≡ n
-    of above below n e = omega arith
+    of : (above below : ℕ) {n : ℕ} → above * H + below ≡ n → twoWords ((above + below / H) / H) ((above + below / H) % H * H + below % H) ≡ n
+    of above below e = omega arith

@@ -26,8 +26,8 @@ module _ (ah al bh bl : ℕ) where
 -- ---- (ah, al) - (bh, bl)
 
 -- al + 2^64 - bl
-pub lent-fits : (al bl : ℕ) → al < bl → bl < 2 ^ 64 → Fits w64 (al + (18446744073709551615 - bl) + 1)
-lent-fits al bl l f = omega arith
+pub lent-fits : {al bl : ℕ} → al < bl → bl < 2 ^ 64 → Fits w64 (al + (18446744073709551615 - bl) + 1)
+lent-fits l f = omega arith
 
 module _ (ah al bh bl : ℕ) (h : twoWords bh bl ≤ twoWords ah al) (fa : al < 2 ^ 64) where
   pub high-less : bh ≤ ah

@@ -21,10 +21,10 @@ module _ (u x v : ℕ) (hv : 2 ^ 63 ≤ v) (hu : u < v) (hx : x < 2 ^ 32) where
   pub guess-start : Guess u x v (u / (v / H)) (u % (v / H))
   guess-start =
       let m : u % (v / H) < v / H = mod-lt u (omega arith) in
-      record { sum = div-add-mod' u (v / H); most = start (u / (v / H)) (u % (v / H)) m; near = omega arith }
+      record { sum = div-add-mod' u (v / H); most = start (u / (v / H)) m; near = omega arith }
     where
-      start : (q r : ℕ) → r < v / H → r * H + x < q * (v % H) + v
-      start q r m = omega arith
+      start : (q : ℕ) {r : ℕ} → r < v / H → r * H + x < q * (v % H) + v
+      start q m = omega arith
 
   module _ (q rest : ℕ) (g : Guess u x v q rest) where
     -- q v₁ ≤ u < v < (2^32 + 2) v₁, so q v₀ ≤ (2^32 + 1) (2^32 - 1)
@@ -55,10 +55,10 @@ module _ (u x v : ℕ) (hv : 2 ^ 63 ≤ v) (hu : u < v) (hx : x < 2 ^ 32) where
 
     -- the remainder where rest 2^32 is past a word
     pub guess-late : v < 2 ^ 64 → H ≤ rest → Divided (u * 2 ^ 32 + x) v (record { quotient = q; remainder = (rest - H) * H + x + (18446744073709551615 - q * (v % H)) + 1 }) × (q < 2 ^ 32)
-    guess-late f h = right ((rest - H) * H + x + (18446744073709551615 - q * (v % H)) + 1) (late (q * (v % H)) (product-fits f))
+    guess-late f h = right ((rest - H) * H + x + (18446744073709551615 - q * (v % H)) + 1) (late (product-fits f))
       where
-        late : (p : ℕ) → p < 2 ^ 64 → (rest - H) * H + x + (18446744073709551615 - p) + 1 + p ≡ rest * H + x
-        late p l = omega (arith, h)
+        late : {p : ℕ} → p < 2 ^ 64 → (rest - H) * H + x + (18446744073709551615 - p) + 1 + p ≡ rest * H + x
+        late l = omega (arith, h)
 
   -- q v₀ > rest 2^32 + x, so q is too large
   pub guess-some : (q rest : ℕ) → rest * H + x < q * (v % H) → 1 ≤ q

@@ -15,11 +15,11 @@ power-split : (i j n : ℕ) → i + j ≡ n → 2 ^ n ≡ 2 ^ i * 2 ^ j
 power-split i j n e = ap (λ m. 2 ^ m) (sym e) ∙ pow-add 2 i j
 
 -- 2^j ≤ d < 2^(j + 1) and s + j + 1 = 64
-pub normal-of : (d : ℕ) → 0 < d → d < 2 ^ 64 → Normal d (leadingZeros 64 d)
-normal-of d h f = let t = leading-top 64 d h f in of (leadingZeros 64 d) (t .0) (t .1) (t .2) (t .3)
+pub normal-of : {d : ℕ} → 0 < d → d < 2 ^ 64 → Normal d (leadingZeros 64 d)
+normal-of {d} h f = let t = leading-top 64 d h f in of (t .0) (t .1) (t .2) (t .3)
   where
-    of : (s j : ℕ) → s + suc j ≡ 64 → 2 ^ j ≤ d → d < 2 ^ suc j → Normal d s
-    of s j e l u =
+    of : {s : ℕ} (j : ℕ) → s + suc j ≡ 64 → 2 ^ j ≤ d → d < 2 ^ suc j → Normal d s
+    of {s} j e l u =
         let p : 2 ^ 63 ≡ 2 ^ j * 2 ^ s = power-split j s 63 (omega arith) in
         let w : 2 ^ 64 ≡ 2 ^ suc j * 2 ^ s = power-split (suc j) s 64 (omega arith) in
         record {
@@ -29,8 +29,8 @@ normal-of d h f = let t = leading-top 64 d h f in of (leadingZeros 64 d) (t .0) 
         }
 
 -- Q d P + R = N P and R < d P give Q d + R / P = N
-unscale : (N Q R d P : ℕ) → 0 < P → Q * (d * P) + R ≡ N * P → R < d * P → (Q * d + R / P ≡ N) × (R / P < d)
-unscale N Q R d P p e l =
+unscale : (N Q : ℕ) {R : ℕ} (d : ℕ) {P : ℕ} → 0 < P → Q * (d * P) + R ≡ N * P → R < d * P → (Q * d + R / P ≡ N) × (R / P < d)
+unscale N Q {R} d {P} p e l =
     let m : Q * d ≤ N = le-of-mul-le-mul-right {m = Q * d} {n = N} {k = P} (omega (arith, e)) p in
     of (N - Q * d) (omega (arith, m))
   where
@@ -94,5 +94,5 @@ module _ (h l d s : ℕ) (hd : h < d) (fl : l < 2 ^ 64) (n : Normal d s) where
   pub unscaled : {q : Quotient} → Divided (twoWords top ((l * P) % 2 ^ 64)) ((d * P) % 2 ^ 64) q → Divided (twoWords h l) d (record { quotient = q .quotient; remainder = q .remainder / P })
   unscaled {q} g =
       let f : Divided (twoWords h l * P) (d * P) q = subst (λ n. Divided n (d * P) q) scaled (subst (λ v. Divided (twoWords top ((l * P) % 2 ^ 64)) v q) divisor-kept g) in
-      let r = unscale (twoWords h l) (q .quotient) (q .remainder) d P (pow-pos s) (f .whole) (f .rest) in
+      let r = unscale (twoWords h l) (q .quotient) d (pow-pos s) (f .whole) (f .rest) in
       record { whole = r .0; rest = r .1 }

@@ -14,7 +14,7 @@ three-on-grid-requires c κs = search needs
 
 area-two-requires : tie.Need-area-two-requires
 area-two-requires c κs =
-    let on = three-on _ _ _ (c .before .three-on-grid .ensures) (c .if1 .taken) in
+    let on = three-on (c .before .three-on-grid .ensures) (c .if1 .taken) in
     search needs
 
 returns : tie.Need-returns

@@ -17,18 +17,18 @@ shared-slice-read-front : tie.Need-shared-slice-read-front
 shared-slice-read-front c = search needs
 
 cast-front : tie.Need-cast-front
-cast-front c = let p = placed _ _ _ (c .before .before .pre .0) (c .before .before .pre .1) in omega arith
+cast-front c = let p = placed _ _ (c .before .before .pre .0) (c .before .before .pre .1) in omega arith
 
 front-requires : tie.Need-front-requires
 front-requires c κs =
     let s = c .before .before in
-    let p = placed _ _ _ (s .pre .0) (s .pre .1) in
+    let p = placed _ _ (s .pre .0) (s .pre .1) in
     whole-corners _ _ (omega (arith, p .rises, p .within))
 
 returns : tie.Need-returns
 returns c =
     let s = c .before .before .before in
-    let p = placed _ _ _ (s .pre .0) (s .pre .1) in
+    let p = placed _ _ (s .pre .0) (s .pre .1) in
     ap length (c .front .ensures .0) ∙ length-take-le _ _ (omega (arith, p .rises, p .within))
 
 pub first-number-spec : {M : Type 1} → statement M

@@ -25,7 +25,7 @@ returns c =
     let judged = test .before in
     let s = judged .before in
     let g = s .args in
-    kept-yes (g .points .now) (g .count) (point (g .b)) (sym (judged .bends .ensures) ∙ test .if1 .taken) (s .pre .0) (put .put-point .ensures)
+    kept-yes (g .points .now) (point (g .b)) (sym (judged .bends .ensures) ∙ test .if1 .taken) (s .pre .0) (put .put-point .ensures)
 
 returns-2 : tie.Need-returns-2
 returns-2 c =

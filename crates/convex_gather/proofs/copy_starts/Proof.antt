@@ -48,7 +48,7 @@ loop-again c =
     let g = s .args in (
       omega (arith, h),
       length-set (l .loop .to) (l .loop .i) _ ∙ l .loop .inv .1,
-      copy-turn (g .from .now) (g .to .now) (l .loop .i) 0 (omega (arith, h, s .pre .0)) (omega (arith, h, s .pre .1)) (l .loop .inv .2) refl,
+      copy-turn (g .from .now) (g .to .now) 0 (omega (arith, h, s .pre .0)) (omega (arith, h, s .pre .1)) (l .loop .inv .2) refl,
     )
 
 same-length : tie.Need-same-length Inv-loop μ-loop

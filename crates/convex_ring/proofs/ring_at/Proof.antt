@@ -31,7 +31,7 @@ point-at-requires-2 c κs = search needs
 returns-2 : tie.Need-returns-2
 returns-2 c =
     let s = c .before .before in
-    (c .point-at2 .ensures .0 ∙ sym (around-far (s .args .corners .now) (s .args .pending) (s .args .done) (s .pre .0) (s .args .i) (s .pre .1) (c .before .if1 .left)), c .point-at2 .ensures .1)
+    (c .point-at2 .ensures .0 ∙ sym (around-far (s .args .corners .now) (s .args .pending) (s .args .done) (s .pre .0) (s .pre .1) (c .before .if1 .left)), c .point-at2 .ensures .1)
 
 pub ring-at-spec : {M : Type 1} → statement M
 ring-at-spec =

@@ -17,10 +17,10 @@ use Rattle.corners.proofs.off_range.Statement.{statement}
 use Rattle.corners.proofs.off_range.Tie as tie
 
 -- number i
-turn : (xs : List ℤ) (i : ℕ) → i < length xs → (off : Bool) {off′ : Bool} {u : ℤ} → u ≡ getD xs i (pos 0) → off′ ≡ cond (inRange u) off true
+turn : (xs : List ℤ) {i : ℕ} → i < length xs → (off : Bool) {off′ : Bool} {u : ℤ} → u ≡ getD xs i (pos 0) → off′ ≡ cond (inRange u) off true
     → cond off true (offRange (drop i xs)) ≡ cond off′ true (offRange (drop (i + 1) xs))
 unfolding offRange
-turn xs i h off {off′} {u} p e = rw (add-one, drop-cons xs i (pos 0), ← p, e) (either off (inRange u) _)
+turn xs {i} h off {off′} {u} p e = rw (add-one, drop-cons xs i (pos 0), ← p, e) (either off (inRange u) _)
   where
     either : (a b c : Bool) → cond a true (cond b c true) ≡ cond (cond b a true) true c
     either true true c = refl
@@ -28,10 +28,10 @@ turn xs i h off {off′} {u} p e = rw (add-one, drop-cons xs i (pos 0), ← p, e
     either false true c = refl
     either false false c = refl
 
-end : (xs : List ℤ) (i : ℕ) → length xs ≤ i → (off : Bool) → cond off true (offRange (drop i xs)) ≡ off
+end : (xs : List ℤ) {i : ℕ} → length xs ≤ i → (off : Bool) → cond off true (offRange (drop i xs)) ≡ off
 unfolding offRange
-end xs i h true = refl
-end xs i h false = rw (drop-of-length-le xs {i = i} h)
+end xs h true = refl
+end xs {i} h false = rw (drop-of-length-le xs {i = i} h)
 
 abbrev Inv-loop : tie.InvT-loop
 Inv-loop numbers off₀ i₀ off i = (i ≤ length numbers) × (offRange numbers ≡ cond off true (offRange (drop i numbers)))
@@ -61,10 +61,10 @@ loop-again : tie.Need-loop-again Inv-loop μ-loop
 loop-again c =
     let a = c .before in
     let l = a .before .before in
-    (search needs, l .loop .inv .1 ∙ turn _ _ (a .before .loop-test .taken) (l .loop .off) (got w32 _ (a .or-off-arg .given)) (c .or-off .ensures))
+    (search needs, l .loop .inv .1 ∙ turn _ (a .before .loop-test .taken) (l .loop .off) (got w32 _ (a .or-off-arg .given)) (c .or-off .ensures))
 
 returns : tie.Need-returns Inv-loop μ-loop
-returns c = sym (c .before .loop .inv .1 ∙ end _ _ (c .loop-test .left) (c .before .loop .off))
+returns c = sym (c .before .loop .inv .1 ∙ end _ (c .loop-test .left) (c .before .loop .off))
 
 pub off-range-spec : {M : Type 1} → statement M
 off-range-spec =

@@ -33,7 +33,7 @@ number-requires-2 : tie.Need-number-requires-2
 number-requires-2 c κs = search needs
 
 negative-requires : tie.Need-negative-requires
-negative-requires c κs = read-at-most 2147483648 _ (c .before .number2 .ensures) (c .if3 .taken)
+negative-requires c κs = read-at-most _ (c .before .number2 .ensures) (c .if3 .taken)
 
 returns-3 : tie.Need-returns-3
 returns-3 c = behind-minus (c .before .before .before .before .before .before .before .before .args .digits .now) (c .before .before .before .before .if2 .left) (c .before .before .number2 .ensures) (c .before .if3 .taken) (c .negative .ensures)

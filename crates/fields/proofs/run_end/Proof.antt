@@ -39,19 +39,19 @@ loop-again : tie.Need-loop-again Inv-loop μ-loop
 loop-again c =
     let l = c .before .before .before .before in
     let s = l .before .before in
-    (omega arith, omega arith, l .loop .inv .2 ∙ run-more (inRun (s .args .kind)) (s .args .text .now) (l .loop .i) (c .before .before .before .loop-test .taken) (sym (c .before .belongs .ensures) ∙ c .if1 .taken))
+    (omega arith, omega arith, l .loop .inv .2 ∙ run-more (inRun (s .args .kind)) (s .args .text .now) (c .before .before .before .loop-test .taken) (sym (c .before .belongs .ensures) ∙ c .if1 .taken))
 
 returns : tie.Need-returns Inv-loop μ-loop
 returns c =
     let l = c .before .before .before .before in
     let s = l .before .before in
-    (sym (l .loop .inv .2 ∙ run-stop (inRun (s .args .kind)) (s .args .text .now) (l .loop .i) (c .before .before .before .loop-test .taken) (sym (c .before .belongs .ensures) ∙ c .if1 .left)), omega arith, omega arith)
+    (sym (l .loop .inv .2 ∙ run-stop (inRun (s .args .kind)) (s .args .text .now) (c .before .before .before .loop-test .taken) (sym (c .before .belongs .ensures) ∙ c .if1 .left)), omega arith, omega arith)
 
 returns-2 : tie.Need-returns-2 Inv-loop μ-loop
 returns-2 c =
     let l = c .before in
     let s = l .before .before in
-    (sym (l .loop .inv .2 ∙ run-past (inRun (s .args .kind)) (s .args .text .now) (l .loop .i) (omega arith)), omega arith, omega arith)
+    (sym (l .loop .inv .2 ∙ run-past (inRun (s .args .kind)) (s .args .text .now) (omega arith)), omega arith, omega arith)
 
 pub run-end-spec : {M : Type 1} → statement M
 run-end-spec =

@@ -30,7 +30,7 @@ array-borrow-prefix-rows c = omega (arith, c .triangle-count .ensures, sound (c 
 slice-aggregate-split-sound : tie.Need-slice-aggregate-split-sound
 slice-aggregate-split-sound c =
     let n = c .before .triangle-count in
-    sym (length-first (n .result) maxTriangles _ (omega (arith, n .ensures, sound (c .before .before .before .before .before .args .bytes .now) (sym (c .before .before .before .header-fault .ensures) ∙ c .before .before .if1 .left) .few)))
+    sym (length-first maxTriangles _ (omega (arith, n .ensures, sound (c .before .before .before .before .before .args .bytes .now) (sym (c .before .before .before .header-fault .ensures) ∙ c .before .before .if1 .left) .few)))
 
 split-sound-requires : tie.Need-split-sound-requires
 split-sound-requires c κs =
@@ -38,7 +38,7 @@ split-sound-requires c κs =
     let e = sym (c .before .before .before .before .before .header-fault .ensures) ∙ c .before .before .before .before .if1 .left in
     record {
       header = e;
-      for-rows = length-first (n .result) maxTriangles _ (omega (arith, n .ensures, sound (c .before .before .before .before .before .before .before .args .bytes .now) e .few)) ∙ n .ensures;
+      for-rows = length-first maxTriangles _ (omega (arith, n .ensures, sound (c .before .before .before .before .before .before .before .args .bytes .now) e .few)) ∙ n .ensures;
       for-starts = search needs;
       for-corners = search needs;
     }

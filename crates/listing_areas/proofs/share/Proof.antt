@@ -9,7 +9,7 @@ multiply-words-requires : tie.Need-multiply-words-requires
 multiply-words-requires c κs = search needs
 
 divide-requires : tie.Need-divide-requires
-divide-requires c κs = let s = c .before in high-below (s .args .area) (s .args .total) _ (c .multiply-words .ensures) (s .pre .0) (s .pre .1)
+divide-requires c κs = let s = c .before in high-below _ (c .multiply-words .ensures) (s .pre .0) (s .pre .1)
 
 returns : tie.Need-returns
 returns c = let s = c .before .before in share-is (s .args .area) (c .before .multiply-words .ensures) (c .divide .ensures)

@@ -30,17 +30,17 @@ area-at-requires : tie.Need-area-at-requires Inv-loop μ-loop
 area-at-requires c κs = (c .before .before .before .pre, omega (arith, c .loop-test .taken))
 
 -- what is added and what is left are within the total
-turn : (starts : List ℕ) (corners : List ℤ) (k total area : ℕ) → Listable starts corners → k < partCount starts → area ≡ areaOf (getD (tableParts starts corners) k [])
+turn : {starts : List ℕ} {corners : List ℤ} {k : ℕ} (total : ℕ) {area : ℕ} → Listable starts corners → k < partCount starts → area ≡ areaOf (getD (tableParts starts corners) k [])
     → total + totalArea (drop k (tableParts starts corners)) ≡ totalArea (tableParts starts corners)
     → (total + area + totalArea (drop (k + 1) (tableParts starts corners)) ≡ totalArea (tableParts starts corners)) × (total + area < 2 ^ 63)
-turn s c k total area h l e p =
+turn {starts = s} {corners = c} {k} total h l e p =
     let q = totals-turn (tableParts s c) k (omega (arith, count-parts s c (h .whole), l)) in (omega (arith, q, e, p), omega (arith, q, e, p, h .below))
 
 add-total : tie.Need-add-total Inv-loop μ-loop
 add-total c =
     let l = c .before .before in
     let s = l .before .before in
-    record { fits = omega (arith, turn _ _ _ _ _ (s .pre) (omega (arith, c .before .loop-test .taken)) (c .area-at .ensures) (l .loop .inv .1) .1) }
+    record { fits = omega (arith, turn _ (s .pre) (omega (arith, c .before .loop-test .taken)) (c .area-at .ensures) (l .loop .inv .1) .1) }
 
 add-k : tie.Need-add-k Inv-loop μ-loop
 add-k c = omega (arith, c .before .loop-test .taken)
@@ -52,7 +52,7 @@ loop-again : tie.Need-loop-again Inv-loop μ-loop
 loop-again c =
     let l = c .before .before in
     let s = l .before .before in
-    (omega (arith, c .before .loop-test .taken), turn _ _ _ _ _ (s .pre) (omega (arith, c .before .loop-test .taken)) (c .area-at .ensures) (l .loop .inv .1) .0)
+    (omega (arith, c .before .loop-test .taken), turn _ (s .pre) (omega (arith, c .before .loop-test .taken)) (c .area-at .ensures) (l .loop .inv .1) .0)
 
 returns : tie.Need-returns Inv-loop μ-loop
 returns c =

@@ -27,9 +27,9 @@ area-two-requires : tie.Need-area-two-requires
 area-two-requires c κs =
     let s = c .before .before .before in
     let l = s .args .corners .now in (
-      grid-at l 0 (s .pre .0) (omega (arith, s .pre .1)) (c .before .before .corner-at .ensures),
-      grid-at l (s .args .i) (s .pre .0) (omega (arith, s .pre .1)) (c .before .corner-at2 .ensures),
-      grid-at l (s .args .i + 1) (s .pre .0) (omega (arith, s .pre .1)) (c .corner-at3 .ensures),
+      grid-at l {i = 0} (s .pre .0) (omega (arith, s .pre .1)) (c .before .before .corner-at .ensures),
+      grid-at l {i = s .args .i} (s .pre .0) (omega (arith, s .pre .1)) (c .before .corner-at2 .ensures),
+      grid-at l {i = s .args .i + 1} (s .pre .0) (omega (arith, s .pre .1)) (c .corner-at3 .ensures),
     )
 
 returns : tie.Need-returns

@@ -30,7 +30,7 @@ refused-requires-2 c κs = search needs
 returns-3 : tie.Need-returns-3
 returns-3 c =
     let t = c .before .before .before .before .before .before .before .args .total in
-    c .refused2 .ensures ∙ above-refused (t .words .low) (omega (arith, c .before .if3 .taken)) ∙ ap areaTold (sym (value-above t (c .before .before .before .before .if1 .left) (c .before .before .before .if2 .left)))
+    c .refused2 .ensures ∙ above-refused (t .words .low) (omega (arith, c .before .if3 .taken)) ∙ ap areaTold (sym (value-above (c .before .before .before .before .if1 .left) (c .before .before .before .if2 .left)))
 
 cast-t4 : tie.Need-cast-t4
 cast-t4 c = search needs
@@ -38,7 +38,7 @@ cast-t4 c = search needs
 returns-4 : tie.Need-returns-4
 returns-4 c =
     let t = c .before .before .before .before .before .before .before .args .total in
-    above-told (t .words .low) (omega (arith, c .before .if3 .left)) (toZ-pos w64 (t .words .low) (omega (arith, c .before .if3 .left))) ∙ ap areaTold (sym (value-above t (c .before .before .before .before .if1 .left) (c .before .before .before .if2 .left)))
+    above-told (omega (arith, c .before .if3 .left)) (toZ-pos w64 (t .words .low) (omega (arith, c .before .if3 .left))) ∙ ap areaTold (sym (value-above (c .before .before .before .before .if1 .left) (c .before .before .before .if2 .left)))
 
 pub told-spec : {M : Type 1} → statement M
 told-spec =

@@ -12,17 +12,17 @@ use Rattle.measure.proofs.Answers.{below-told, below-refused}
 use Rattle.measure.proofs.told_below.Statement.{statement}
 use Rattle.measure.proofs.told_below.Tie as tie
 
-minus : (n : ℕ) → (n ≡ 0 → ⊥) → negsuc (n - 1) ≡ negℤ (pos n)
-minus n h = omega (zarith, neg-parts (pos n))
+minus : {n : ℕ} → (n ≡ 0 → ⊥) → negsuc (n - 1) ≡ negℤ (pos n)
+minus {n} h = omega (zarith, neg-parts (pos n))
 
-none : (n : ℕ) → n ≡ 0 → areaRefused 0 ≡ areaTold (negℤ (pos n))
-none n h = below-told n (omega (arith, h)) (omega (zarith, h, neg-parts (pos n)))
+none : {n : ℕ} → n ≡ 0 → areaRefused 0 ≡ areaTold (negℤ (pos n))
+none {n} h = below-told n (omega (arith, h)) (omega (zarith, h, neg-parts (pos n)))
 
 refused-requires : tie.Need-refused-requires
 refused-requires c κs = search needs
 
 returns : tie.Need-returns
-returns c = c .refused .ensures ∙ none (c .before .before .args .size) (c .before .if1 .taken)
+returns c = c .refused .ensures ∙ none (c .before .if1 .taken)
 
 refused-requires-2 : tie.Need-refused-requires-2
 refused-requires-2 c κs = search needs
@@ -42,7 +42,7 @@ sub-t5 c = down-fits w64 (c .before .before .args .size - 1) (omega (arith, c .i
 returns-3 : tie.Need-returns-3
 returns-3 c =
     let n = c .before .before .args .size in
-    below-told n (omega (arith, c .if2 .left)) (down-is w64 (n - 1) (omega (arith, c .if2 .left)) ∙ minus n (c .before .if1 .left))
+    below-told n (omega (arith, c .if2 .left)) (down-is w64 (n - 1) (omega (arith, c .if2 .left)) ∙ minus (c .before .if1 .left))
 
 pub told-below-spec : {M : Type 1} → statement M
 told-below-spec =

@@ -13,8 +13,8 @@ use borrow.Author.Needs.{needs}
 use Rattle.mesh.proofs.area_of.Statement.{statement}
 use Rattle.mesh.proofs.area_of.Tie as tie
 
-on-grid-of : (p : IntPoint) {q : Pt} → point p ≡ q → onGrid q ≡ true → OnGrid p
-on-grid-of p e h = let b = on-grid-both (point p) (ap onGrid e ∙ h) in record { x-small = b .0; y-small = b .1 }
+on-grid-of : {p : IntPoint} {q : Pt} → point p ≡ q → onGrid q ≡ true → OnGrid p
+on-grid-of {p} e h = let b = on-grid-both (point p) (ap onGrid e ∙ h) in record { x-small = b .0; y-small = b .1 }
 
 area : (t : Triangle) {a b c : Pt} → a ≡ vertex t 0 → b ≡ vertex t 1 → c ≡ vertex t 2 → areaTwo a b c ≡ triangleArea t
 unfolding vertex
@@ -33,7 +33,7 @@ area-two-requires : tie.Need-area-two-requires
 area-two-requires c κs =
     let s = c .before .before .before in
     let g = s .pre .on in
-    (on-grid-of _ (c .before .before .vertex-of .ensures) (g 0), on-grid-of _ (c .before .vertex-of2 .ensures) (g 1), on-grid-of _ (c .vertex-of3 .ensures) (g 2))
+    (on-grid-of (c .before .before .vertex-of .ensures) (g 0), on-grid-of (c .before .vertex-of2 .ensures) (g 1), on-grid-of (c .vertex-of3 .ensures) (g 2))
 
 returns : tie.Need-returns
 returns c =

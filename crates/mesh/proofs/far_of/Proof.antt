@@ -22,8 +22,8 @@ module _ (t : Triangle) (n : ℕ) where
   third e d f g = rw (ne-eqb (t .n0) n (λ k. d (e ∙ k)), ne-eqb (t .n1) n (λ k. g (f ∙ k)))
 
   -- seen over side v
-  over : (v : ℕ) {p : Pt} {a b : ℕ} → v ≡ opposite t n → p ≡ vertex t v → a ≡ neighbour t (after v) → b ≡ neighbour t (before v) → (p ≡ vertex t (opposite t n)) × (a ≡ neighbour t (after (opposite t n))) × (b ≡ neighbour t (before (opposite t n)))
-  over v e f g h = (f ∙ ap (vertex t) e, g ∙ ap (λ i. neighbour t (after i)) e, h ∙ ap (λ i. neighbour t (before i)) e)
+  over : {v : ℕ} {p : Pt} {a b : ℕ} → v ≡ opposite t n → p ≡ vertex t v → a ≡ neighbour t (after v) → b ≡ neighbour t (before v) → (p ≡ vertex t (opposite t n)) × (a ≡ neighbour t (after (opposite t n))) × (b ≡ neighbour t (before (opposite t n)))
+  over e f g h = (f ∙ ap (vertex t) e, g ∙ ap (λ i. neighbour t (after i)) e, h ∙ ap (λ i. neighbour t (before i)) e)
 
 neighbor-of-requires : tie.Need-neighbor-of-requires
 neighbor-of-requires c κs = search needs
@@ -41,7 +41,7 @@ returns : tie.Need-returns
 unfolding after
 returns c =
     let d = c .before .before in
-    over _ _ 0 (first _ _ (d .before .before .neighbor-of .ensures) (c .before .if1 .taken)) (c .vertex-of .ensures) (d .before .neighbor-of2 .ensures) (d .neighbor-of3 .ensures)
+    over _ _ (first _ _ (d .before .before .neighbor-of .ensures) (c .before .if1 .taken)) (c .vertex-of .ensures) (d .before .neighbor-of2 .ensures) (d .neighbor-of3 .ensures)
 
 vertex-of-requires-2 : tie.Need-vertex-of-requires-2
 vertex-of-requires-2 c κs = search needs
@@ -50,7 +50,7 @@ returns-2 : tie.Need-returns-2
 unfolding after
 returns-2 c =
     let d = c .before .before .before in
-    over _ _ 1 (second _ _ (d .before .before .neighbor-of .ensures) (c .before .before .if1 .left) (d .before .neighbor-of2 .ensures) (c .before .if2 .taken)) (c .vertex-of2 .ensures) (d .neighbor-of3 .ensures) (d .before .before .neighbor-of .ensures)
+    over _ _ (second _ _ (d .before .before .neighbor-of .ensures) (c .before .before .if1 .left) (d .before .neighbor-of2 .ensures) (c .before .if2 .taken)) (c .vertex-of2 .ensures) (d .neighbor-of3 .ensures) (d .before .before .neighbor-of .ensures)
 
 vertex-of-requires-3 : tie.Need-vertex-of-requires-3
 vertex-of-requires-3 c κs = search needs
@@ -59,7 +59,7 @@ returns-3 : tie.Need-returns-3
 unfolding after
 returns-3 c =
     let d = c .before .before .before in
-    over _ _ 2 (third _ _ (d .before .before .neighbor-of .ensures) (c .before .before .if1 .left) (d .before .neighbor-of2 .ensures) (c .before .if2 .left)) (c .vertex-of3 .ensures) (d .before .before .neighbor-of .ensures) (d .before .neighbor-of2 .ensures)
+    over _ _ (third _ _ (d .before .before .neighbor-of .ensures) (c .before .before .if1 .left) (d .before .neighbor-of2 .ensures) (c .before .if2 .left)) (c .vertex-of3 .ensures) (d .before .before .neighbor-of .ensures) (d .before .neighbor-of2 .ensures)
 
 pub far-of-spec : {M : Type 1} → statement M
 far-of-spec =

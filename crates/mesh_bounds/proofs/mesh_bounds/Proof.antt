@@ -50,7 +50,7 @@ loop-less c = omega (arith, c .before .before .loop-test .taken)
 loop-again : tie.Need-loop-again Inv-loop μ-loop
 loop-again c =
     let l = c .before .before .before .loop in
-    (omega (arith, c .before .before .loop-test .taken), sym (rows-more (c .before .before .before .before .before .before .before .before .args .rows .now) _ (l .b) (l .k) (c .before .before .loop-test .taken) (c .with-row .ensures)) ∙ l .inv .1)
+    (omega (arith, c .before .before .loop-test .taken), sym (rows-more (c .before .before .before .before .before .before .before .before .args .rows .now) _ (l .b) (c .before .before .loop-test .taken) (c .with-row .ensures)) ∙ l .inv .1)
 
 returns-2 : tie.Need-returns-2 Inv-loop μ-loop
 returns-2 c = let l = c .before .loop in sym (rows-done (c .before .before .before .before .before .before .args .rows .now) (l .b) (l .k) (omega (arith, c .loop-test .left))) ∙ l .inv .1

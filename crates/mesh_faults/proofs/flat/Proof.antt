@@ -27,7 +27,7 @@ shared-slice-copy-out-row-flat : tie.Need-shared-slice-copy-out-row-flat Inv-loo
 shared-slice-copy-out-row-flat c = omega arith
 
 row-flat-requires : tie.Need-row-flat-requires Inv-loop μ-loop
-row-flat-requires c κs = row-on-grid _ _ (omega arith) (c .before .before .before .pre)
+row-flat-requires c κs = row-on-grid _ (omega arith) (c .before .before .before .pre)
 
 returns : tie.Need-returns Inv-loop μ-loop
 unfolding flat

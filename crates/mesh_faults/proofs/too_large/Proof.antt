@@ -32,13 +32,13 @@ shared-slice-copy-out-area-of : tie.Need-shared-slice-copy-out-area-of Inv-loop 
 shared-slice-copy-out-area-of c = omega arith
 
 area-of-requires : tie.Need-area-of-requires Inv-loop μ-loop
-area-of-requires c κs = row-on-grid (c .before .before .before .args .mesh .now) (c .before .before .loop .k) (omega arith) (c .before .before .before .pre .0)
+area-of-requires c κs = row-on-grid (c .before .before .before .args .mesh .now) (omega arith) (c .before .before .before .pre .0)
 
 add-area-requires : tie.Need-add-area-requires Inv-loop μ-loop
 add-area-requires c κs =
     let l = c .before .before .before in
     let a = got w64 (c .area-of .result) (c .area-of .ok) ∙ c .area-of .ensures .0 in
-    (l .loop .inv .1 .low, subst (λ z. pos 0 ≤ℤ z) (sym a) (row-above (l .before .args .mesh .now) (l .before .pre .1) (l .loop .k) (omega arith)))
+    (l .loop .inv .1 .low, subst (λ z. pos 0 ≤ℤ z) (sym a) (row-above (l .before .args .mesh .now) (l .before .pre .1) {k = l .loop .k} (omega arith)))
 
 enum-known-sum : tie.Need-enum-known-sum Inv-loop μ-loop
 enum-known-sum c = search needs

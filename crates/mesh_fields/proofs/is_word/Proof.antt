@@ -8,7 +8,7 @@ same-requires : tie.Need-same-requires
 same-requires c κs = search needs
 
 returns : tie.Need-returns
-returns c = same-test (c .before .before .before .args .entry .now) (c .before .before .before .args .word .now) (c .same .result) (c .same .ensures)
+returns c = same-test (c .same .result) (c .same .ensures)
 
 pub is-word-spec : {M : Type 1} → statement M
 is-word-spec = tie.close (tie.spec same-requires returns)

@@ -14,7 +14,7 @@ same-length : tie.Need-same-length
 same-length c = search needs
 
 returns : tie.Need-returns
-returns c = put-word (c .before .args .at) (c .before .args .n .bits) (c .before .args .words .now) (c .before .pre) (c .if1 .taken)
+returns c = put-word (c .before .args .n .bits) (c .before .pre) (c .if1 .taken)
 
 returns-2 : tie.Need-returns-2
 returns-2 c = put-wrong (c .if1 .left)

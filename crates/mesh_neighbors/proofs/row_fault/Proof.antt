@@ -60,11 +60,11 @@ returns c =
     let rows = s .args .mesh .now in
     let k = s .args .k in
     three-told (rowsMesh rows) k
-    (side-read rows k 0 (s .pre) (omega arith) (p1 .neighbor-of .ensures) (p2 .before .neighbor-of2 .ensures) (p2 .neighbor-of3 .ensures)
+    (side-read rows (s .pre) (omega arith) (p1 .neighbor-of .ensures) (p2 .before .neighbor-of2 .ensures) (p2 .neighbor-of3 .ensures)
     (p3 .vertex-of2 .ensures) (p4 .before .vertex-of3 .ensures) (p4 .side-fault .ensures))
-    (side-read rows k 1 (s .pre) (omega arith) (p2 .before .neighbor-of2 .ensures) (p2 .neighbor-of3 .ensures) (p1 .neighbor-of .ensures)
+    (side-read rows (s .pre) (omega arith) (p2 .before .neighbor-of2 .ensures) (p2 .neighbor-of3 .ensures) (p1 .neighbor-of .ensures)
     (p4 .before .vertex-of3 .ensures) (p3 .before .vertex-of .ensures) (p5 .before .side-fault2 .ensures))
-    (side-read rows k 2 (s .pre) (omega arith) (p2 .neighbor-of3 .ensures) (p1 .neighbor-of .ensures) (p2 .before .neighbor-of2 .ensures)
+    (side-read rows (s .pre) (omega arith) (p2 .neighbor-of3 .ensures) (p1 .neighbor-of .ensures) (p2 .before .neighbor-of2 .ensures)
     (p3 .before .vertex-of .ensures) (p3 .vertex-of2 .ensures) (p5 .side-fault3 .ensures)) (c .before .earlier-of .ensures)
     (c .earlier-of2 .ensures)
 

@@ -23,7 +23,7 @@ slice-aggregate-bounds-within : tie.Need-slice-aggregate-bounds-within
 slice-aggregate-bounds-within c =
     let s = c .before .before .before in
     let n = c .before .triangle-count in
-    sym (length-first (n .result) maxTriangles _ (omega (arith, n .ensures, sound (s .args .bytes .now) (accepted-header (s .args .bytes .now) (s .pre)) .few)))
+    sym (length-first maxTriangles _ (omega (arith, n .ensures, sound (s .args .bytes .now) (accepted-header (s .args .bytes .now) (s .pre)) .few)))
 
 bounds-within-requires : tie.Need-bounds-within-requires
 bounds-within-requires c κs =
@@ -31,7 +31,7 @@ bounds-within-requires c κs =
     let n = c .before .triangle-count in
     record {
       accepted = s .pre;
-      for-rows = length-first (n .result) maxTriangles _ (omega (arith, n .ensures, sound (s .args .bytes .now) (accepted-header (s .args .bytes .now) (s .pre)) .few)) ∙ n .ensures;
+      for-rows = length-first maxTriangles _ (omega (arith, n .ensures, sound (s .args .bytes .now) (accepted-header (s .args .bytes .now) (s .pre)) .few)) ∙ n .ensures;
     }
 
 returns : tie.Need-returns

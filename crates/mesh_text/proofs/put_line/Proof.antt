@@ -15,7 +15,7 @@ returns : tie.Need-returns
 returns c = put-first (c .before .before .before .before .before .before .before .args .line .now) (c .before .before .before .before .if1 .taken) (c .before .before .put-head .ensures)
 
 returns-2 : tie.Need-returns-2
-returns-2 c = put-wrong (fits-many (c .before .before .before .before .args .count) (c .before .before .before .before .args .line .now) (c .before .if1 .left) (c .if2 .taken))
+returns-2 c = put-wrong (fits-many (c .before .before .before .before .args .line .now) (c .before .if1 .left) (c .if2 .taken))
 
 mul-put-triangle : tie.Need-mul-put-triangle
 mul-put-triangle c = search needs
@@ -30,7 +30,7 @@ same-length-2 : tie.Need-same-length-2
 same-length-2 c = search needs
 
 returns-3 : tie.Need-returns-3
-returns-3 c = put-next (c .before .before .before .before .before .before .before .before .args .count) (c .before .before .before .before .before .before .before .before .args .line .now) (c .before .before .before .before .before .if1 .left) (c .before .before .before .before .if2 .left) (c .before .before .put-triangle .ensures)
+returns-3 c = put-next (c .before .before .before .before .before .before .before .before .args .line .now) (c .before .before .before .before .before .if1 .left) (c .before .before .before .before .if2 .left) (c .before .before .put-triangle .ensures)
 
 pub put-line-spec : {M : Type 1} → statement M
 put-line-spec =

@@ -18,7 +18,7 @@ mark-end-requires : tie.Need-mark-end-requires Inv-loop μ-loop
 mark-end-requires c κs = search needs
 
 loop-holds : tie.Need-loop-holds Inv-loop μ-loop
-loop-holds c = seeking-begins _ _ (c .mark-end .ensures .0) (c .mark-end .ensures .1)
+loop-holds c = seeking-begins _ (c .mark-end .ensures .0) (c .mark-end .ensures .1)
 
 run-end-requires : tie.Need-run-end-requires Inv-loop μ-loop
 run-end-requires c κs = search needs

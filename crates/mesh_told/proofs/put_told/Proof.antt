@@ -27,7 +27,7 @@ put-bytes-requires : tie.Need-put-bytes-requires
 put-bytes-requires c κs = search needs
 
 returns : tie.Need-returns
-returns c = told-written (c .before .before .before .before .args .told) (c .before .before .before .before .args .text .now) (c .before .told .given .1)
+returns c = told-written (c .before .before .before .before .args .text .now) (c .before .told .given .1)
 
 returns-2 : tie.Need-returns-2
 returns-2 c =

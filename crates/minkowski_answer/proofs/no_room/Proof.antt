@@ -10,7 +10,7 @@ use Rattle.minkowski_answer.proofs.no_room.Tie as tie
 returns : tie.Need-returns
 returns c =
     let s = c .before .before in
-    most-fit (s .args .room) (s .args .most) (s .pre .corners) (c .if1 .taken)
+    most-fit (s .pre .corners) (c .if1 .taken)
 
 count-all-requires : tie.Need-count-all-requires
 count-all-requires c κs =

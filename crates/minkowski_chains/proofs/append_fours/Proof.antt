@@ -45,7 +45,7 @@ append-four-requires c κs =
     let w : g .left * g .right < 2 ^ 64 = omega (arith, e, s .pre .2 .for-starts) in
     let h : l .s .n + 4 ≤ g .left * g .right = omega (arith, c .before .before .before .before .before .if1 .taken) in
     let p = four-piece all (l .s .n) (omega (arith, e, h)) in
-    (s .pre .0, to-more (g .left) (g .right) e w (l .s) (l .inv .0) 4 h, rooms-same (s .pre .1) (l .inv .1) (l .inv .2) (l .inv .3), to-room (g .left) (g .right) e w (l .s) (l .inv .0) p (s .pre .2))
+    (s .pre .0, to-more (g .left) (g .right) e w (l .s) (l .inv .0) h, rooms-same (s .pre .1) (l .inv .1) (l .inv .2) (l .inv .3), to-room (g .left) (g .right) e w (l .s) (l .inv .0) p (s .pre .2))
 
 loop-less : tie.Need-loop-less Inv-loop μ-loop
 loop-less c =

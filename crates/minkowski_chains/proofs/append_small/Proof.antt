@@ -21,7 +21,7 @@ slice-aggregate-append-used-3 c = search needs
 append-used-requires : tie.Need-append-used-requires
 append-used-requires c κs =
     let s = c .before .before .before .before .before .before .before .before in
-    (s .pre .0 .0, rooms-long (s .args .points .now) (omega (arith, s .pre .0 .1)) refl refl refl, s .pre .1)
+    (s .pre .0 .0, rooms-long (omega (arith, s .pre .0 .1)) refl refl refl, s .pre .1)
 
 same-length : tie.Need-same-length
 same-length c = search needs

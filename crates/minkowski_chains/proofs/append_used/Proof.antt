@@ -42,8 +42,8 @@ append-next-requires c κs =
     let a = l .inv .to (c .before .before .before .before .before .before .before .before .before .before .before .append-fours .ensures) in
     let w : g .left * g .right < 2 ^ 64 = omega (arith, e, s .pre .2 .for-starts) in
     let h : l .s .n + 1 ≤ g .left * g .right = omega (arith, c .before .before .if1 .taken) in
-    let p = one-piece all (l .s .n) (omega (arith, e, h)) in
-    (s .pre .0, to-more (g .left) (g .right) e w (l .s) a 1 h, to-room (g .left) (g .right) e w (l .s) a p (room-started z (s .pre .2)))
+    let p = one-piece {ps = all} {n = l .s .n} (omega (arith, e, h)) in
+    (s .pre .0, to-more (g .left) (g .right) e w (l .s) a h, to-room (g .left) (g .right) e w (l .s) a p (room-started z (s .pre .2)))
 
 loop-less : tie.Need-loop-less Inv-loop μ-loop
 loop-less c =
@@ -61,7 +61,7 @@ loop-again c =
     let l = c .before .before .before .before .before .before .before .before .loop in
     let w : g .left * g .right < 2 ^ 64 = omega (arith, e, s .pre .2 .for-starts) in
     let h : l .s .n + 1 ≤ g .left * g .right = omega (arith, c .before .before .before .before .before .before .if1 .taken) in
-    record { to = λ o. to-next (g .left) (g .right) e w (l .s) (l .inv .to o) (one-piece all (l .s .n) (omega (arith, e, h))) h (c .before .before .before .append-next .ensures) }
+    record { to = λ o. to-next (g .left) (g .right) e w (l .s) (l .inv .to o) (one-piece (omega (arith, e, h))) h (c .before .before .before .append-next .ensures) }
 
 same-length : tie.Need-same-length Inv-loop μ-loop
 same-length c = search needs
@@ -106,7 +106,7 @@ returns c =
     let z = c .before .before .before .before .before .before .before .before .before .before .before .before .before .before .before .before .before .put-start .ensures in
     let a = l .inv .to (c .before .before .before .before .before .before .before .before .before .append-fours .ensures) in
     let w : g .left * g .right < 2 ^ 64 = omega (arith, e, s .pre .2 .for-starts) in
-    to-end (g .left) (g .right) e w (l .s) a (g .starts .now) (omega (arith, c .if1 .left)) (omega (arith, s .pre .2 .for-starts)) z
+    to-end (g .left) (g .right) e w (l .s) a (omega (arith, c .if1 .left)) (omega (arith, s .pre .2 .for-starts)) z
 
 pub append-used-spec : {M : Type 1} → statement M
 append-used-spec =

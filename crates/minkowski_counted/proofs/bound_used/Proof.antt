@@ -27,7 +27,7 @@ returns c =
     let s = c .before .before .before .before .before .before .before .before in
     let g = s .args in
     let l = c .before .before .before .before .loop in
-    bounds-within (g .firsts .now) (g .points .now) (g .numbers .now) (g .left) (g .right) (s .pre .0 .keyed) (l .s) (l .inv) (g .room) (omega (arith, c .if2 .taken))
+    bounds-within (g .firsts .now) (g .points .now) (g .numbers .now) (g .left) (g .right) (s .pre .0 .keyed) (l .s) (l .inv) (omega (arith, c .if2 .taken))
 
 lower-one-requires : tie.Need-lower-one-requires Inv-loop μ-loop
 lower-one-requires c κs =

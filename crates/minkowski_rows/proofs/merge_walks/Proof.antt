@@ -21,28 +21,28 @@ record Places (firsts : List ℕ) (points : List (List ℤ)) (k : ℕ) : Type 0 
   rises : getD firsts k 0 ≤ getD firsts (k + 1) 0
   within : getD firsts (k + 1) 0 ≤ length points
 
-both : (firsts : List ℕ) (points : List (List ℤ)) (count m n : ℕ) → Walks firsts points count → m < count → n < count → Places firsts points m × Places firsts points n
-both firsts points count m n w h k = (at m h, at n k)
+both : {firsts : List ℕ} {points : List (List ℤ)} {count m n : ℕ} → Walks firsts points count → m < count → n < count → Places firsts points m × Places firsts points n
+both {firsts} {points} {count} {m} {n} w h k = (at h, at k)
   where
-    at : (i : ℕ) → i < count → Places firsts points i
-    at i h = let p = walk-placed firsts points count i w h in record { enough = firsts-enough firsts points count i w h; rises = p .rises; within = p .within }
+    at : {i : ℕ} → i < count → Places firsts points i
+    at {i} h = let p = walk-placed firsts points count i w h in record { enough = firsts-enough firsts points count i w h; rises = p .rises; within = p .within }
 
 mul-from : tie.Need-mul-from
 mul-from c =
     let s = c .before in
-    let b = both _ _ (s .args .count) (s .args .m) (s .args .n) (s .pre .0) (s .pre .1) (s .pre .2) in
+    let b = both (s .pre .0) (s .pre .1) (s .pre .2) in
     omega (arith, b .0, b .1)
 
 shared-slice-read-from : tie.Need-shared-slice-read-from
 shared-slice-read-from c =
     let s = c .before .before in
-    let b = both _ _ (s .args .count) (s .args .m) (s .args .n) (s .pre .0) (s .pre .1) (s .pre .2) in
+    let b = both (s .pre .0) (s .pre .1) (s .pre .2) in
     omega (arith, b .0, b .1)
 
 cast-from : tie.Need-cast-from
 cast-from c =
     let s = c .before .before in
-    let b = both _ _ (s .args .count) (s .args .m) (s .args .n) (s .pre .0) (s .pre .1) (s .pre .2) in
+    let b = both (s .pre .0) (s .pre .1) (s .pre .2) in
     omega (arith, b .0, b .1)
 
 add-to : tie.Need-add-to
@@ -51,37 +51,37 @@ add-to c = search needs
 mul-to : tie.Need-mul-to
 mul-to c =
     let s = c .before .before in
-    let b = both _ _ (s .args .count) (s .args .m) (s .args .n) (s .pre .0) (s .pre .1) (s .pre .2) in
+    let b = both (s .pre .0) (s .pre .1) (s .pre .2) in
     omega (arith, b .0, b .1)
 
 shared-slice-read-to : tie.Need-shared-slice-read-to
 shared-slice-read-to c =
     let s = c .before .before .before in
-    let b = both _ _ (s .args .count) (s .args .m) (s .args .n) (s .pre .0) (s .pre .1) (s .pre .2) in
+    let b = both (s .pre .0) (s .pre .1) (s .pre .2) in
     omega (arith, b .0, b .1)
 
 cast-to : tie.Need-cast-to
 cast-to c =
     let s = c .before .before .before in
-    let b = both _ _ (s .args .count) (s .args .m) (s .args .n) (s .pre .0) (s .pre .1) (s .pre .2) in
+    let b = both (s .pre .0) (s .pre .1) (s .pre .2) in
     omega (arith, b .0, b .1)
 
 mul-begin : tie.Need-mul-begin
 mul-begin c =
     let s = c .before .before .before in
-    let b = both _ _ (s .args .count) (s .args .m) (s .args .n) (s .pre .0) (s .pre .1) (s .pre .2) in
+    let b = both (s .pre .0) (s .pre .1) (s .pre .2) in
     omega (arith, b .0, b .1)
 
 shared-slice-read-begin : tie.Need-shared-slice-read-begin
 shared-slice-read-begin c =
     let s = c .before .before .before .before in
-    let b = both _ _ (s .args .count) (s .args .m) (s .args .n) (s .pre .0) (s .pre .1) (s .pre .2) in
+    let b = both (s .pre .0) (s .pre .1) (s .pre .2) in
     omega (arith, b .0, b .1)
 
 cast-begin : tie.Need-cast-begin
 cast-begin c =
     let s = c .before .before .before .before in
-    let b = both _ _ (s .args .count) (s .args .m) (s .args .n) (s .pre .0) (s .pre .1) (s .pre .2) in
+    let b = both (s .pre .0) (s .pre .1) (s .pre .2) in
     omega (arith, b .0, b .1)
 
 add-end : tie.Need-add-end
@@ -90,67 +90,67 @@ add-end c = search needs
 mul-end : tie.Need-mul-end
 mul-end c =
     let s = c .before .before .before .before in
-    let b = both _ _ (s .args .count) (s .args .m) (s .args .n) (s .pre .0) (s .pre .1) (s .pre .2) in
+    let b = both (s .pre .0) (s .pre .1) (s .pre .2) in
     omega (arith, b .0, b .1)
 
 shared-slice-read-end : tie.Need-shared-slice-read-end
 shared-slice-read-end c =
     let s = c .before .before .before .before .before in
-    let b = both _ _ (s .args .count) (s .args .m) (s .args .n) (s .pre .0) (s .pre .1) (s .pre .2) in
+    let b = both (s .pre .0) (s .pre .1) (s .pre .2) in
     omega (arith, b .0, b .1)
 
 cast-end : tie.Need-cast-end
 cast-end c =
     let s = c .before .before .before .before .before in
-    let b = both _ _ (s .args .count) (s .args .m) (s .args .n) (s .pre .0) (s .pre .1) (s .pre .2) in
+    let b = both (s .pre .0) (s .pre .1) (s .pre .2) in
     omega (arith, b .0, b .1)
 
 mul-append-pair : tie.Need-mul-append-pair
 mul-append-pair c =
     let s = c .before .before .before .before .before in
-    let b = both _ _ (s .args .count) (s .args .m) (s .args .n) (s .pre .0) (s .pre .1) (s .pre .2) in
+    let b = both (s .pre .0) (s .pre .1) (s .pre .2) in
     omega (arith, b .0, b .1)
 
 sub-append-pair : tie.Need-sub-append-pair
 sub-append-pair c =
     let s = c .before .before .before .before .before in
-    let b = both _ _ (s .args .count) (s .args .m) (s .args .n) (s .pre .0) (s .pre .1) (s .pre .2) in
+    let b = both (s .pre .0) (s .pre .1) (s .pre .2) in
     omega (arith, b .0, b .1)
 
 part-append-pair-start : tie.Need-part-append-pair-start
 part-append-pair-start c =
     let s = c .before .before .before .before .before in
-    let b = both _ _ (s .args .count) (s .args .m) (s .args .n) (s .pre .0) (s .pre .1) (s .pre .2) in
+    let b = both (s .pre .0) (s .pre .1) (s .pre .2) in
     omega (arith, b .0, b .1)
 
 part-append-pair-end : tie.Need-part-append-pair-end
 part-append-pair-end c =
     let s = c .before .before .before .before .before in
-    let b = both _ _ (s .args .count) (s .args .m) (s .args .n) (s .pre .0) (s .pre .1) (s .pre .2) in
+    let b = both (s .pre .0) (s .pre .1) (s .pre .2) in
     omega (arith, b .0, b .1)
 
 mul-append-pair-2 : tie.Need-mul-append-pair-2
 mul-append-pair-2 c =
     let s = c .before .before .before .before .before .before in
-    let b = both _ _ (s .args .count) (s .args .m) (s .args .n) (s .pre .0) (s .pre .1) (s .pre .2) in
+    let b = both (s .pre .0) (s .pre .1) (s .pre .2) in
     omega (arith, b .0, b .1)
 
 sub-append-pair-2 : tie.Need-sub-append-pair-2
 sub-append-pair-2 c =
     let s = c .before .before .before .before .before .before in
-    let b = both _ _ (s .args .count) (s .args .m) (s .args .n) (s .pre .0) (s .pre .1) (s .pre .2) in
+    let b = both (s .pre .0) (s .pre .1) (s .pre .2) in
     omega (arith, b .0, b .1)
 
 part-append-pair-start-2 : tie.Need-part-append-pair-start-2
 part-append-pair-start-2 c =
     let s = c .before .before .before .before .before .before in
-    let b = both _ _ (s .args .count) (s .args .m) (s .args .n) (s .pre .0) (s .pre .1) (s .pre .2) in
+    let b = both (s .pre .0) (s .pre .1) (s .pre .2) in
     omega (arith, b .0, b .1)
 
 part-append-pair-end-2 : tie.Need-part-append-pair-end-2
 part-append-pair-end-2 c =
     let s = c .before .before .before .before .before .before in
-    let b = both _ _ (s .args .count) (s .args .m) (s .args .n) (s .pre .0) (s .pre .1) (s .pre .2) in
+    let b = both (s .pre .0) (s .pre .1) (s .pre .2) in
     omega (arith, b .0, b .1)
 
 append-pair-requires : tie.Need-append-pair-requires

@@ -127,7 +127,7 @@ loop-less-3 c =
     let l = c .before .before .before .before .before .before .before .before .before .before .loop in
     let f = c .before .before .before .before .before .before .before .before .before .loop-test .taken in
     let g = c .before .before .before .before .before .before .before .before .if1 .left in
-    both-fall (length (s .args .a .now)) (length (s .args .b .now)) (l .i) (l .j) (l .inv .0) (l .inv .1)
+    both-fall (l .inv .0) (l .inv .1)
 
 loop-again-3 : tie.Need-loop-again-3 Inv-loop μ-loop
 loop-again-3 c =

@@ -35,17 +35,17 @@ enum-told-3 c = search needs
 returns-2 : tie.Need-returns-2
 returns-2 c =
     let s = c .before .before .before .before in
-    sym (tie-broken (s .args .a .now) (s .args .b .now) (s .args .i) (s .args .j) (s .pre .0) (c .before .before .before .if1 .left) ∙ ap isGreater (sym (c .before .before .edge-cmp .ensures) ∙ c .enum-told .given .1))
+    sym (tie-broken (s .args .a .now) (s .args .b .now) (s .args .j) (s .pre .0) (c .before .before .before .if1 .left) ∙ ap isGreater (sym (c .before .before .edge-cmp .ensures) ∙ c .enum-told .given .1))
 
 returns-3 : tie.Need-returns-3
 returns-3 c =
     let s = c .before .before .before .before in
-    sym (tie-broken (s .args .a .now) (s .args .b .now) (s .args .i) (s .args .j) (s .pre .0) (c .before .before .before .if1 .left) ∙ ap isGreater (sym (c .before .before .edge-cmp .ensures) ∙ c .enum-told2 .given .1))
+    sym (tie-broken (s .args .a .now) (s .args .b .now) (s .args .j) (s .pre .0) (c .before .before .before .if1 .left) ∙ ap isGreater (sym (c .before .before .edge-cmp .ensures) ∙ c .enum-told2 .given .1))
 
 returns-4 : tie.Need-returns-4
 returns-4 c =
     let s = c .before .before .before .before in
-    sym (tie-broken (s .args .a .now) (s .args .b .now) (s .args .i) (s .args .j) (s .pre .0) (c .before .before .before .if1 .left) ∙ ap isGreater (sym (c .before .before .edge-cmp .ensures) ∙ c .enum-told3 .given .1))
+    sym (tie-broken (s .args .a .now) (s .args .b .now) (s .args .j) (s .pre .0) (c .before .before .before .if1 .left) ∙ ap isGreater (sym (c .before .before .edge-cmp .ensures) ∙ c .enum-told3 .given .1))
 
 pub second-next-spec : {M : Type 1} → statement M
 second-next-spec =

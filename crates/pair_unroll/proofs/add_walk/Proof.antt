@@ -26,7 +26,7 @@ corner-count-requires c κs = tt
 point-of-requires : tie.Need-point-of-requires Inv-loop μ-loop
 point-of-requires c κs =
     let s = c .before .before in
-    (s .pre .placed, off-nowhere (s .args .contour .now) (s .args .start .index) (s .pre .ranged) (index-inside _ _ (s .pre .placed)))
+    (s .pre .placed, off-nowhere (s .args .contour .now) (s .pre .ranged) (index-inside _ _ (s .pre .placed)))
 
 put-point-requires : tie.Need-put-point-requires Inv-loop μ-loop
 put-point-requires c κs = omega (arith, c .before .before .before .pre .room)
@@ -52,7 +52,7 @@ point-of-requires-2 c κs =
     let s = c .before .before .before .before .before .before .before .before .before .before in
     let l = s .args .contour .now in
     let p = walking-placed (pointsOf l) (s .args .start) (s .args .from) (c .before .before .before .before .loop .inv) (c .before .before .before .before .before .before .before .before .before .corner-count .ensures) (c .before .advance-of .ensures) in
-    (p, off-nowhere l _ (s .pre .ranged) (index-inside _ _ p))
+    (p, off-nowhere l (s .pre .ranged) (index-inside _ _ p))
 
 add-point-requires : tie.Need-add-point-requires Inv-loop μ-loop
 add-point-requires c κs =

@@ -42,7 +42,7 @@ unroll-part-requires c κs =
       whole = s .pre .whole;
       ranged = s .pre .ranged;
       inside = c .before .loop-test .taken;
-      room = unrolling-room (s .args .reflected) ps (s .args .done) k _ (omega (arith, n, c .before .loop-test .taken)) (omega (arith, n, count-corners _ _ (s .pre .whole), s .pre .for-points, k .appended .points-size));
+      room = unrolling-room (s .args .reflected) ps (s .args .done) k (omega (arith, n, c .before .loop-test .taken)) (omega (arith, n, count-corners _ _ (s .pre .whole), s .pre .for-points, k .appended .points-size));
     }
 
 enum-known-r : tie.Need-enum-known-r Inv-loop μ-loop

@@ -17,7 +17,7 @@ shared-slice-read-a : tie.Need-shared-slice-read-a
 shared-slice-read-a c = search needs
 
 cast-a : tie.Need-cast-a
-cast-a c = let p = placed _ _ _ (c .before .before .pre .whole) (c .before .before .pre .inside) in omega arith
+cast-a c = let p = placed _ _ (c .before .before .pre .whole) (c .before .before .pre .inside) in omega arith
 
 add-e : tie.Need-add-e
 add-e c = search needs
@@ -29,12 +29,12 @@ shared-slice-read-e : tie.Need-shared-slice-read-e
 shared-slice-read-e c = search needs
 
 cast-e : tie.Need-cast-e
-cast-e c = let p = placed _ _ _ (c .before .before .before .pre .whole) (c .before .before .before .pre .inside) in omega arith
+cast-e c = let p = placed _ _ (c .before .before .before .pre .whole) (c .before .before .before .pre .inside) in omega arith
 
 part-requires : tie.Need-part-requires
 part-requires c κs =
     let s = c .before .before .before in
-    let p = placed _ _ _ (s .pre .whole) (s .pre .inside) in
+    let p = placed _ _ (s .pre .whole) (s .pre .inside) in
     (p .rises, omega (arith, p .within, length-points (s .args .corners .now)))
 
 unroll-requires : tie.Need-unroll-requires
@@ -48,7 +48,7 @@ same-length c = search needs
 returns : tie.Need-returns
 returns c =
     let s = c .before .before .before .before .before .before .before in
-    unrolled-at (ap pointsOf (c .before .before .before .part .ensures .0 ∙ numbers-between _ _ _) ∙ part-is _ _ _ (s .pre .inside)) (c .before .unroll .ensures)
+    unrolled-at (ap pointsOf (c .before .before .before .part .ensures .0 ∙ numbers-between _ _ _) ∙ part-is _ _ (s .pre .inside)) (c .before .unroll .ensures)
 
 pub unroll-part-spec : {M : Type 1} → statement M
 unroll-part-spec =

@@ -43,7 +43,7 @@ placed-pair-requires : tie.Need-placed-pair-requires Inv-loop μ-loop
 placed-pair-requires c κs =
     let s = c .before .before .before .before .before in
     let l = c .before .before .loop in
-    (merging _ _ _ _ _ (s .pre .0 .walkable) _ (c .before .loop-test .taken) _ (omega (arith, s .pre .0 .for-corners, l .inv .0)), s .pre .1)
+    (merging _ _ _ _ _ (s .pre .0 .walkable) _ (c .before .loop-test .taken) (omega (arith, s .pre .0 .for-corners, l .inv .0)), s .pre .1)
 
 enum-told : tie.Need-enum-told Inv-loop μ-loop
 enum-told c = search needs

@@ -74,7 +74,7 @@ returns c =
     let n = count-starts B k (s .pre .0) in
     let e = r .read-words .ensures ∙ ap (λ m. overlay (take (m + 1) (drop (k + 2) (wordsOf B))) _) (p .word-at .ensures) in
     c .starts-broken .ensures
-    ∙ by-starts B k (s .pre .0) (s .pre .1) (q .word-at2 .ensures) (front (startsAt B k) _ e (n ∙ ap (λ m. m + 1) (sym (p .word-at .ensures))))
+    ∙ by-starts B k (s .pre .0) (s .pre .1) (q .word-at2 .ensures) (front _ e (n ∙ ap (λ m. m + 1) (sym (p .word-at .ensures))))
 
 pub table-broken-spec : {M : Type 1} → statement M
 table-broken-spec =

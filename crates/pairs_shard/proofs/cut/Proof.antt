@@ -20,10 +20,10 @@ returns : tie.Need-returns
 returns c =
     let s = c .before .before .before in
     let a = refused-cut (s .args .from) (s .args .to) (s .args .bytes .now) (s .args .out .now) (c .before .shard-fault .ensures) (c .if1 .taken) in
-    (a .0, (a .1, counted 0 (s .args .out .now) (omega arith)))
+    (a .0, (a .1, counted (s .args .out .now) (omega arith)))
 
 word-at-requires : tie.Need-word-at-requires
-word-at-requires c κs = omega (arith, known _ _ _ (asked 0 0 _ (sym (c .before .shard-fault .ensures) ∙ c .if1 .left)) .inside)
+word-at-requires c κs = omega (arith, known _ _ _ (asked 0 0 (sym (c .before .shard-fault .ensures) ∙ c .if1 .left)) .inside)
 
 cast-least-of : tie.Need-cast-least-of
 cast-least-of c = search needs
@@ -40,7 +40,7 @@ put-counts-requires c κs =
     let B = s .args .bytes .now in
     let p = c .before .before .least-of .ensures ∙ ap (leastOf (s .args .to)) (c .before .before .before .word-at .ensures) in
     let q = c .before .least-of2 .ensures ∙ ap (leastOf (s .args .from)) p in
-    (asked-as (s .args .from) (s .args .to) B (sym (c .before .before .before .before .before .shard-fault .ensures) ∙ c .before .before .before .before .if1 .left) q p, search needs)
+    (asked-as (s .args .from) (s .args .to) (sym (c .before .before .before .before .before .shard-fault .ensures) ∙ c .before .before .before .before .if1 .left) q p, search needs)
 
 put-rest-requires : tie.Need-put-rest-requires
 put-rest-requires c κs =
@@ -48,7 +48,7 @@ put-rest-requires c κs =
     let B = s .args .bytes .now in
     let p = c .before .before .before .before .least-of .ensures ∙ ap (leastOf (s .args .to)) (c .before .before .before .before .before .word-at .ensures) in
     let q = c .before .before .before .least-of2 .ensures ∙ ap (leastOf (s .args .from)) p in
-    let u = asked-as (s .args .from) (s .args .to) B (sym (c .before .before .before .before .before .before .before .shard-fault .ensures) ∙ c .before .before .before .before .before .before .if1 .left) q p in
+    let u = asked-as (s .args .from) (s .args .to) {bytes = B} (sym (c .before .before .before .before .before .before .before .shard-fault .ensures) ∙ c .before .before .before .before .before .before .if1 .left) q p in
     let k = known _ _ _ u in
     let n = length-counts k in
     (u, search needs, omega (arith, n, c .before .put-counts .ensures .after))
@@ -64,7 +64,7 @@ returns-2 c =
     let a = accepted-cut (s .args .from) (s .args .to) B (s .args .out .now) z (w .0) (w .1) in
     let fits = shard-fits (s .args .from) (s .args .to) B z in
     let n : length (s .args .out .now) ≡ 147516 = search needs in
-    (a .0, (a .1, counted (c .put-rest .result) _ (omega (arith, w .0, fits, n, ap length (w .1), length-overlay (shardOf (s .args .from) (s .args .to) B) (s .args .out .now) (omega (arith, fits, n))))))
+    (a .0, (a .1, counted _ (omega (arith, w .0, fits, n, ap length (w .1), length-overlay (shardOf (s .args .from) (s .args .to) B) (s .args .out .now) (omega (arith, fits, n))))))
 
 pub cut-spec : {M : Type 1} → statement M
 cut-spec =

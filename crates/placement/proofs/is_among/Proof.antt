@@ -19,8 +19,8 @@ abbrev μ-loop : tie.MeasureT-loop
 μ-loop contour z n right₀ left₀ above₀ below₀ k₀ right left above below k = n - k
 
 -- the answer by the flags in turn
-all-four : (b : Bool) {r f a t : Bool} → r ≡ true → f ≡ true → a ≡ true → t ≡ cond r (cond f (cond a b false) false) false → b ≡ t
-all-four b p q u e = sym (rw (p, q, u) at e)
+all-four : {b : Bool} {r f a t : Bool} → r ≡ true → f ≡ true → a ≡ true → t ≡ cond r (cond f (cond a b false) false) false → b ≡ t
+all-four p q u e = sym (rw (p, q, u) at e)
 
 not-third : (b : Bool) {r f a t : Bool} → r ≡ true → f ≡ true → a ≡ false → t ≡ cond r (cond f (cond a b false) false) false → false ≡ t
 not-third b p q u e = sym (rw (p, q, u) at e)
@@ -70,7 +70,7 @@ loop-again c =
 returns : tie.Need-returns Inv-loop μ-loop
 returns c =
     let l = c .before .before .before .before in
-    all-four _ (c .before .before .if1 .taken) (c .before .if2 .taken) (c .if3 .taken) (among-end _ _ (l .loop .inv) (omega (arith, c .before .before .before .loop-test .left, l .before .corner-count .ensures)))
+    all-four (c .before .before .if1 .taken) (c .before .if2 .taken) (c .if3 .taken) (among-end _ _ (l .loop .inv) (omega (arith, c .before .before .before .loop-test .left, l .before .corner-count .ensures)))
 
 returns-2 : tie.Need-returns-2 Inv-loop μ-loop
 returns-2 c =

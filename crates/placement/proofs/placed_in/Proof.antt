@@ -89,8 +89,8 @@ returns-3 c =
     turned-strictly _ _ (l .loop .inv .1) (omega (arith, c .before .before .loop-test .left, l .before .before .corner-count .ensures)) (c .before .if3 .taken) (c .if4 .taken)
 
 -- not both, by the way that control came
-not-strictly : (strict left : Bool) → ((strict ≡ true) × (left ≡ false)) ⊎ (strict ≡ false) → cond strict left false ≡ false
-not-strictly s t h = ⊎-elim (λ p. rw (p .0, p .1)) (λ p. rw p) h
+not-strictly : {strict left : Bool} → ((strict ≡ true) × (left ≡ false)) ⊎ (strict ≡ false) → cond strict left false ≡ false
+not-strictly h = ⊎-elim (λ p. rw (p .0, p .1)) (λ p. rw p) h
 
 is-among-requires : tie.Need-is-among-requires Inv-loop μ-loop
 is-among-requires c κs = search needs
@@ -99,14 +99,14 @@ returns-4 : tie.Need-returns-4 Inv-loop μ-loop
 returns-4 c =
     let a = c .before in
     let l = a .before .before .before in
-    by-corners (turned _ _ (l .loop .inv .1) (omega (arith, a .before .before .loop-test .left, l .before .before .corner-count .ensures)) (not-strictly (l .loop .strict) (l .loop .left) (⊎-elim (λ p. inl (p .0 .taken, p .1 .left)) (λ p. inr (p .left)) (a .before .if3 .came)))) .0
+    by-corners (turned _ _ (l .loop .inv .1) (omega (arith, a .before .before .loop-test .left, l .before .before .corner-count .ensures)) (not-strictly (⊎-elim (λ p. inl (p .0 .taken, p .1 .left)) (λ p. inr (p .left)) (a .before .if3 .came)))) .0
     (sym (a .is-among .ensures) ∙ c .if5 .taken)
 
 returns-5 : tie.Need-returns-5 Inv-loop μ-loop
 returns-5 c =
     let a = c .before in
     let l = a .before .before .before in
-    by-corners (turned _ _ (l .loop .inv .1) (omega (arith, a .before .before .loop-test .left, l .before .before .corner-count .ensures)) (not-strictly (l .loop .strict) (l .loop .left) (⊎-elim (λ p. inl (p .0 .taken, p .1 .left)) (λ p. inr (p .left)) (a .before .if3 .came)))) .1
+    by-corners (turned _ _ (l .loop .inv .1) (omega (arith, a .before .before .loop-test .left, l .before .before .corner-count .ensures)) (not-strictly (⊎-elim (λ p. inl (p .0 .taken, p .1 .left)) (λ p. inr (p .left)) (a .before .if3 .came)))) .1
     (sym (a .is-among .ensures) ∙ c .if5 .left)
 
 pub placed-in-spec : {M : Type 1} → statement M

@@ -20,8 +20,8 @@ area-two-requires c κs =
     let s = c .before .before in
     let e = s .pre .0 in
     let l = s .args .contour .now in (
-      grid-at l (s .args .i) (e .ranged) (e .from) (c .before .corner-at .ensures),
-      grid-at l (s .args .k) (e .ranged) (e .to) (c .corner-at2 .ensures),
+      grid-at l (e .ranged) (e .from) (c .before .corner-at .ensures),
+      grid-at l (e .ranged) (e .to) (c .corner-at2 .ensures),
       s .pre .1,
     )
 

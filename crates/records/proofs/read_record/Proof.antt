@@ -59,7 +59,7 @@ same-length-5 : tie.Need-same-length-5
 same-length-5 c = search needs
 
 returns-5 : tie.Need-returns-5
-returns-5 c = counted (c .before .before .before .before .before .before .before .word-at .result) _ (omega (arith, same-length-5 c))
+returns-5 c = counted _ (omega (arith, same-length-5 c))
 
 pub read-record-spec : {M : Type 1} → statement M
 read-record-spec =

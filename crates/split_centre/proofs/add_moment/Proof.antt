@@ -34,8 +34,8 @@ module _ {a b k u v j : ℤ} (p : u ≡ a) (q : v ≡ b) (r : j ≡ k) (ha : Ext
   product-is : (t : SignedProduct) → value t ≡ j *ℤ toZ w64 (ofZ w64 (u +ℤ v)) → value t ≡ (a +ℤ b) *ℤ k
   product-is t e = e ∙ ap₂ _*ℤ_ r sum-is ∙ *ℤ-comm k (a +ℤ b)
 
-  room : (h : ℕ) (t : SignedProduct) → h < 2 ^ 62 → value t ≡ j *ℤ toZ w64 (ofZ w64 (u +ℤ v)) → h + t .words .high + 1 < 18446744073709551616
-  room h t l e =
+  room : {h : ℕ} (t : SignedProduct) → h < 2 ^ 62 → value t ≡ j *ℤ toZ w64 (ofZ w64 (u +ℤ v)) → h + t .words .high + 1 < 18446744073709551616
+  room t l e =
       let size : natAbs (value t) ≡ natAbs j * natAbs (toZ w64 (ofZ w64 (u +ℤ v))) = ap natAbs e ∙ abs-* j (toZ w64 (ofZ w64 (u +ℤ v))) in
       let most : natAbs j * natAbs (toZ w64 (ofZ w64 (u +ℤ v))) ≤ 9223372036854775807 * 4294967295 = mul-le-mul {n₂ = 9223372036854775807} {m₂ = 4294967295} (omega (arith, cross-small)) (omega (arith, sum-small)) in
       omega (arith, l, high-below t (omega (arith, size, most)))
@@ -47,7 +47,7 @@ multiply-requires : tie.Need-multiply-requires
 multiply-requires c κs = let s = c in (cross-small (kept (s .fits .a)) (kept (s .fits .b)) (kept (s .fits .cross)) (s .pre .1) (s .pre .2) (s .pre .3), sum-small (kept (s .fits .a)) (kept (s .fits .b)) (kept (s .fits .cross)) (s .pre .1) (s .pre .2) (s .pre .3))
 
 add-requires : tie.Need-add-requires
-add-requires c κs = let s = c .before in room (kept (s .fits .a)) (kept (s .fits .b)) (kept (s .fits .cross)) (s .pre .1) (s .pre .2) (s .pre .3) (s .args .sum .words .high) (c .multiply .result) (s .pre .0) (c .multiply .ensures)
+add-requires c κs = let s = c .before in room (kept (s .fits .a)) (kept (s .fits .b)) (kept (s .fits .cross)) (s .pre .1) (s .pre .2) (s .pre .3) (c .multiply .result) (s .pre .0) (c .multiply .ensures)
 
 returns : tie.Need-returns
 returns c =

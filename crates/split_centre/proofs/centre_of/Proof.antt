@@ -60,7 +60,7 @@ module _ (l : List Pt) where
 
 on-grid : (l : List Pt) → 0 < length l → Summable l → {g : IntPoint} → g ≡ gridPoint (roundedCentre l) → OnGrid g
 on-grid [] n h e = absurd (omega arith)
-on-grid (c ∷ l) n h e = rw e (let k = on-grid-both (roundedCentre (c ∷ l)) (centre-on-grid c l h) in record { x-small = k .0; y-small = k .1 })
+on-grid (c ∷ l) n h e = rw e (let k = on-grid-both (roundedCentre (c ∷ l)) (centre-on-grid h) in record { x-small = k .0; y-small = k .1 })
 
 polygon-centroid-requires : tie.Need-polygon-centroid-requires
 polygon-centroid-requires c κs = c .pre

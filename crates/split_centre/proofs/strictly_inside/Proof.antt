@@ -41,8 +41,8 @@ module _ (cs : List (List ℤ)) (g : IntPoint) where
     turns : leZ u (pos 0) ≡ false → Round cs g b (i + 1)
     turns t = record { left = next ∙ rw (test-left k t); on = e .1 }
 
-  ends : {a b : IntPoint} (i : ℕ) {u : ℤ} → length cs ≤ i → Round cs g a i → point b ≡ cornerIn cs 0 → u ≡ areaTwo (point a) (point b) (point g) → ltZ (pos 0) u ≡ leftOfAll (point g) (neighbours (map cornerOf cs))
-  ends {a} i h r e k =
+  ends : {a b : IntPoint} {i : ℕ} {u : ℤ} → length cs ≤ i → Round cs g a i → point b ≡ cornerIn cs 0 → u ≡ areaTwo (point a) (point b) (point g) → ltZ (pos 0) u ≡ leftOfAll (point g) (neighbours (map cornerOf cs))
+  ends {a} {i} h r e k =
       ap (ltZ (pos 0)) k ∙ sym (r .left ∙ inside-end (point g) (map cornerOf cs) (point a) i (omega (arith, h, length-map cs cornerOf)) (corner-read cs 0 e))
 
 abbrev Inv-loop : tie.InvT-loop
@@ -93,7 +93,7 @@ returns-2 : tie.Need-returns-2 Inv-loop μ-loop
 returns-2 c =
     let s = c .before .before .before .before .before in
     let k = c .area-two2 in
-    ends (s .args .contour .now) (s .args .g) (c .before .before .before .loop .i) (c .before .before .loop-test .left) (c .before .before .before .loop .inv) (c .before .point-at3 .ensures .0) (got w64 (k .result) (k .ok) ∙ k .ensures .0)
+    ends (s .args .contour .now) (s .args .g) (c .before .before .loop-test .left) (c .before .before .before .loop .inv) (c .before .point-at3 .ensures .0) (got w64 (k .result) (k .ok) ∙ k .ensures .0)
 
 pub strictly-inside-spec : {M : Type 1} → statement M
 strictly-inside-spec =

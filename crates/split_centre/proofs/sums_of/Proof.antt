@@ -37,7 +37,7 @@ module _ (cs : List (List ℤ)) where
     in-list = omega (arith, k, length-map cs cornerOf)
 
     room : Summable l → Roomy s (cross (vector a) (vector b))
-    room h = rw (g .here, e) (sofar-room h i (g .from) in-list (g .sums))
+    room h = rw (g .here, e) (sofar-room h (g .from) in-list (g .sums))
 
     turns : {r : Sums} → Short b → Added s (vector a) (vector b) r → Going cs r b (i + 1)
     turns {r} f q = record {

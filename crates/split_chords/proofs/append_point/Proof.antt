@@ -27,7 +27,7 @@ same-length c = search needs
 returns : tie.Need-returns
 returns c =
     let g = c .before .args in
-    row-appended (g .points .now) (g .count) (getD (g .contour .now) (g .i) []) (c .before .pre .1)
+    row-appended (g .points .now) (getD (g .contour .now) (g .i) []) (c .before .pre .1)
 
 pub append-point-spec : {M : Type 1} → statement M
 append-point-spec =

@@ -15,7 +15,7 @@ div-result : tie.Need-div-result
 div-result c = search needs
 
 returns : tie.Need-returns
-returns c = (refl, groups-some (c .args .a) (c .args .b) (c .pre .0) (c .pre .2))
+returns c = (refl, groups-some (c .pre .0) (c .pre .2))
 
 pub ceil-div-spec : {M : Type 1} → statement M
 ceil-div-spec = tie.close (tie.spec sub-result add-result div-result returns)

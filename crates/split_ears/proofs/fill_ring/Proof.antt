@@ -51,7 +51,7 @@ returns c =
     let l = c .before .before .before .before .before .loop in
     let s = c .before .before .before .before .before .before .before in
     let e : l .i ≡ s .args .n - 1 = omega (arith, c .before .before .before .before .loop-test .left, l .inv .0) in
-    filled-end (l .ring) (s .args .n) (s .pre .0) (omega (arith, s .pre .2, l .inv .1)) (subst (Filled (l .ring)) e (l .inv .2)) (c .before .before .set-next2 .ensures)
+    filled-end (l .ring) (s .pre .0) (omega (arith, s .pre .2, l .inv .1)) (subst (Filled (l .ring)) e (l .inv .2)) (c .before .before .set-next2 .ensures)
 
 pub fill-ring-spec : {M : Type 1} → statement M
 fill-ring-spec =

@@ -12,7 +12,7 @@ point-at-requires c κs = search needs
 returns : tie.Need-returns
 returns c =
     let g = c .before .before .args in
-    (c .point-at .ensures .0 ∙ sym (closed-near (g .contour .now) (g .i) (c .before .if1 .taken)), c .point-at .ensures .1)
+    (c .point-at .ensures .0 ∙ sym (closed-near (g .contour .now) (c .before .if1 .taken)), c .point-at .ensures .1)
 
 point-at-requires-2 : tie.Need-point-at-requires-2
 point-at-requires-2 c κs = search needs

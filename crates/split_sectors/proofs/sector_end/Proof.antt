@@ -28,7 +28,7 @@ loop-holds : tie.Need-loop-holds Inv-loop μ-loop
 loop-holds c =
     let s = c .before in
     let g = s .args in
-    (omega (arith, s .pre .0), taking-start (point (g .centre)) (closedOf (g .contour .now)) (g .target) (g .start) (c .point-at .ensures .0 ∙ sym (closed-near (g .contour .now) (g .start) (omega (arith, s .pre .0, s .pre .1)))))
+    (omega (arith, s .pre .0), taking-start (point (g .centre)) (closedOf (g .contour .now)) (g .target) (g .start) (c .point-at .ensures .0 ∙ sym (closed-near (g .contour .now) {i = g .start} (omega (arith, s .pre .0, s .pre .1)))))
 
 add-corner-round : tie.Need-add-corner-round Inv-loop μ-loop
 add-corner-round c = omega (arith, c .loop-test .taken)

@@ -36,7 +36,7 @@ append-part-requires c κs =
     let s = l .before .before .before .before .before .before .before in
     let g = s .args in
     let k : l .loop .k < length (partsIn (g .begins .now) (g .joined .now) (g .u)) = omega (arith, c .before .before .if1 .taken, s .pre .0 .gathered .parts) in
-    let r = resized (g .starts .now) _ (g .points .now) (ap length (l .before .before .before .put-start .ensures) ∙ simp length-set) (s .pre .2) in
+    let r = resized _ (ap length (l .before .before .before .put-start .ensures) ∙ simp length-set) (s .pre .2) in
     (s .pre .0, omega (arith, c .before .before .if1 .taken), s .pre .1, room-at (g .strategy) (g .limit) (partsIn (g .begins .now) (g .joined .now) (g .u)) (l .loop .k) k _ (g .points .now) (record { parts = 0; corners = 0 }) (l .loop .inv .1) r)
 
 add-k : tie.Need-add-k Inv-loop μ-loop

@@ -55,9 +55,9 @@ module _ (b : IntRect) (l : List Pt) (k : ℕ) (h : k < length l) {r : Bool} {p 
   unfolding someOutside
   passed n = rw (corner, ← e, n)
 
-at-end : (b : IntRect) (l : List Pt) (k : ℕ) → length l ≤ k → someOutside b (drop k l) ≡ false
+at-end : (b : IntRect) (l : List Pt) {k : ℕ} → length l ≤ k → someOutside b (drop k l) ≡ false
 unfolding someOutside
-at-end b l k h = rw (drop-of-length-le l {i = k} h)
+at-end b l {k} h = rw (drop-of-length-le l {i = k} h)
 
 abbrev Inv-loop : tie.InvT-loop
 Inv-loop bounds corners count k₀ k = (count ≡ length (pointsOf corners)) × (k ≤ count) × (boundsBroken bounds (pointsOf corners) ≡ someOutside bounds (drop k (pointsOf corners)))
@@ -105,7 +105,7 @@ loop-again c =
 returns-4 : tie.Need-returns-4 Inv-loop μ-loop
 returns-4 c =
     let l = c .before .loop in
-    sym (l .inv .2 ∙ at-end _ _ _ (subst (λ n. n ≤ l .k) (l .inv .0) (c .loop-test .left)))
+    sym (l .inv .2 ∙ at-end _ _ (subst (λ n. n ≤ l .k) (l .inv .0) (c .loop-test .left)))
 
 pub bounds-broken-spec : {M : Type 1} → statement M
 bounds-broken-spec =

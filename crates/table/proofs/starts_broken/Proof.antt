@@ -57,7 +57,7 @@ loop-again c =
     (search needs, l .loop .inv .1 ∙ step-passed _ _ _ _ _ _ (c .before .before .before .loop-test .taken) refl (c .before .step-broken .ensures) (c .if3 .left))
 
 returns-4 : tie.Need-returns-4 Inv-loop μ-loop
-returns-4 c = sym (c .before .loop .inv .1 ∙ steps-end _ _ _ _ _ (c .loop-test .left))
+returns-4 c = sym (c .before .loop .inv .1 ∙ steps-end _ _ _ _ (c .loop-test .left))
 
 pub starts-broken-spec : {M : Type 1} → statement M
 starts-broken-spec =

@@ -26,8 +26,8 @@ area-two-requires c κs =
     let e = s .pre in
     let l = s .args .contour .now in (
       record { x-small = record { abs = omega arith }; y-small = record { abs = omega arith } },
-      grid-at l (s .args .i) (e .ranged) (e .from) (c .before .corner-at .ensures),
-      grid-at l (s .args .k) (e .ranged) (e .to) (c .corner-at2 .ensures),
+      grid-at l (e .ranged) (e .from) (c .before .corner-at .ensures),
+      grid-at l (e .ranged) (e .to) (c .corner-at2 .ensures),
     )
 
 returns : tie.Need-returns

@@ -25,7 +25,7 @@ shared-slice-read-from : tie.Need-shared-slice-read-from
 shared-slice-read-from c = search needs
 
 cast-from : tie.Need-cast-from
-cast-from c = let p = placed _ _ _ (c .before .before .pre .0) (c .before .before .pre .1) in omega arith
+cast-from c = let p = placed _ _ (c .before .before .pre .0) (c .before .before .pre .1) in omega arith
 
 add-to : tie.Need-add-to
 add-to c = search needs
@@ -37,12 +37,12 @@ shared-slice-read-to : tie.Need-shared-slice-read-to
 shared-slice-read-to c = search needs
 
 cast-to : tie.Need-cast-to
-cast-to c = let p = placed _ _ _ (c .before .before .before .pre .0) (c .before .before .before .pre .1) in omega arith
+cast-to c = let p = placed _ _ (c .before .before .before .pre .0) (c .before .before .before .pre .1) in omega arith
 
 part-requires : tie.Need-part-requires
 part-requires c κs =
     let s = c .before .before .before in
-    let p = placed _ _ _ (s .pre .0) (s .pre .1) in
+    let p = placed _ _ (s .pre .0) (s .pre .1) in
     (p .rises, omega (arith, p .within, length-points (s .args .corners .now)))
 
 returns : tie.Need-returns

@@ -47,7 +47,7 @@ loop-again c =
     let n : l .loop .i < length (drop (s .from) (wordsOf (s .bytes .now))) = omega (arith, length-drop (s .from) (wordsOf (s .bytes .now)), length-words (s .bytes .now)) in (
       omega arith,
       simp length-set (l .loop .inv .1),
-      copy-turn (drop (s .from) (wordsOf (s .bytes .now))) (s .to .now) (l .loop .i) 0 n (omega arith) (l .loop .inv .2)
+      copy-turn (drop (s .from) (wordsOf (s .bytes .now))) (s .to .now) 0 n (omega arith) (l .loop .inv .2)
           (c .word-at .ensures ∙ word-from (s .bytes .now) (s .from) (l .loop .i) refl),
     )
 

@@ -23,7 +23,7 @@ corner-count-requires : tie.Need-corner-count-requires Inv-loop μ-loop
 corner-count-requires c κs = search needs
 
 loop-holds : tie.Need-loop-holds Inv-loop μ-loop
-loop-holds c = (c .corner-count .ensures, omega arith, refl, corners-start (pointsOf (c .before .before .args .corners .now)) (c .before .before .args .at) (c .before .before .args .out .now) (omega arith))
+loop-holds c = (c .corner-count .ensures, omega arith, refl, corners-start (pointsOf (c .before .before .args .corners .now)) (c .before .before .args .out .now) (omega arith))
 
 corner-at-requires : tie.Need-corner-at-requires Inv-loop μ-loop
 corner-at-requires c κs = search needs
@@ -53,7 +53,7 @@ same-length c = search needs
 returns : tie.Need-returns Inv-loop μ-loop
 returns c =
     let l = c .before .loop in
-    corners-all (pointsOf (c .before .before .before .before .args .corners .now)) (l .k) (subst (λ n. n ≤ l .k) (l .inv .0) (c .loop-test .left)) (l .inv .3)
+    corners-all (pointsOf (c .before .before .before .before .args .corners .now)) (subst (λ n. n ≤ l .k) (l .inv .0) (c .loop-test .left)) (l .inv .3)
 
 pub put-corners-spec : {M : Type 1} → statement M
 put-corners-spec =

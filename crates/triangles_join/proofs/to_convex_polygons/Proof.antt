@@ -179,9 +179,9 @@ module _ {M : Type 1} (𝓤 : URA M) (H : Heap 𝓤) (A : Atoms 𝓤) (W : Given
   abbrev Told : Mesh → Counts → List ℕ → List ℤ → Type 0
   Told m r f g = PartsAnswered m (x .now) (y .now) r f g
 
-  exits : (r : Counts) (w : Val) (f : List ℕ) (g : List ℤ) → length f ≡ length (x .now) → length g ≡ length (y .now) → PartsAnswered (trianglesMesh ys) (x .now) (y .now) r f g
+  exits : {r : Counts} (w : Val) {f : List ℕ} {g : List ℤ} → length f ≡ length (x .now) → length g ≡ length (y .now) → PartsAnswered (trianglesMesh ys) (x .now) (y .now) r f g
       → ent 𝓤 (⋆ 𝓤 H A (tok ∷ ‵ (Own κ s) ∷ ‵ (finally u32 (x .name) f) ∷ ‵ (finally i32 (y .name) g) ∷ ‵ (N.the-row .own r (w ∷ [])) ∷ [])) (Post w)
-  exits r w f g lf lg e =
+  exits {r} w {f} {g} lf lg e =
       qed W (tok ∷ ‵ (Own κ s) ∷ ‵ (finally u32 (x .name) f) ∷ ‵ (finally i32 (y .name) g) ∷ ‵ (N.the-row .own r (w ∷ [])) ∷ []) ∵
       suffices ! _ (ends-at 𝓤 H A self.ended stayed (self.clauses 𝓤 H A mem run) W (((κ, (κ₁, (κ₂, tt))), (q, (q₁, (q₂, tt))), tt, a, at), tt) w r (tt, (f, (g, tt))) (tt, (lf, (lg, tt)))) $ says ! e $
       frame ! $ nothing ! $ move ! (3 ∷ 0 ∷ []) $ fjoin ! $ move ! (2 ∷ 0 ∷ []) $ fjoin ! $ move ! (1 ∷ 0 ∷ []) $ fjoin ! $ frame ! $ done !
@@ -226,16 +226,16 @@ module _ {M : Type 1} (𝓤 : URA M) (H : Heap 𝓤) (A : Atoms 𝓤) (W : Given
     freeing : Frees 𝓤 H A W mem run 𝓣 κ κ₁ κ₂ q q₁ q₂ s x y Told Post En shared Γ₀ of-tiny Others
     freeing r w f g lf lg so =
         move ! (15 ∷ 46 ∷ 14 ∷ 45 ∷ 13 ∷ 44 ∷ 12 ∷ 43 ∷ 11 ∷ 42 ∷ 9 ∷ 41 ∷ 20 ∷ 40 ∷ 25 ∷ 39 ∷ 10 ∷ 38 ∷ 8 ∷ 37 ∷ 7 ∷ 36 ∷ 6 ∷ 35 ∷ 5 ∷ 34 ∷ 19 ∷ 33 ∷ 18 ∷ 32 ∷ 17 ∷ 31 ∷ 16 ∷ 30 ∷ 24 ∷ 29 ∷ 23 ∷ 28 ∷ 22 ∷ 27 ∷ 21 ∷ 26 ∷ []) $
-        freed En (move ! (1 ∷ 2 ∷ 3 ∷ 4 ∷ 0 ∷ []) $ by ! (exits r w f g lf lg so))
+        freed En (move ! (1 ∷ 2 ∷ 3 ∷ 4 ∷ 0 ∷ []) $ by ! (exits w lf lg so))
 
     from-tiny : Sq W (Before 𝓤 H A W mem run 𝓣 κ κ₁ κ₂ q q₁ q₂ s x y Told Post En shared Γ₀ of-tiny Others) (runs (𝓣 .C) (𝓣 .Λ) En mirs.t-2 (atRet En Post))
     unfolding callee
     from-tiny =
         by-size 𝓤 H A W mem run 𝓣 κ κ₁ κ₂ q q₁ q₂ s x y Told Post En shared Γ₀ callee (room-x .0) (room-y .0) of-tiny of-small of-large (known .0) (known .1) (λ many r er. refused ys (x .now) (y .now) many er) freeing
 
-  walk : (𝓣 : Tables 𝓤 H) → Calls 𝓤 H A mem run 𝓣
+  walk : {𝓣 : Tables 𝓤 H} → Calls 𝓤 H A mem run 𝓣
       → ent 𝓤 (onEntry 𝓤 H A self.signature (κ, (κ₁, (κ₂, tt))) (q, (q₁, (q₂, tt))) a at) (WpFn 𝓤 H (𝓣 .C) (𝓣 .Λ) code.function (lent s ∷ held x ∷ held y ∷ []) Post)
-  walk 𝓣 known =
+  walk {𝓣} known =
       qed W (tok ∷ ‵ (owns (ShrSlice (named 0) κ T.the-row ∷ MutSlice (named 1) κ₁ u32 ∷ MutSlice (named 2) κ₂ i32 ∷ []) a at) ∷ []) ∵ enter ! (𝓣 .C) (𝓣 .Λ) code.function (lent s ∷ held x ∷ held y ∷ []) _ $
       allocated (code.function .locals) (λ h. params1 ! $
       pass1 ! (init ! 38 refl (shr-slice-lawful 𝓤 H A W (named 0) κ T.the-row .typed s (lent s ∷ []) p .0)) $ pass1 ! (init ! 36 refl (mut-slice-lawful 𝓤 H A W (named 1) κ₁ u32 .typed x (held x ∷ []) px .0)) $ pass1 ! (init ! 34 refl (mut-slice-lawful 𝓤 H A W (named 2) κ₂ i32 .typed y (held y ∷ []) py .0)) $ pass0 ! $
@@ -247,7 +247,7 @@ module _ {M : Type 1} (𝓤 : URA M) (H : Heap 𝓤) (A : Atoms 𝓤) (W : Given
   walks : Walks 𝓤 H A self.ended stayed (WpFn 𝓤 H (𝓣 .C) (𝓣 .Λ) code.function) (self.clauses 𝓤 H A mem run)
   walks = walked 𝓤 H A self.ended stayed (self.clauses 𝓤 H A mem run) (WpFn 𝓤 H (𝓣 .C) (𝓣 .Λ) code.function) (λ κs. (slice-vals, (slice-vals, (slice-vals, tt))))
       (λ κs. (shr-slice-tells (named 0) (κs .0) T.the-row, (mut-slice-tells (named 1) (κs .1 .0) u32, (mut-slice-tells (named 2) (κs .1 .1 .0) i32, tt))))
-      (λ κs qs bounds a g are. via 𝓤 _ (fst∗ 𝓤 _ (emp 𝓤)) (walk 𝓤 H A W mem run (κs .0) (κs .1 .0) (κs .1 .1 .0) (qs .0) (qs .1 .0) (qs .1 .1 .0) (a .0) (a .1 .0) (a .1 .1 .0) (are .0) (are .1 .0) (are .1 .1 .0) (are .1 .0 .0 .1) (are .1 .1 .0 .0 .1) 𝓣 known))
+      (λ κs qs bounds a g are. via 𝓤 _ (fst∗ 𝓤 _ (emp 𝓤)) (walk 𝓤 H A W mem run (κs .0) (κs .1 .0) (κs .1 .1 .0) (qs .0) (qs .1 .0) (qs .1 .1 .0) (a .0) (a .1 .0) (a .1 .1 .0) (are .0) (are .1 .0) (are .1 .1 .0) (are .1 .0 .0 .1) (are .1 .1 .0 .0 .1) known))
 
   meets : Meets 𝓤 H A self.signature (WpFn 𝓤 H (𝓣 .C) (𝓣 .Λ) code.function) (self.spec 𝓤 H A mem run)
   meets = walk-meets 𝓤 H A self.ended stayed W (goes-none-slice 𝓤 H A W 3 (0 ∷ []) tt (plain (λ _. T.the-row)) yes, (goes-gave-slice 𝓤 H A W 3 1 tt (plain (λ _. u32)), (goes-gave-slice 𝓤 H A W 3 2 tt (plain (λ _. i32)), tt))) (self.clauses 𝓤 H A mem run)

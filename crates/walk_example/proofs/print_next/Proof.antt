@@ -17,8 +17,8 @@ use borrow.Author.Needs.{needs}
 use Rattle.walk_example.proofs.print_next.Statement.{statement}
 use Rattle.walk_example.proofs.print_next.Tie as tie
 
-falls : (l r : List ℤ) (s t : ConvexSum) (p : IntPoint) (a : Next) → NextBy l r s a → a ≡ next.Corner p t → stepsLeft t < stepsLeft s
-falls l r s t p a n e = subst (λ z. stepsLeft z < stepsLeft s) (ap nextPlaces e) (n .fewer (λ z. one (sym (ap nextCorner e) ∙ z)))
+falls : {l r : List ℤ} {s t : ConvexSum} {p : IntPoint} {a : Next} → NextBy l r s a → a ≡ next.Corner p t → stepsLeft t < stepsLeft s
+falls {s} {p} n e = subst (λ z. stepsLeft z < stepsLeft s) (ap nextPlaces e) (n .fewer (λ z. one (sym (ap nextCorner e) ∙ z)))
   where
     one : (point p ∷ []) ≡ [] → ⊥
     one z = let k : _≡_ {A = ℕ} 0 1 = cc in omega (arith, k)
@@ -69,7 +69,7 @@ print-requires c κs = search needs
 
 -- src/main.rt:27:1
 returns : tie.Need-returns
-returns c = λ h. falls (c .before .before .before .before .before .args .left .now) (c .before .before .before .before .before .args .right .now) (c .before .before .before .before .before .args .at) _ _ _ (c .before .before .before .before .next .ensures) (c .before .before .step .given .1)
+returns c = λ h. falls (c .before .before .before .before .next .ensures) (c .before .before .step .given .1)
 
 -- src/main.rt:27:1
 returns-2 : tie.Need-returns-2

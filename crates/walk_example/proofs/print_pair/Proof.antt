@@ -13,11 +13,11 @@ use Rattle.walk_example.proofs.print_pair.Tie as tie
 abbrev toCome : Bool → ℕ → ℕ
 toCome on n = cond on (suc n) 0
 
-fewer : (b d : Bool) (m n : ℕ) → d ≡ true → (b ≡ true → m < n) → toCome b m < toCome d n
-fewer true true m n e h = omega (arith, h refl)
-fewer false true m n e h = omega arith
-fewer true false m n e h = absurd (let k : _≡_ {A = ℕ} 0 1 = cc in omega (arith, k))
-fewer false false m n e h = absurd (let k : _≡_ {A = ℕ} 0 1 = cc in omega (arith, k))
+fewer : (b d : Bool) {m n : ℕ} → d ≡ true → (b ≡ true → m < n) → toCome b m < toCome d n
+fewer true true e h = omega (arith, h refl)
+fewer false true e h = omega arith
+fewer true false e h = absurd (let k : _≡_ {A = ℕ} 0 1 = cc in omega (arith, k))
+fewer false false e h = absurd (let k : _≡_ {A = ℕ} 0 1 = cc in omega (arith, k))
 
 abbrev Inv-loop : tie.InvT-loop
 Inv-loop left right p₀ p = Unit {0}
@@ -35,7 +35,7 @@ print-next-requires c κs = search needs
 
 -- src/main.rt:50:5
 loop-less : tie.Need-loop-less Inv-loop μ-loop
-loop-less c = fewer _ _ _ _ (c .before .before .loop-test .taken) (c .print-next .ensures)
+loop-less c = fewer _ _ (c .before .before .loop-test .taken) (c .print-next .ensures)
 
 -- src/main.rt:50:5
 loop-again : tie.Need-loop-again Inv-loop μ-loop

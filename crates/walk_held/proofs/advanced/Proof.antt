@@ -12,8 +12,8 @@ use Rattle.walk_held.proofs.advanced.Statement.{statement}
 use Rattle.walk_held.proofs.advanced.Tie as tie
 
 -- an answer that is known gives the same number and place
-told : (l : List ℤ) (w : Place) (r t : Advanced) → r ≡ t → AdvancedBy l w r → (advancedNumber t ≡ stepFault l w) × MovedBy l w (advancedPlace t)
-told l w r t e by = (sym (ap advancedNumber e) ∙ by .number, subst (λ a. MovedBy l w (advancedPlace a)) e (by .moves))
+told : {l : List ℤ} {w : Place} {r t : Advanced} → r ≡ t → AdvancedBy l w r → (advancedNumber t ≡ stepFault l w) × MovedBy l w (advancedPlace t)
+told {l} {w} e by = (sym (ap advancedNumber e) ∙ by .number, subst (λ a. MovedBy l w (advancedPlace a)) e (by .moves))
 
 advance-requires : tie.Need-advance-requires
 advance-requires c κs = search needs
@@ -25,10 +25,10 @@ enum-known-step-2 : tie.Need-enum-known-step-2
 enum-known-step-2 c = search needs
 
 returns : tie.Need-returns
-returns c = told _ _ _ _ (c .before .step .given .1) (c .before .before .before .advance .ensures)
+returns c = told (c .before .step .given .1) (c .before .before .before .advance .ensures)
 
 returns-2 : tie.Need-returns-2
-returns-2 c = told _ _ _ _ (c .before .step2 .given .1) (c .before .before .before .advance .ensures)
+returns-2 c = told (c .before .step2 .given .1) (c .before .before .before .advance .ensures)
 
 pub advanced-spec : {M : Type 1} → statement M
 advanced-spec =

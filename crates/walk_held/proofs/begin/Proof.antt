@@ -130,9 +130,9 @@ module _ {M : Type 1} (𝓤 : URA M) (H : Heap 𝓤) (A : Atoms 𝓤) (W : Given
       -- [what the contour owns, three times; what the flag and the lent number own; the tokens]
       move ! (0 ∷ 3 ∷ []) $ fjoin ! $ move ! (3 ∷ 0 ∷ []) $ use2 W (raw (Callee 𝓤 H A mem run .pre to)) asked $ frame ! $ frame ! $ done !
 
-  exits : (r : Place) (f : ℕ) → Told f r
+  exits : {r : Place} {f : ℕ} → Told f r
       → ent 𝓤 (⋆ 𝓤 H A (‵ (P.the-row .own r (P′.lowered r ∷ [])) ∷ (‵ (flft κ q) ⊛ ‵ (flft κ′ q′) ⊛ ‵ ftrue) ∷ ‵ (fres γ (u32 .coded .code f)) ∷ (‵ Own ⊛ ‵ Own) ∷ [])) (Post (T′.lowered (out r)))
-  exits r f e =
+  exits {r} {f} e =
       qed W (‵ (P.the-row .own r (P′.lowered r ∷ [])) ∷ (‵ (flft κ q) ⊛ ‵ (flft κ′ q′) ⊛ ‵ ftrue) ∷ ‵ (fres γ (u32 .coded .code f)) ∷ (‵ Own ⊛ ‵ Own) ∷ []) ∵
       suffices ! _ (ends-at 𝓤 H A self.ended stayed (self.clauses 𝓤 H A mem run) W ((κs, (q, (q′, tt)), tt, args, vals), tt) (T′.lowered (out r)) (out r) (tt, (tt, (f, tt))) (tt, (tt, (tt, tt)))) $
       says ! (record { contour = refl; begins = e }) $
@@ -165,7 +165,7 @@ module _ {M : Type 1} (𝓤 : URA M) (H : Heap 𝓤) (A : Atoms 𝓤) (W : Given
         assigns ! (agg ! (and-then ! (load ! (from ! (stop !)) (look ! 15 refl)) (and-then ! (load ! (from ! (stop !)) (look ! 9 refl)) (no-more !)))) (from ! (stop !)) (init ! 17 refl (tt, (shr-slice-lawful 𝓤 H A W (named 0) κ i32 .typed s (v ∷ []) p .0 .1, (subst WT (ap only (P′.lowers .val-is r (u ∷ []) is)) (LL.lawful P.the-type P′.the-laws 𝓤 H A W .typed r _ is .0 .1), tt)))) $
         returns ! (look ! 17 refl) $ forget ! 7 refl $ forget ! 9 refl $ forget ! 11 refl $ forget ! 13 refl $ forget ! 15 refl $ forget ! 17 refl $
         move ! (17 ∷ 18 ∷ []) $ free1 ! $ move ! (15 ∷ 16 ∷ []) $ free1 ! $ move ! (13 ∷ 14 ∷ []) $ free1 ! $ move ! (11 ∷ 12 ∷ []) $ free1 ! $ move ! (9 ∷ 10 ∷ []) $ free1 ! $ move ! (7 ∷ 8 ∷ []) $ free1 ! $ free0 ! $
-        keep ! (0 ∷ 1 ∷ 2 ∷ 6 ∷ []) $ by ! (exits r (zs .1 .1 .0) e))))))))))))
+        keep ! (0 ∷ 1 ∷ 2 ∷ 6 ∷ []) $ by ! (exits e))))))))))))
 
 module _ {M : Type 1} (𝓤 : URA M) (H : Heap 𝓤) (A : Atoms 𝓤) (W : Given 𝓤 H A) (mem : Memory → SProp 𝓤) (run : Routine → Fun 𝓤) where
   walks : (C : Calls 𝓤 H) (Λ : Loops 𝓤 H) → FmC 𝓤 H (W .laws) C → Triple 𝓤 (C #callee) (Callee 𝓤 H A mem run)
@@ -174,10 +174,10 @@ module _ {M : Type 1} (𝓤 : URA M) (H : Heap 𝓤) (A : Atoms 𝓤) (W : Given
       (λ κs. (slice-vals, (bool-vals, (ptr-vals, tt)))) (λ κs. (shr-slice-tells (named 0) (κs .0) i32, (bool-tells, (mut-tells (named 1) (κs .1 .0) u32, tt))))
       (λ κs qs bounds a g are. via 𝓤 _ (fst∗ 𝓤 _ (emp 𝓤)) (walk 𝓤 H A W mem run (κs .0) (κs .1 .0) (qs .0) (qs .1 .0) (a .0) (a .1 .0) (a .1 .1 .0 .ptr .0) (a .1 .1 .0 .ptr .1) (a .1 .1 .0 .name) (a .1 .1 .0 .now) C Λ fm known (are .0)))
 
-meets : {M : Type 1} (𝓤 : URA M) (H : Heap 𝓤) (A : Atoms 𝓤) (W : Given 𝓤 H A) (mem : Memory → SProp 𝓤) (run : Routine → Fun 𝓤) (𝓣 : Tables 𝓤 H)
+meets : {M : Type 1} {𝓤 : URA M} {H : Heap 𝓤} {A : Atoms 𝓤} (W : Given 𝓤 H A) (mem : Memory → SProp 𝓤) (run : Routine → Fun 𝓤) (𝓣 : Tables 𝓤 H)
     → Triple 𝓤 (𝓣 .C #callee) (Callee 𝓤 H A mem run)
     → Meets 𝓤 H A self.signature (WpFn 𝓤 H (𝓣 .C) (𝓣 .Λ) code.function) (self.spec 𝓤 H A mem run)
-meets 𝓤 H A W mem run 𝓣 known =
+meets {𝓤} {H} {A} W mem run 𝓣 known =
     walk-meets 𝓤 H A self.ended stayed W (goes-none-slice 𝓤 H A W 2 (0 ∷ []) tt (plain (λ _. i32)) yes, (goes-none 𝓤 H A W 2 (λ _. Boolean) yes (λ κs x f. refl), (goes-gave-ref 𝓤 H A W 2 1 tt (plain (λ _. u32)), tt))) (self.clauses 𝓤 H A mem run)
     (WpFn 𝓤 H (𝓣 .C) (𝓣 .Λ) code.function) (WpFn-mono 𝓤 H (W .laws) 𝓣 code.function) (walks 𝓤 H A W mem run (𝓣 .C) (𝓣 .Λ) (fmOf 𝓤 H (W .laws) 𝓣) known)
 
@@ -186,5 +186,5 @@ unfolding code.routine tablesOf
 begin-spec 𝓤 H 𝓜 𝓖 𝓡 =
     entered 𝓤 H (tripleOf 𝓤 H (𝓖 .A) self.signature (self.spec 𝓤 H (𝓖 .A) (𝓜 .mem) (𝓡 .run)))
     (tables 𝓤 H 𝓜 𝓡 code.env .C) (tables 𝓤 H 𝓜 𝓡 code.env .Λ) #self code.function (code.unfolded 𝓤 H 𝓜 𝓡)
-    (meets 𝓤 H (𝓖 .A) (givenOf 𝓤 H 𝓜 𝓖) (𝓜 .mem) (𝓡 .run) (tablesOf 𝓤 H 𝓜 (tables 𝓤 H 𝓜 𝓡 code.env))
+    (meets (givenOf 𝓤 H 𝓜 𝓖) (𝓜 .mem) (𝓡 .run) (tablesOf 𝓤 H 𝓜 (tables 𝓤 H 𝓜 𝓡 code.env))
     (cited 𝓤 H (Callee 𝓤 H (𝓖 .A) (𝓜 .mem) (𝓡 .run)) 𝓜 𝓡 code.env #callee callee-def.routine code.calls-walk-held·begun (callee-thm.met 𝓤 H 𝓜 𝓖 𝓡)))

@@ -26,8 +26,8 @@ placed-if true t = refl
 placed-if false t = refl
 
 -- an answer that is known gives the same number and place
-told : (l : List ℤ) (reflected : Bool) (r t : Begun) → r ≡ t → BegunBy l reflected r → BegunPlace l reflected (begunNumber t) (placed (begunPlace t))
-told l reflected r t e by = record {
+told : {l : List ℤ} {reflected : Bool} {r t : Begun} → r ≡ t → BegunBy l reflected r → BegunPlace l reflected (begunNumber t) (placed (begunPlace t))
+told {l} {reflected} e by = record {
   number = sym (ap begunNumber e) ∙ by .number;
   place = sym (ap (λ a. placed (begunPlace a)) e) ∙ ap placed (by .place) ∙ placed-if (eqb (beginFault l reflected) 0) (walk.begin reflected (pointsOf l));
   free = by .free;
@@ -43,10 +43,10 @@ enum-known-start-2 : tie.Need-enum-known-start-2
 enum-known-start-2 c = search needs
 
 returns : tie.Need-returns
-returns c = told _ _ _ _ (c .before .start .given .1) (c .before .before .before .begin .ensures)
+returns c = told (c .before .start .given .1) (c .before .before .before .begin .ensures)
 
 returns-2 : tie.Need-returns-2
-returns-2 c = told _ _ _ _ (c .before .start2 .given .1) (c .before .before .before .begin .ensures)
+returns-2 c = told (c .before .start2 .given .1) (c .before .before .before .begin .ensures)
 
 pub begun-spec : {M : Type 1} → statement M
 begun-spec =

@@ -26,5 +26,5 @@ edge-spec 𝓤 H 𝓜 𝓖 𝓡 =
     let typed : (r : Edged) (u : Val) → Is S.the-row r (u ∷ []) → Holds (hasTy S′.mir u) × WT u = λ r u is. EL.lawful S.the-type S′.the-laws 𝓤 H (𝓖 .A) (givenOf 𝓤 H 𝓜 𝓖) tt .typed r _ is .0 in
     entered 𝓤 H (tripleOf 𝓤 H (𝓖 .A) self.signature (self.spec 𝓤 H (𝓖 .A) (𝓜 .mem) (𝓡 .run)))
     (tables 𝓤 H 𝓜 𝓡 code.env .C) (tables 𝓤 H 𝓜 𝓡 code.env .Λ) #self code.function (code.unfolded 𝓤 H 𝓜 𝓡)
-    (meets S.the-row S′.mir typed #callee EdgedBy 𝓤 H (𝓖 .A) (givenOf 𝓤 H 𝓜 𝓖) (tablesOf 𝓤 H 𝓜 (tables 𝓤 H 𝓜 𝓡 code.env))
+    (meets S.the-row S′.mir typed #callee EdgedBy (givenOf 𝓤 H 𝓜 𝓖) (tablesOf 𝓤 H 𝓜 (tables 𝓤 H 𝓜 𝓡 code.env))
     (cited 𝓤 H (Callee S.the-row S′.mir typed #callee EdgedBy 𝓤 H (𝓖 .A)) 𝓜 𝓡 code.env #callee callee-def.routine code.calls-walk-step·edge (callee-thm.met 𝓤 H 𝓜 𝓖 𝓡)))

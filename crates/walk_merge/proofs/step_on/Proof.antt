@@ -29,7 +29,7 @@ step-first-requires : tie.Need-step-first-requires
 step-first-requires c κs =
     let p = (ap pickOf (sym (c .before .before .before .step .given .1)) ∙ c .before .before .before .before .before .next-step .ensures .0) in
     let j = c .before .before .before .before .before .before .before .before .pre .1 .judged in
-    (j .left-short, j .left-placed, first-left (pointsOf (c .before .before .before .before .before .before .before .before .args .left .now)) (pointsOf (c .before .before .before .before .before .before .before .before .args .right .now)) (c .before .before .before .before .before .before .before .before .args .g .at) _ p .0)
+    (j .left-short, j .left-placed, first-left (pointsOf (c .before .before .before .before .before .before .before .before .args .left .now)) (pointsOf (c .before .before .before .before .before .before .before .before .args .right .now)) (c .before .before .before .before .before .before .before .before .args .g .at) p .0)
 
 take-requires : tie.Need-take-requires
 take-requires c κs = (c .before .before .before .before .before .before .before .before .before .pre .1 .short, (subst StepShort (c .before .before .before .before .step .given .1) (c .before .before .before .before .before .before .next-step .ensures .1)))
@@ -59,7 +59,7 @@ step-second-requires : tie.Need-step-second-requires
 step-second-requires c κs =
     let p = (ap pickOf (sym (c .before .before .before .step2 .given .1)) ∙ c .before .before .before .before .before .next-step .ensures .0) in
     let j = c .before .before .before .before .before .before .before .before .pre .1 .judged in
-    (j .right-short, j .right-placed, second-left (pointsOf (c .before .before .before .before .before .before .before .before .args .left .now)) (pointsOf (c .before .before .before .before .before .before .before .before .args .right .now)) (c .before .before .before .before .before .before .before .before .args .g .at) _ p .0)
+    (j .right-short, j .right-placed, second-left (pointsOf (c .before .before .before .before .before .before .before .before .args .left .now)) (pointsOf (c .before .before .before .before .before .before .before .before .args .right .now)) (c .before .before .before .before .before .before .before .before .args .g .at) p .0)
 
 take-requires-2 : tie.Need-take-requires-2
 take-requires-2 c κs = (c .before .before .before .before .before .before .before .before .before .pre .1 .short, (subst StepShort (c .before .before .before .before .step2 .given .1) (c .before .before .before .before .before .before .next-step .ensures .1)))

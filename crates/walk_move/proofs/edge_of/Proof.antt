@@ -56,8 +56,8 @@ subtract-requires c κs =
     let l = pointsOf (c .before .before .before .before .before .before .args .contour .now) in
     let w = c .before .before .before .before .before .before .args .w in
     let p = c .before .before .before .before .before .before .pre in
-    let a = not-off l (w .index) _ (p .2) (c .before .before .corner-at .ensures) in
-    let b = not-off l (nextIndex (length l) w) _ (p .3) (c .before .corner-at2 .ensures ∙ ap (cornerAt l) (c .before .before .before .before .next-index .ensures ∙ ap (λ n. nextIndex n w) (c .before .before .before .before .before .corner-count .ensures))) in
+    let a = not-off l (w .index) (p .2) (c .before .before .corner-at .ensures) in
+    let b = not-off l (nextIndex (length l) w) (p .3) (c .before .corner-at2 .ensures ∙ ap (cornerAt l) (c .before .before .before .before .next-index .ensures ∙ ap (λ n. nextIndex n w) (c .before .before .before .before .before .corner-count .ensures))) in
     (a, b)
 
 returns : tie.Need-returns
@@ -73,8 +73,8 @@ subtract-requires-2 c κs =
     let l = pointsOf (c .before .before .before .before .before .before .args .contour .now) in
     let w = c .before .before .before .before .before .before .args .w in
     let p = c .before .before .before .before .before .before .pre in
-    let a = not-off l (w .index) _ (p .2) (c .before .before .corner-at .ensures) in
-    let b = not-off l (nextIndex (length l) w) _ (p .3) (c .before .corner-at2 .ensures ∙ ap (cornerAt l) (c .before .before .before .before .next-index .ensures ∙ ap (λ n. nextIndex n w) (c .before .before .before .before .before .corner-count .ensures))) in
+    let a = not-off l (w .index) (p .2) (c .before .before .corner-at .ensures) in
+    let b = not-off l (nextIndex (length l) w) (p .3) (c .before .corner-at2 .ensures ∙ ap (cornerAt l) (c .before .before .before .before .next-index .ensures ∙ ap (λ n. nextIndex n w) (c .before .before .before .before .before .corner-count .ensures))) in
     (b, a)
 
 returns-2 : tie.Need-returns-2

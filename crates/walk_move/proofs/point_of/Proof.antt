@@ -29,13 +29,13 @@ corner-at-requires : tie.Need-corner-at-requires
 corner-at-requires c κs = index-inside _ _ (c .before .pre .0)
 
 negated-requires : tie.Need-negated-requires
-negated-requires c κs = not-off (pointsOf (c .before .before .before .args .contour .now)) (c .before .before .before .args .w .index) _ (c .before .before .before .pre .1) (c .before .corner-at .ensures)
+negated-requires c κs = not-off (pointsOf (c .before .before .before .args .contour .now)) (c .before .before .before .args .w .index) (c .before .before .before .pre .1) (c .before .corner-at .ensures)
 
 returns : tie.Need-returns
 returns c = (turned-back _ _ (c .before .if1 .taken) (c .negated .ensures .0 ∙ ap negᵖ (c .before .before .corner-at .ensures)), c .negated .ensures .1)
 
 returns-2 : tie.Need-returns-2
-returns-2 c = (straight _ _ (c .if1 .left) (c .before .corner-at .ensures), not-off (pointsOf (c .before .before .before .args .contour .now)) (c .before .before .before .args .w .index) _ (c .before .before .before .pre .1) (c .before .corner-at .ensures))
+returns-2 c = (straight _ _ (c .if1 .left) (c .before .corner-at .ensures), not-off (pointsOf (c .before .before .before .args .contour .now)) (c .before .before .before .args .w .index) (c .before .before .before .pre .1) (c .before .corner-at .ensures))
 
 pub point-of-spec : {M : Type 1} → statement M
 point-of-spec =

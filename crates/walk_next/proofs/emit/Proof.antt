@@ -13,12 +13,12 @@ use Rattle.walk_next.proofs.emit.Tie as tie
 point-of-requires : tie.Need-point-of-requires
 point-of-requires c κs =
     let j = c .before .before .pre in
-    (j .left-placed, off-nowhere (c .before .before .args .left .now) (c .before .before .args .s .a .index) (j .left-range) (index-inside _ (c .before .before .args .s .a) (j .left-placed)))
+    (j .left-placed, off-nowhere (c .before .before .args .left .now) (j .left-range) (index-inside _ (c .before .before .args .s .a) (j .left-placed)))
 
 point-of-requires-2 : tie.Need-point-of-requires-2
 point-of-requires-2 c κs =
     let j = c .before .before .before .pre in
-    (j .right-placed, off-nowhere (c .before .before .before .args .right .now) (c .before .before .before .args .s .b .index) (j .right-range) (index-inside _ (c .before .before .before .args .s .b) (j .right-placed)))
+    (j .right-placed, off-nowhere (c .before .before .before .args .right .now) (j .right-range) (index-inside _ (c .before .before .before .args .s .b) (j .right-placed)))
 
 add-points-requires : tie.Need-add-points-requires
 add-points-requires c κs = search needs

@@ -50,9 +50,9 @@ subtract-requires c κs =
     let start = p1 .before .before in
     let l = start .args .contour .now in
     let off = start .pre .0 in (
-      grid-at l (p2 .before .round-to .result) off (omega (arith, p1 .before .corner-count .ensures, p2 .before .round-to .ensures .1))
+      grid-at l {i = p2 .before .round-to .result} off (omega (arith, p1 .before .corner-count .ensures, p2 .before .round-to .ensures .1))
           (p2 .corner-at2 .ensures),
-      grid-at l (start .args .s) off (start .pre .1) (p1 .corner-at .ensures),
+      grid-at l off (start .pre .1) (p1 .corner-at .ensures),
     )
 
 subtract-requires-2 : tie.Need-subtract-requires-2
@@ -62,9 +62,9 @@ subtract-requires-2 c κs =
     let start = p1 .before .before in
     let l = start .args .contour .now in
     let off = start .pre .0 in (
-      grid-at l (p2 .round-to2 .result) off (omega (arith, p1 .before .corner-count .ensures, p2 .round-to2 .ensures .1))
+      grid-at l {i = p2 .round-to2 .result} off (omega (arith, p1 .before .corner-count .ensures, p2 .round-to2 .ensures .1))
           (c .before .corner-at3 .ensures),
-      grid-at l (start .args .s) off (start .pre .1) (p1 .corner-at .ensures),
+      grid-at l off (start .pre .1) (p1 .corner-at .ensures),
     )
 
 cross-product-requires : tie.Need-cross-product-requires
@@ -88,7 +88,7 @@ returns c =
     let e =
     c .cross-product .ensures .0
     ∙ (λ i. cross ((p4 .subtract .ensures .0 ∙ (λ j. a j -ᵖ o j)) i) ((c .before .subtract2 .ensures .0 ∙ (λ j. b j -ᵖ o j)) i)) in (
-      got w64 _ (c .cross-product .ok) ∙ e ∙ sym (term-is l (p1 .before .args .s) (p1 .before .args .k) (p1 .before .pre .1) (p1 .before .pre .2)),
+      got w64 _ (c .cross-product .ok) ∙ e ∙ sym (term-is l (p1 .before .pre .1) (p1 .before .pre .2)),
       subst CrossSize (sym (got w64 _ (c .cross-product .ok))) (c .cross-product .ensures .1),
     )
 

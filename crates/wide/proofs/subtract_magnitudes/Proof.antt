@@ -25,7 +25,7 @@ add-t11 : tie.Need-add-t11
 add-t11 c = omega (arith, c .before .fits .al, c .if1 .left)
 
 add-t12 : tie.Need-add-t12
-add-t12 c = lent-fits (c .before .args .al) (c .before .args .bl) (c .if1 .left) (c .before .fits .bl .fits)
+add-t12 c = lent-fits (c .if1 .left) (c .before .fits .bl .fits)
 
 returns-2 : tie.Need-returns-2
 returns-2 c = let s = c .before in borrowed (s .args .ah) (s .args .al) (s .args .bh) (s .args .bl) (s .pre) (s .fits .al .fits) (c .if1 .left) (s .fits .bl .fits)

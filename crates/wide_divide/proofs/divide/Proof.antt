@@ -14,8 +14,8 @@ use Rattle.wide_divide.proofs.divide.Statement.{statement}
 use Rattle.wide_divide.proofs.divide.Tie as tie
 
 -- one word
-short : (high low d : ℕ) → high ≡ 0 → 0 < d → Divided (twoWords high low) d (record { quotient = low / d; remainder = low % d })
-short high low d e h = record { whole = div-add-mod' low d ∙ omega arith; rest = mod-lt low h }
+short : {high : ℕ} (low : ℕ) {d : ℕ} → high ≡ 0 → 0 < d → Divided (twoWords high low) d (record { quotient = low / d; remainder = low % d })
+short low {d} e h = record { whole = div-add-mod' low d ∙ omega arith; rest = mod-lt low h }
 
 module _ (h l d s : ℕ) (hd : h < d) (fl : l < 2 ^ 64) (n : Normal d s) where
   top-fits : Fits w64 ((h * 2 ^ s) % 2 ^ 64 + l / 2 / 2 ^ (63 - s))
@@ -31,7 +31,7 @@ rem-t9 : tie.Need-rem-t9
 rem-t9 c = search needs
 
 returns : tie.Need-returns
-returns c = let s = c .before in short (s .args .high) (s .args .low) (s .args .d) (c .if1 .taken) (omega (arith, s .pre))
+returns c = let s = c .before in short (s .args .low) (c .if1 .taken) (omega (arith, s .pre))
 
 doublings-requires : tie.Need-doublings-requires
 doublings-requires c κs = search needs

@@ -15,11 +15,11 @@ abbrev μ-loop : tie.MeasureT-loop
 μ-loop u x v upper lower q₀ rest₀ q rest = q
 
 -- what is left where rest 2^32 is past a word, without and with its last one
-over-fits : (rest x v : ℕ) → rest < 4294967296 + v / 4294967296 → v < 2 ^ 64 → x < 2 ^ 32 → Fits w64 ((rest - 4294967296) * 4294967296 + x)
-over-fits rest x v n f h = record { fits = omega arith }
+over-fits : {rest x v : ℕ} → rest < 4294967296 + v / 4294967296 → v < 2 ^ 64 → x < 2 ^ 32 → Fits w64 ((rest - 4294967296) * 4294967296 + x)
+over-fits n f h = record { fits = omega arith }
 
-left-fits : (k v : ℕ) → k + 1 < v → v < 2 ^ 64 → Fits w64 k × Fits w64 (k + 1)
-left-fits k v h f = (record { fits = omega arith }, record { fits = omega arith })
+left-fits : (k : ℕ) {v : ℕ} → k + 1 < v → v < 2 ^ 64 → Fits w64 k × Fits w64 (k + 1)
+left-fits k h f = (record { fits = omega arith }, record { fits = omega arith })
 
 div-q : tie.Need-div-q Inv-loop μ-loop
 div-q c = omega (arith, c .pre .0)
@@ -58,7 +58,7 @@ mul-product-2 : tie.Need-mul-product-2 Inv-loop μ-loop
 mul-product-2 c = let s = c .before .before in record { fits = product-fits (s .args .u) (s .args .x) (s .args .v) (s .pre .0) (s .pre .1) (s .pre .2) (c .before .loop .q) (c .before .loop .rest) (c .before .loop .inv) (s .fits .v .fits) }
 
 add-t16 : tie.Need-add-t16 Inv-loop μ-loop
-add-t16 c = let s = c .before .before in over-fits (c .before .loop .rest) (s .args .x) (s .args .v) (c .before .loop .inv .near) (s .fits .v .fits) (s .pre .2)
+add-t16 c = let s = c .before .before in over-fits (c .before .loop .inv .near) (s .fits .v .fits) (s .pre .2)
 
 mul-t15 : tie.Need-mul-t15 Inv-loop μ-loop
 mul-t15 c = omega (arith, add-t16 c)
@@ -70,10 +70,10 @@ returns-2 : tie.Need-returns-2 Inv-loop μ-loop
 returns-2 c = let s = c .before .before in guess-late (s .args .u) (s .args .x) (s .args .v) (s .pre .0) (s .pre .1) (s .pre .2) (c .before .loop .q) (c .before .loop .rest) (c .before .loop .inv) (s .fits .v .fits) (c .loop-test .left)
 
 add-t18 : tie.Need-add-t18 Inv-loop μ-loop
-add-t18 c = let s = c .before .before in left-fits _ (s .args .v) (returns-2 c .0 .rest) (s .fits .v .fits) .0
+add-t18 c = let s = c .before .before in left-fits _ (returns-2 c .0 .rest) (s .fits .v .fits) .0
 
 add-t19 : tie.Need-add-t19 Inv-loop μ-loop
-add-t19 c = let s = c .before .before in left-fits _ (s .args .v) (returns-2 c .0 .rest) (s .fits .v .fits) .1
+add-t19 c = let s = c .before .before in left-fits _ (returns-2 c .0 .rest) (s .fits .v .fits) .1
 
 pub divide-digit-spec : {M : Type 1} → statement M
 divide-digit-spec =

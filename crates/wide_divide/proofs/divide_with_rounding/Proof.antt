@@ -19,8 +19,8 @@ sub-if1 : tie.Need-sub-if1
 sub-if1 c = search needs
 
 -- the quotient and one is what is answered, which fits
-room : (q n : ℕ) → q + 1 ≡ n → n < 2 ^ 64 → Fits w64 (q + 1)
-room q n e h = record { fits = omega arith }
+room : (q : ℕ) {n : ℕ} → q + 1 ≡ n → n < 2 ^ 64 → Fits w64 (q + 1)
+room q e h = record { fits = omega arith }
 
 returns : tie.Need-returns
 returns c =
@@ -30,7 +30,7 @@ returns c =
 add-result : tie.Need-add-result
 add-result c =
     let s = c .before .before in
-    room (c .before .divide .result .quotient) (nearest (twoWords (s .args .high) (s .args .low)) (s .args .d)) (returns c) (s .pre .1)
+    room (c .before .divide .result .quotient) (returns c) (s .pre .1)
 
 returns-2 : tie.Need-returns-2
 returns-2 c =

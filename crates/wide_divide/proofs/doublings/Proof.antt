@@ -4,7 +4,7 @@ use Rattle.wide_divide.proofs.doublings.Statement.{statement}
 use Rattle.wide_divide.proofs.doublings.Tie as tie
 
 returns : tie.Need-returns
-returns c = normal-of (c .args .d) (c .pre) (c .fits .d .fits)
+returns c = normal-of (c .pre) (c .fits .d .fits)
 
 pub doublings-spec : {M : Type 1} → statement M
 doublings-spec = tie.close (tie.spec returns)
