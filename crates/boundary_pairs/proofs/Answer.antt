@@ -13,7 +13,7 @@ use Rattle.boundary_pairs.specs.declared.Bounds.{Bounds}
 use Rattle.boundary_pairs.specs.declared.ToldPairs.{ToldPairs}
 use Rattle.boundary_pairs.specs.Told.{rectOf, lent, toldCounts}
 
-module _ (reflected : Bool) (ls : List ℕ) (lc : List ℤ) (lb : Bounds) (rs : List ℕ) (rc : List ℤ) (rb : Bounds) (s : List ℕ) (c : List ℤ) where
+module _ (reflected : Bool) (ls : List ℕ) (lc : List ℤ) {lb : Bounds} (rs : List ℕ) (rc : List ℤ) {rb : Bounds} (s : List ℕ) (c : List ℤ) where
   -- t is told; s′ and c′ are what the lent starts and corners hold then
   pub as-told :
       {l r : IntRect} → l ≡ rectOf lb → r ≡ rectOf rb → {x : PairCounts} {t : ToldPairs} {s′ : List ℕ} {c′ : List ℤ} → t ≡ toldCounts x

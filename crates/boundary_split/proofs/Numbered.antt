@@ -16,7 +16,7 @@ use Rattle.split.specs.declared.ConvexSplitStrategy.{ConvexSplitStrategy}
 use Rattle.listing.specs.File.{strategyOf}
 use Rattle.boundary_split.specs.Told.{numberedFault, NumberedAnswered}
 
-module _ (n m : ℕ) (mesh : Mesh) (s : List ℕ) (c : List ℤ) where
+module _ {n : ℕ} (m : ℕ) (mesh : Mesh) (s : List ℕ) (c : List ℤ) where
   no-such : 2 < n → 13 ≡ numberedFault n m mesh (length s) (length c)
   unfolding numberedFault
   no-such h = sym (rw (lt-ltb 2 n h))

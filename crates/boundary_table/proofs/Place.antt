@@ -43,7 +43,7 @@ module _ (ls : List ℕ) (lc : List ℤ) (rs : List ℕ) (rc : List ℤ) (right 
     shown-refused = sym none
 
   -- of the operand that is asked for, which has these starts and corners
-  module _ (z : n ≡ 0) (s : List ℕ) (c : List ℤ) (p : cond right rs ls ≡ s) (q : cond right rc lc ≡ c) (t : tableBroken s c ≡ false) where
+  module _ (z : n ≡ 0) {s : List ℕ} {c : List ℤ} (p : cond right rs ls ≡ s) (q : cond right rc lc ≡ c) (t : tableBroken s c ≡ false) where
     within : k < partCount s
     within = subst (λ l. k < partCount l) p (shows ls lc rs rc right k (sym e ∙ z) .part)
 
@@ -67,16 +67,16 @@ module _ (ls : List ℕ) (lc : List ℤ) (rs : List ℕ) (rc : List ℤ) (right 
     known = shows ls lc rs rc right k (sym e ∙ z)
 
     pub right-kept : right ≡ true → (tableBroken rs rc ≡ false) × (k < partCount rs)
-    right-kept r = (known .right-too, within z rs rc (ap (λ b. cond b rs ls) r) (ap (λ b. cond b rc lc) r) (known .right-too))
+    right-kept r = (known .right-too, within z (ap (λ b. cond b rs ls) r) (ap (λ b. cond b rc lc) r) (known .right-too))
 
     pub left-kept : right ≡ false → (tableBroken ls lc ≡ false) × (k < partCount ls)
-    left-kept r = (known .left, within z ls lc (ap (λ b. cond b rs ls) r) (ap (λ b. cond b rc lc) r) (known .left))
+    left-kept r = (known .left, within z (ap (λ b. cond b rs ls) r) (ap (λ b. cond b rc lc) r) (known .left))
 
     module _ {at : ℕ} {l : List ℤ} (b : l ≡ shownPart ls lc rs rc right k) where
       pub right-told : right ≡ true → at ≡ 2 * getD rs k 0
           → (record { fault = 0; offset = at; length = length l } ≡ toldShown ls lc rs rc right k) × (slice at (at + length l) (cond right rc lc) ≡ shownPart ls lc rs rc right k)
-      right-told r a = told-there z rs rc (ap (λ b. cond b rs ls) r) (ap (λ b. cond b rc lc) r) (known .right-too) a b
+      right-told r a = told-there z (ap (λ b. cond b rs ls) r) (ap (λ b. cond b rc lc) r) (known .right-too) a b
 
       pub left-told : right ≡ false → at ≡ 2 * getD ls k 0
           → (record { fault = 0; offset = at; length = length l } ≡ toldShown ls lc rs rc right k) × (slice at (at + length l) (cond right rc lc) ≡ shownPart ls lc rs rc right k)
-      left-told r a = told-there z ls lc (ap (λ b. cond b rs ls) r) (ap (λ b. cond b rc lc) r) (known .left) a b
+      left-told r a = told-there z (ap (λ b. cond b rs ls) r) (ap (λ b. cond b rc lc) r) (known .left) a b

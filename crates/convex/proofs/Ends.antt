@@ -45,7 +45,7 @@ none-stacked i j k a b c d {t} s h e =
 
 -- ---- each edge taken leaves less to do
 
-module _ (m : Mesh) (seen : List ℕ) (e : Edge) (s : List Edge) (r : Region) (h : r .stack ≡ e ∷ s) where
+module _ (m : Mesh) (seen : List ℕ) {e : Edge} {s : List Edge} (r : Region) (h : r .stack ≡ e ∷ s) where
   abbrev u : Triangle
   u = triangleAt m (e .across)
 
@@ -106,7 +106,7 @@ grow-ends zero m seen r h =
 grow-ends (suc n) m seen r h =
     by-stack r refl
     (λ e. ap (λ t. t .stack) (grow-done (suc n) m seen r e) ∙ e)
-    (λ x s e. ap (λ t. t .stack) (grow-step n m seen r e) ∙ grow-ends n m seen (step m seen x s r) (omega (arith, step-less m seen x s r e)))
+    (λ x s e. ap (λ t. t .stack) (grow-step n m seen r e) ∙ grow-ends n m seen (step m seen x s r) (omega (arith, step-less m seen r e)))
 
 start-few : (k : ℕ) (t : Triangle) → length (start k t .stack) ≤ 3
 unfolding start

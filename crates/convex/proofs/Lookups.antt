@@ -182,8 +182,8 @@ unfolding placeOf
 place-of [] k h e o = absurd (omega arith)
 place-of {n} (c ∷ l) zero h e o = rw (eq-eqb (c .number) n e)
 place-of {n} (c ∷ l) (suc k) h e o = by-test (eqb (c .number) n)
-    (λ t. absurd (omega (arith, count-here (numbers l) (eqb-true (c .number) n t), count-at (numbers l) k (omega (arith, length-map l (λ c. c .number))) e)))
+    (λ t. absurd (omega (arith, count-here (numbers l) (eqb-true (c .number) n t), count-at (numbers l) (omega (arith, length-map l (λ c. c .number))) e)))
     (λ t. rw t (ap suc (place-of l k (omega arith) e (omega (arith, count-cons n (c .number) (numbers l))))))
   where
-    count-at : {n : ℕ} (l : List ℕ) (k : ℕ) → k < length l → getD l k 0 ≡ n → 0 < count n l
-    count-at {n} l k h e = count-any n l .1 (getD-any (λ x. x ≡ n) l 0 k h e)
+    count-at : {n : ℕ} (l : List ℕ) {k : ℕ} → k < length l → getD l k 0 ≡ n → 0 < count n l
+    count-at {n} l {k} h e = count-any n l .1 (getD-any (λ x. x ≡ n) l 0 k h e)

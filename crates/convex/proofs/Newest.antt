@@ -102,7 +102,7 @@ module _ (m : Mesh) (ok : Accepted m) (seen : List ℕ) where
     z = zipped m seen k
 
     newest-zipped : NewestAt (z .fresh) z
-    newest-zipped = zipped-keeps m ok seen (λ y. NewestAt (y .fresh) y) newest-step l (unfold startZ in newest-start)
+    newest-zipped = zipped-keeps m ok seen newest-step l (unfold startZ in newest-start)
 
     -- nothing is pending, so the last corner added is done
     newest-done : (t : Bool) → NewestAt t z → Sharp (fromLastZ z)

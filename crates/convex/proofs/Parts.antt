@@ -65,7 +65,7 @@ first-stays [] h = absurd h
 first-stays (p ∷ []) h = absurd h
 first-stays (p ∷ c ∷ l) h = ap (λ k. getD k 0 O) (straight-first p c l h)
 
-module _ (m : Mesh) (ok : Accepted m) where
+module _ {m : Mesh} (ok : Accepted m) where
   -- ---- of one region
 
   module _ (seen : List ℕ) (k : ℕ) (l : k < length m) where

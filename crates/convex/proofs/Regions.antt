@@ -30,7 +30,7 @@ pub record Apart (m : Mesh) (seen : List ℕ) (k : ℕ) (taken : List ℕ) : Typ
   pub in-mesh : (i : ℕ) → length m ≤ i → count i taken ≡ 0
   pub first : 0 < count k taken
 
-module _ (m : Mesh) (ok : Accepted m) (seen : List ℕ) (k : ℕ) where
+module _ {m : Mesh} (ok : Accepted m) {seen : List ℕ} {k : ℕ} where
   -- one more, of the mesh and not yet taken
   apart-more : {taken : List ℕ} {j : ℕ} → isIn j (seen ++ taken) ≡ false → j < length m → Apart m seen k taken → Apart m seen k (taken ++ (j ∷ []))
   unfolding count
@@ -60,7 +60,7 @@ module _ (m : Mesh) (ok : Accepted m) (seen : List ℕ) (k : ℕ) where
   unfolding moved pushed startZ
   region-apart l n o =
       subst (Apart m seen k) (sym (zipped-taken m ok seen k l))
-      (zipped-keeps m ok seen (λ z. Apart m seen k (z .taken))
+      (zipped-keeps m ok seen
       (λ x rest z h f a. stepZ-by m seen (λ z. Apart m seen k (z .taken)) x rest z a (λ d j t. apart-more j (across-in m ok x _ (top-sided m ok x rest z h f) d) a)) l (apart-start l n o))
 
 -- ---- all regions
@@ -87,7 +87,7 @@ module _ (m : Mesh) (ok : Accepted m) where
             (λ e. omega (arith, isIn-true k seen t, ap (λ h. count h seen) (eqb-true k i e), count-append i seen (takenOf (regionsFrom m seen l))))
             (λ e. s .each i (omega (arith, count-there l (eqb-false k i e))));
       }))
-      (λ t. rw t (let a = region-apart m ok seen k (b .0) t o in
+      (λ t. rw t (let a = region-apart ok (b .0) t o in
       let w = region m seen k .taken in
       let s = shared-from (seen ++ w) l (a .once) (b .1) in
       let rest = takenOf (regionsFrom m (seen ++ w) l) in

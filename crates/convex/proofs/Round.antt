@@ -175,5 +175,5 @@ region-round {m} ok =
     (λ k h. round-triangle _ _ _ (ok .turns-left k h))
 
 -- the same of every region of the mesh
-pub all-round : (m : Mesh) → Accepted m → All (λ r. Round (edges (map (λ c. c .point) (r .contour)))) (regions m)
-all-round m ok = all-regions m (λ r. Round (edges (map (λ c. c .point) (r .contour)))) (region-round ok)
+pub all-round : {m : Mesh} → Accepted m → All (λ r. Round (edges (map (λ c. c .point) (r .contour)))) (regions m)
+all-round {m} ok = all-regions m (λ r. Round (edges (map (λ c. c .point) (r .contour)))) (region-round ok)

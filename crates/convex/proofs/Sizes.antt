@@ -75,7 +75,7 @@ unfolding withoutStraight
 straight-few [] = omega arith
 straight-few (p ∷ l) = turning-few (lastOf p l) p (p ∷ l)
 
-module _ (m : Mesh) (ok : Accepted m) where
+module _ {m : Mesh} (ok : Accepted m) where
   -- three corners for the first triangle, one more for each that joins
   pub region-size : (seen : List ℕ) {k : ℕ} → k < length m → length (region m seen k .contour) ≡ length (region m seen k .taken) + 2
   region-size seen {k} l =

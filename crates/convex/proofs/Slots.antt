@@ -266,8 +266,8 @@ module _ (m : Mesh) (ok : Accepted m) where
     zipped-ends {k} l = growZ-ends (2 * length m + 3) (fit-start l) (startZ-left m seen k)
 
     -- what the start has and every step keeps, the end has
-    pub zipped-keeps : (P : Zipper → Type 0) → ((x : Slot) (rest : List Slot) (z : Zipper) → z .pending ≡ x ∷ rest → Fit m z → P z → P (stepZ m seen x rest z))
+    pub zipped-keeps : {P : Zipper → Type 0} → ((x : Slot) (rest : List Slot) (z : Zipper) → z .pending ≡ x ∷ rest → Fit m z → P z → P (stepZ m seen x rest z))
         → {k : ℕ} → k < length m → P (startZ k (triangleAt m k)) → P (zipped m seen k)
-    zipped-keeps P s {k} l p =
+    zipped-keeps {P} s {k} l p =
         growZ-keeps m seen (λ z. Fit m z × P z) (λ x rest z h t. (fit-step x rest z h (t .0) seen, s x rest z h (t .0) (t .1)))
         (2 * length m + 3) (fit-start l, p) .1

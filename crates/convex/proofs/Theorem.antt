@@ -26,10 +26,10 @@ use Rattle.convex.proofs.Sizes.{parts-few, parts-size, parts-short}
 use Rattle.mesh.proofs.Accepted.{accepted}
 
 pub each-taken-once : EachTakenOnce
-each-taken-once m h = record { once = regions-once m (accepted m h); areas = all-taken m (accepted m h) }
+each-taken-once m h = record { once = regions-once m (accepted m h); areas = all-taken (accepted m h) }
 
 pub area-kept : PartsArea
-area-kept m h = parts-area m (accepted m h)
+area-kept m h = parts-area (accepted m h)
 
 sharp-first : (l : List Pt) → Sharp l → ltZ (pos 0) (firstTurn l) ≡ true
 unfolding firstTurn
@@ -42,8 +42,8 @@ each-straightened m h =
     let ok = accepted m h in
     record {
       first = all-regions m (λ r. ltZ (pos 0) (firstTurn (fromLast (r .contour))) ≡ true) (λ seen k l. sharp-first _ (region-sharp m ok seen k l));
-      stays = all-regions m (λ r. getD (contourOf r) 0 O ≡ getD (fromLast (r .contour)) 0 O) (part-first m ok);
-      turns = all-map (parts m) (λ l s. all-map (neighbours (edges l)) (λ t g. above-0 (cross (t .0) (t .1)) g) (s .left)) (parts-convex m ok);
+      stays = all-regions m (λ r. getD (contourOf r) 0 O ≡ getD (fromLast (r .contour)) 0 O) (part-first ok);
+      turns = all-map (parts m) (λ l s. all-map (neighbours (edges l)) (λ t g. above-0 (cross (t .0) (t .1)) g) (s .left)) (parts-convex ok);
     }
   where
     above-0 : (z : ℤ) → ltZ (pos 0) z ≡ true → eqZ z (pos 0) ≡ false
@@ -53,7 +53,7 @@ pub parts-table : PartsTable
 parts-table m h =
     let ok = accepted m h in
     limits-sound (record {
-      parts = omega (arith, parts-few m ok, ok .few);
-      corners = omega (arith, parts-size m ok, ok .few);
-      contours = parts-short m ok;
+      parts = omega (arith, parts-few ok, ok .few);
+      corners = omega (arith, parts-size ok, ok .few);
+      contours = parts-short ok;
     })

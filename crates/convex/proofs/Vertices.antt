@@ -37,7 +37,7 @@ module _ (P : Pt → Type 0) where
   all-straight [] h = tt
   all-straight (p ∷ l) h = all-turning (lastOf p l) p (p ∷ l) h
 
-  module _ (m : Mesh) (ok : Accepted m) (vertices : (k i : ℕ) → k < length m → P (vertex (triangleAt m k) i)) where
+  module _ {m : Mesh} (ok : Accepted m) (vertices : (k i : ℕ) → k < length m → P (vertex (triangleAt m k) i)) where
     -- of the corners, pending and done
     abbrev Has : Zipper → Type 0
     Has z = All (λ s. P (s .corner)) (z .pending) × All P (z .done)
@@ -54,7 +54,7 @@ module _ (P : Pt → Type 0) where
     unfolding contourOf
     region-vertices seen k l =
         let z : Zipper = zipped m seen k in
-        let h : Has z = zipped-keeps m ok seen Has (step-has seen) l (unfold startZ in ((vertices k 2 l, (vertices k 1 l, (vertices k 0 l, tt))), tt)) in
+        let h : Has z = zipped-keeps m ok seen (step-has seen) l (unfold startZ in ((vertices k 2 l, (vertices k 1 l, (vertices k 0 l, tt))), tt)) in
         all-straight _ (subst (All P) (sym (zipped-from-last m ok seen k l)) (all-perm P (Permᴰ·symm (perm-rotate (length (z .done) - z .last) (z .done))) (h .1)))
 
     pub parts-vertices : All (All P) (parts m)

@@ -131,7 +131,7 @@ module _ (m : Mesh) (ok : Accepted m) where
     contour-keeps seen k l =
         let z = zipped m seen k in
         let e : whole z ≡ z .done = ap (λ p. ring p (z .done)) (zipped-ends m ok seen l) ∙ append-nil (z .done) in
-        subst₂ P (sym (zipped-taken m ok seen k l)) (e ∙ sym (zipped-contour m ok seen k l)) (zipped-keeps m ok seen Has (step-keeps seen) l (triangle k l))
+        subst₂ P (sym (zipped-taken m ok seen k l)) (e ∙ sym (zipped-contour m ok seen k l)) (zipped-keeps m ok seen (step-keeps seen) l (triangle k l))
 
 -- what holds of each region holds of all
 module _ (m : Mesh) (Q : Region → Type 0) (q : (seen : List ℕ) (k : ℕ) → k < length m → Q (region m seen k)) where

@@ -342,7 +342,7 @@ module _ (m : Mesh) (ok : Accepted m) (seen : List ℕ) where
   both-step n (suc f) {r} {z} t {s} {ss} e d fit k again =
       let h = top-edge m seen r z t s ss e d in
       subst (λ q. Match q (growZ n m seen (stepZ m seen (s .slot) (slotsOf ss) z))) (sym (grow-step f m seen r h))
-      (again f _ (omega (arith, step-less m seen _ _ r h)) (match-step m seen r z t s ss e d fit))
+      (again f _ (omega (arith, step-less m seen r h)) (match-step m seen r z t s ss e d fit))
 
   grow-match : (n : ℕ) {f : ℕ} {r : Region} {z : Zipper} → Fit m z → leftZ m seen z ≤ n → left m seen r ≤ f → Match r z → Match (grow f m seen r) (growZ n m seen z)
   grow-match zero {f} {r} {z} fit l k t =
@@ -424,7 +424,7 @@ module _ (m : Mesh) (ok : Accepted m) (seen : List ℕ) where
 
 -- ---- all regions
 
-module _ (m : Mesh) (ok : Accepted m) where
+module _ {m : Mesh} (ok : Accepted m) where
   contours-zipped : (seen l : List ℕ) → All (λ i. i < length m) l → map contourZ (regionsZ m seen l) ≡ map contourOf (regionsFrom m seen l)
   unfolding regionsZ regionsFrom contourOf
   contours-zipped seen [] b = refl

@@ -54,8 +54,8 @@ module _ (cs : List (List ℤ)) where
   length-between : (i j : ℕ) → j ≤ length cs → length (between cs i j) ≡ j - i
   length-between i j h = length-map (take (j - i) (drop i cs)) cornerOf ∙ length-take-le (j - i) (drop i cs) (omega (arith, length-drop i cs))
 
-  between-none : (i j : ℕ) → j ≤ i → between cs i j ≡ []
-  between-none i j h =
+  between-none : (i : ℕ) {j : ℕ} → j ≤ i → between cs i j ≡ []
+  between-none i {j} h =
       let e : j - i ≡ 0 = omega arith in
       ap (λ n. map cornerOf (take n (drop i cs))) e
 
@@ -151,19 +151,19 @@ ran-count {l} {r = r} f = (omega (arith, f .appended .count, along-few (vector (
 -- over places: none, one place more, and up to the end
 module _ (cs : List (List ℤ)) (i : ℕ) {points : List (List ℤ)} {r : Run} where
   pub ran-start : {j : ℕ} → Runnable cs i j points r → Ran (between cs i i) points r points r
-  ran-start h = subst (λ l. Ran l points r points r) (sym (between-none cs i i (omega arith))) (ran-none points r (h .corner-on) (h .way-short))
+  ran-start h = subst (λ l. Ran l points r points r) (sym (between-none cs i (omega arith))) (ran-none points r (h .corner-on) (h .way-short))
 
   pub ran-places : {k j : ℕ} {points′ : List (List ℤ)} {t : Run} → k ≡ j → Ran (between cs i k) points r points′ t → Ran (between cs i j) points r points′ t
   ran-places {points′ = points′} {t} e = subst (λ n. Ran (between cs i n) points r points′ t) e
 
-  module _ (k : ℕ) {j : ℕ} (h : Runnable cs i j points r) (f : i ≤ k) (g : k < j) {points′ : List (List ℤ)} {s : Run} (a : Ran (between cs i k) points r points′ s) where
+  module _ {k : ℕ} {j : ℕ} (h : Runnable cs i j points r) (f : i ≤ k) (g : k < j) {points′ : List (List ℤ)} {s : Run} (a : Ran (between cs i k) points r points′ s) where
     pub ran-room : s .count < length points′
     ran-room =
         let n = ran-count a in
         omega (arith, n .0, n .1, length-between cs i k (omega (arith, h .within)), h .room)
 
-    pub ran-next : (c : IntPoint) {points″ : List (List ℤ)} {t : Run} → point c ≡ cornerIn cs k → Ran (point c ∷ []) points′ s points″ t → Ran (between cs i (k + 1)) points r points″ t
-    ran-next c {points″} {t} e b = subst (λ l. Ran l points r points″ t) (ap (λ q. between cs i k ++ (q ∷ [])) e ∙ sym (between-next cs f (omega (arith, h .within)))) (ran-more a b)
+    pub ran-next : {c : IntPoint} {points″ : List (List ℤ)} {t : Run} → point c ≡ cornerIn cs k → Ran (point c ∷ []) points′ s points″ t → Ran (between cs i (k + 1)) points r points″ t
+    ran-next {c} {points″} {t} e b = subst (λ l. Ran l points r points″ t) (ap (λ q. between cs i k ++ (q ∷ [])) e ∙ sym (between-next cs f (omega (arith, h .within)))) (ran-more a b)
 
 -- ---- corners of turn 0 are dropped
 
@@ -199,7 +199,7 @@ far cs p = between cs (p .done) (p .last)
 abbrev previous : List (List ℤ) → Progress → Pt
 previous cs p = lastOf (first cs p) (near cs p ++ inner cs p)
 
-module _ (cs : List (List ℤ)) (p : Progress) (w : Whole cs p) where
+module _ {cs : List (List ℤ)} {p : Progress} (w : Whole cs p) where
   contour-shape : contourAt cs p ≡ first cs p ∷ near cs p ++ inner cs p
   unfolding contourAt
   contour-shape =
@@ -219,7 +219,7 @@ module _ (cs : List (List ℤ)) (p : Progress) (w : Whole cs p) where
   last-near = by-test (ltb (p .last) (length cs))
       (λ t. ap (lastOf (first cs p)) (between-last cs (ltb-true (p .last) (length cs) t) (omega arith)) ∙ last-snoc (first cs p) (between cs (p .last) (length cs - 1)) (cornerIn cs (length cs - 1)))
       (λ t. let e : p .last ≡ length cs = omega (arith, w .ended, ltb-false (p .last) (length cs) t) in
-      ap (lastOf (first cs p)) (between-none cs (p .last) (length cs) (omega arith)) ∙ ap (λ n. cornerIn cs (n - 1)) e)
+      ap (lastOf (first cs p)) (between-none cs (p .last) (omega arith)) ∙ ap (λ n. cornerIn cs (n - 1)) e)
 
   previous-at : previous cs p ≡ cornerIn cs (placeBefore (length cs) (p .done) (p .last - 1))
   unfolding placeBefore lastOf
@@ -228,7 +228,7 @@ module _ (cs : List (List ℤ)) (p : Progress) (w : Whole cs p) where
       let b = lastOf (first cs p) (near cs p) in
       last-append (first cs p) (near cs p) (inner cs p) ∙ by-test (ltb (p .done) x)
       (λ t. rw t (ap (lastOf b) (between-last cs (ltb-true (p .done) x t) (omega (arith, w .ended))) ∙ last-snoc b (between cs (p .done) (x - 1)) (cornerIn cs (x - 1))))
-      (λ t. rw t (ap (lastOf b) (between-none cs (p .done) x (ltb-false (p .done) x t)) ∙ last-near))
+      (λ t. rw t (ap (lastOf b) (between-none cs (p .done) (ltb-false (p .done) x t)) ∙ last-near))
 
   pub before-below : {k : ℕ} → k ≡ placeBefore (length cs) (p .done) (p .last - 1) → k < length cs
   unfolding placeBefore
@@ -247,7 +247,7 @@ module _ (cs : List (List ℤ)) (p : Progress) (w : Whole cs p) where
         let n = ran-count f in
         omega (arith, room, n .0, n .1, length-between cs (p .last) (length cs) (omega arith), w .ended)
 
-    pub ran-whole : (a : IntPoint) {k : ℕ} {points″ : List (List ℤ)} {t : Run} → k ≡ placeBefore (length cs) (p .done) (p .last - 1) → point a ≡ cornerIn cs k → point (r .corner) ≡ first cs p → vector (r .way) ≡ point (r .corner) -ᵖ point a → Ran (far cs p) points′ s points″ t → Appended (withoutStraight (contourAt cs p)) points (r .count) points″ (t .count)
-    ran-whole a {points″ = points″} {t} e h b d g =
+    pub ran-whole : {a : IntPoint} {k : ℕ} {points″ : List (List ℤ)} {t : Run} → k ≡ placeBefore (length cs) (p .done) (p .last - 1) → point a ≡ cornerIn cs k → point (r .corner) ≡ first cs p → vector (r .way) ≡ point (r .corner) -ᵖ point a → Ran (far cs p) points′ s points″ t → Appended (withoutStraight (contourAt cs p)) points (r .count) points″ (t .count)
+    ran-whole {a} {points″ = points″} {t} e h b d g =
         let v : vector (r .way) ≡ first cs p -ᵖ previous cs p = d ∙ ap₂ _-ᵖ_ b (h ∙ ap (cornerIn cs) e ∙ sym previous-at) in
         subst (λ l. Appended l points (r .count) points″ (t .count)) ((λ i. keptAlong (v i) (b i) (near cs p ++ far cs p)) ∙ sym kept-whole) (ran-more f g .appended)

@@ -40,8 +40,8 @@ numbers-more points {i} h =
     ap (λ l. numbersOf (map cornerOf l)) (ap (λ n. take n points) (add-one i) ∙ take-suc points i [] h) ∙ ap numbersOf (map-append cornerOf (take i points) (getD points i [] ∷ []))
     ∙ numbers-append (firstPoints i points) (cornerIn points i ∷ [])
 
-pub points-turn : (points : List (List ℤ)) (to₀ : List ℤ) {to to′ : List ℤ} (i : ℕ) → i < length points → i < length (pointsOf to₀) → to ≡ overlay (numbersOf (firstPoints i points)) to₀ → to′ ≡ withCorner to i (cornerIn points i) → to′ ≡ overlay (numbersOf (firstPoints (i + 1) points)) to₀
-points-turn points to₀ i h k p e =
+pub points-turn : (points : List (List ℤ)) (to₀ : List ℤ) {to to′ : List ℤ} {i : ℕ} → i < length points → i < length (pointsOf to₀) → to ≡ overlay (numbersOf (firstPoints i points)) to₀ → to′ ≡ withCorner to i (cornerIn points i) → to′ ≡ overlay (numbersOf (firstPoints (i + 1) points)) to₀
+points-turn points to₀ {i} h k p e =
     let n = numbersOf (firstPoints i points) in
     let x = cornerIn points i .x in
     let y = cornerIn points i .y in
@@ -50,7 +50,7 @@ points-turn points to₀ i h k p e =
 
 -- ---- faults of the room
 
-module _ (ps : List (List Pt)) (s c : ℕ) {starts : List ℕ} {points : List (List ℤ)} {t : Tally} (g : Gathered starts points t ps) where
+module _ {ps : List (List Pt)} (s c : ℕ) {starts : List ℕ} {points : List (List ℤ)} {t : Tally} (g : Gathered starts points t ps) where
   starts-count : length (startsOf ps) ≡ t .parts + 1
   unfolding startsOf
   starts-count = omega (arith, length-startsFrom 0 ps, g .parts)
@@ -75,29 +75,29 @@ pub refused : (ps : List (List Pt)) (s : List ℕ) (c : List ℤ) {f F : ℕ} {r
 refused ps s c {f} {F} e d h =
     let n : F ≡ 0 → ⊥ = λ q. d (e ∙ q) in
     record {
-      counts = h ∙ ap (λ k. record { fault = k; parts = 0; corners = 0 }) e ∙ sym (refused-counts F n ps);
-      starts = sym (refused-buffer F n (startsOf ps) s);
-      corners = sym (refused-buffer F n (cornersOf ps) c);
+      counts = h ∙ ap (λ k. record { fault = k; parts = 0; corners = 0 }) e ∙ sym (refused-counts n ps);
+      starts = sym (refused-buffer n (startsOf ps) s);
+      corners = sym (refused-buffer n (cornersOf ps) c);
     }
 
 module _ (starts : List ℕ) (points : List (List ℤ)) (t : Tally) (s : List ℕ) (c : List ℤ) where
   pub starts-refused : {r : Counts} → length s < t .parts + 1 → r ≡ record { fault = 22; parts = 0; corners = 0 } → HandedOut starts points t s c r s c
-  starts-refused h e = record { answer = λ ps g. refused ps s c (few-starts ps (length s) (length c) g h) (λ q. omega (arith, q)) e }
+  starts-refused h e = record { answer = λ ps g. refused ps s c (few-starts (length s) (length c) g h) (λ q. omega (arith, q)) e }
 
   module _ (h : t .parts + 1 ≤ length s) where
     pub corners-refused : {r : Counts} → length c / 2 < t .corners → r ≡ record { fault = 21; parts = 0; corners = 0 } → HandedOut starts points t s c r s c
-    corners-refused k e = record { answer = λ ps g. refused ps s c (few-corners ps (length s) (length c) g h k) (λ q. omega (arith, q)) e }
+    corners-refused k e = record { answer = λ ps g. refused ps s c (few-corners (length s) (length c) g h k) (λ q. omega (arith, q)) e }
 
     pub handed : {s′ : List ℕ} {c′ : List ℤ} → t .corners ≤ length c / 2 → s′ ≡ overlay (take (t .parts + 1) starts) s → c′ ≡ overlay (numbersOf (firstPoints (t .corners) points)) c → HandedOut starts points t s c (record { fault = 0; parts = t .parts; corners = t .corners }) s′ c′
     unfolding cornersOf
     handed k p q = record {
       answer = λ ps g.
-          let e = sym (no-fault ps (length s) (length c) g h k) in
+          let e = sym (no-fault (length s) (length c) g h k) in
           let F = firstFault (roomKinds ps (length s) (length c)) in
           record {
-            counts = (λ i. record { fault = 0; parts = g .parts i; corners = g .corners i }) ∙ sym (accepted-counts F e ps);
-            starts = p ∙ ap (λ l. overlay l s) (g .begins) ∙ sym (accepted-buffer F e (startsOf ps) s);
-            corners = q ∙ ap (λ l. overlay (numbersOf l) c) (g .gathered) ∙ sym (accepted-buffer F e (cornersOf ps) c);
+            counts = (λ i. record { fault = 0; parts = g .parts i; corners = g .corners i }) ∙ sym (accepted-counts e ps);
+            starts = p ∙ ap (λ l. overlay l s) (g .begins) ∙ sym (accepted-buffer e (startsOf ps) s);
+            corners = q ∙ ap (λ l. overlay (numbersOf l) c) (g .gathered) ∙ sym (accepted-buffer e (cornersOf ps) c);
           };
     }
 

@@ -71,7 +71,7 @@ module _ (size : ℕ) (rows : List (List ℤ)) (cs : List (List ℤ)) (es : List
       far-vertex = w ∙ ap (λ t. vertex t (opposite t (x .inside))) row-across
 
       pub far-grid : OnGrid far
-      far-grid = on-grid-of far far-vertex (accepted (rowsMesh rows) (s .ready .accepted) .on-grid (x .across) (opposite u (x .inside)) in-mesh)
+      far-grid = on-grid-of far-vertex (accepted (rowsMesh rows) (s .ready .accepted) .on-grid (x .across) (opposite u (x .inside)) in-mesh)
 
       module _ (f : getD flags (x .across) false ≡ false) {b : Bool} (q : b ≡ joins (getD r (length r - 1) O) (x .corner) (point far) (getD r 0 O) (getD r 1 O)) where
         by-join : answer ≡ cond b (x .across) none

@@ -68,8 +68,8 @@ module _ (size : ℕ) (m : Mesh) (cs : List (List ℤ)) (es : List (List ℕ)) (
         edges = length-three es (e 0) (e 1) (e 2) ∙ s .edges;
         marks = length-set flags k true ∙ s .marks;
         grid =
-            grid-set 2 (c 2) (omega (arith, length-set (set cs 0 (c 0)) 1 (c 1), length-set cs 0 (c 0), s .corners))
-            (grid-set 1 (c 1) (omega (arith, length-set cs 0 (c 0), s .corners)) (grid-set 0 (c 0) (omega (arith, s .corners)) (s .grid) (a .on-grid k 0 l)) (a .on-grid k 1 l)) (a .on-grid k 2 l);
+            grid-set (c 2) (omega (arith, length-set (set cs 0 (c 0)) 1 (c 1), length-set cs 0 (c 0), s .corners))
+            (grid-set (c 1) (omega (arith, length-set cs 0 (c 0), s .corners)) (grid-set (c 0) (omega (arith, s .corners)) (s .grid) (a .on-grid k 0 l)) (a .on-grid k 1 l)) (a .on-grid k 2 l);
         across =
             across-set (set (set es 0 (e 0)) 1 (e 1)) 2 (e 2) (omega (arith, length-set (set es 0 (e 0)) 1 (e 1), length-set es 0 (e 0), s .edges))
             (across-set (set es 0 (e 0)) 1 (e 1) (omega (arith, length-set es 0 (e 0), s .edges)) (across-set es 0 (e 0) (omega (arith, s .edges)) (s .across) (a .in-mesh k (before 0) l (after-side (after 0)))) (a .in-mesh k (before 1) l (after-side (after 1)))) (a .in-mesh k (before 2) l (after-side (after 2)));

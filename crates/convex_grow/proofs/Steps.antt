@@ -67,8 +67,8 @@ set-all P l {i} {a} d h f g j =
     (λ e. subst P (sym (ap (λ k. getD (set l i a) k d) (sym (eqb-true i j e)) ∙ getD-set-same l i a d h)) g)
     (λ e. subst P (sym (getD-set-other l i j a d (λ q. eqb-false i j e (sym q)))) (f j))
 
-pub grid-set : {cs : List (List ℤ)} (i : ℕ) (c : List ℤ) → i < length cs → Grid cs → onGrid (cornerOf c) ≡ true → Grid (set cs i c)
-grid-set {cs} i c h g e = record { at = set-all (λ r. onGrid (cornerOf r) ≡ true) cs [] h (g .at) e }
+pub grid-set : {cs : List (List ℤ)} {i : ℕ} (c : List ℤ) → i < length cs → Grid cs → onGrid (cornerOf c) ≡ true → Grid (set cs i c)
+grid-set {cs} {i} c h g e = record { at = set-all (λ r. onGrid (cornerOf r) ≡ true) cs [] h (g .at) e }
 
 abbrev Within : ℕ → List ℕ → Type 0
 Within count e = (getD e 1 0 ≡ none → ⊥) → getD e 1 0 < count
@@ -136,12 +136,12 @@ module _ (size : ℕ) (m : Mesh) (cs : List (List ℤ)) (es : List (List ℕ)) (
   pub in-mesh : (x .across ≡ none → ⊥) → x .across < length flags
   in-mesh d = omega (arith, s .ready .across (p .pending - 1) (omega (arith, s .room, s .whole)) (s .meshed) d, s .ready .marks)
 
-  module _ (seen : List ℕ) (z : Zipper) (h : Holds size cs es flags p seen z) where
+  module _ {seen : List ℕ} {z : Zipper} (h : Holds size cs es flags p seen z) where
     same-flag : eqb (x .across) none ≡ false → getD flags (x .across) false ≡ isIn (x .across) (seen ++ z .taken)
     same-flag e = h .taken .at (x .across) (in-mesh (eqb-false (x .across) none e))
 
     same-ring : ring rest (z .done) ≡ r
-    same-ring = ap (ring rest) (h .done) ∙ around-ring cs es (p .pending) (p .done) (omega (arith, s .ready .corners, s .room, s .whole))
+    same-ring = ap (ring rest) (h .done) ∙ around-ring cs es (p .done) (omega (arith, s .ready .corners, s .room, s .whole))
 
     by-ring : stepZ m seen x rest z ≡ cond (eqb (x .across) none) (moved x rest z) (cond (isIn (x .across) (seen ++ z .taken)) (moved x rest z) (cond (joinsZ x r u v) (pushed x rest u v z) (moved x rest z)))
     unfolding stepZ
@@ -168,7 +168,7 @@ module _ (size : ℕ) (m : Mesh) (cs : List (List ℤ)) (es : List (List ℕ)) (
       corners = length-set cs (p .done - 1) top ∙ s .ready .corners;
       edges = s .ready .edges;
       marks = s .ready .marks;
-      grid = grid-set (p .done - 1) top (omega (arith, s .ready .corners, s .room, s .whole)) (s .ready .grid) (s .ready .grid .at (p .pending - 1));
+      grid = grid-set top (omega (arith, s .ready .corners, s .room, s .whole)) (s .ready .grid) (s .ready .grid .at (p .pending - 1));
       across = s .ready .across;
     };
     meshed = s .meshed;
@@ -183,7 +183,7 @@ module _ (size : ℕ) (m : Mesh) (cs : List (List ℤ)) (es : List (List ℕ)) (
   move-holds : {seen : List ℕ} {z : Zipper} → Holds size cs es flags p seen z → Holds size (set cs (p .done - 1) top) es flags (movedBy p) seen (moved x rest z)
   unfolding moved
   move-holds {z} h = record {
-    pending = sym (pending-set-corner cs es (p .pending - 1) (p .done - 1) top (omega (arith, s .room)));
+    pending = sym (pending-set-corner cs es (p .pending - 1) top (omega (arith, s .room)));
     done = ap (λ l. x .corner ∷ l) (h .done) ∙ sym (done-move cs (p .done) top (omega (arith, s .room)) (omega (arith, s .whole, s .ready .corners)));
     fresh = λ e. differ e;
     last = λ e. last-moved (z .fresh) (length (z .done)) (z .last) (omega (arith, ap length (h .done), length-done cs (p .done), s .ready .corners, s .whole)) (h .fresh) (h .last);
@@ -195,7 +195,7 @@ module _ (size : ℕ) (m : Mesh) (cs : List (List ℤ)) (es : List (List ℕ)) (
     sound = move-sound;
     less = omega arith;
     kept = omega (arith, s .room);
-    holds = λ seen z h. subst (Holds size (set cs (p .done - 1) top) es flags (movedBy p) seen) (sym (step-stays seen z h e)) (move-holds h);
+    holds = λ seen z h. subst (Holds size (set cs (p .done - 1) top) es flags (movedBy p) seen) (sym (step-stays h e)) (move-holds h);
   }
 
   -- ---- a triangle joins
@@ -235,7 +235,7 @@ module _ (size : ℕ) (m : Mesh) (cs : List (List ℤ)) (es : List (List ℕ)) (
             corners = length-set cs (p .pending) (pairOf (vertex u v)) ∙ s .ready .corners;
             edges = length-set (set es (p .pending - 1) first) (p .pending) second ∙ length-set es (p .pending - 1) first ∙ s .ready .edges;
             marks = length-set flags (x .across) true ∙ s .ready .marks;
-            grid = grid-set (p .pending) (pairOf (vertex u v)) (omega (arith, s .ready .corners, s .room, s .whole, free-less)) (s .ready .grid) (a .on-grid (x .across) v l);
+            grid = grid-set (pairOf (vertex u v)) (omega (arith, s .ready .corners, s .room, s .whole, free-less)) (s .ready .grid) (a .on-grid (x .across) v l);
             across =
                 across-set (set es (p .pending - 1) first) (p .pending) second (omega (arith, length-set es (p .pending - 1) first, s .ready .edges, s .room, s .whole, free-less))
                 (across-set es (p .pending - 1) first (omega (arith, s .ready .edges, s .room, s .whole)) (s .ready .across) (a .in-mesh (x .across) (after v) l (after-side v)))
@@ -260,7 +260,7 @@ module _ (size : ℕ) (m : Mesh) (cs : List (List ℤ)) (es : List (List ℕ)) (
         (pending-cons cs′ es′ some
         ∙ ap₂ _∷_
         (slot-eq (getD-set-other cs n (n - 1) (pairOf (vertex u v)) [] (λ e. omega arith)) (getD-set-other es1 n (n - 1) second [] (λ e. omega arith) ∙ getD-set-same es (n - 1) first [] (omega (arith, s .ready .edges, s .room, s .whole))))
-        (pending-set-edge cs′ es1 (n - 1) n second (omega arith) ∙ pending-set-edge cs′ es (n - 1) (n - 1) first (omega arith) ∙ pending-set-corner cs es (n - 1) n (pairOf (vertex u v)) (omega arith)))
+        (pending-set-edge cs′ es1 (n - 1) second (omega arith) ∙ pending-set-edge cs′ es (n - 1) first (omega arith) ∙ pending-set-corner cs es (n - 1) (pairOf (vertex u v)) (omega arith)))
       where
         slot-eq : {c c′ : List ℤ} {e e′ : List ℕ} → c ≡ c′ → e ≡ e′ → _≡_ {A = Slot} (record { corner = cornerOf c; inside = getD e 0 0; across = getD e 1 0 }) (record { corner = cornerOf c′; inside = getD e′ 0 0; across = getD e′ 1 0 })
         slot-eq f g = λ i. record { corner = cornerOf (f i); inside = getD (g i) 0 0; across = getD (g i) 1 0 }
@@ -269,7 +269,7 @@ module _ (size : ℕ) (m : Mesh) (cs : List (List ℤ)) (es : List (List ℕ)) (
     unfolding pushed
     push-holds {seen} {z} h = record {
       pending = sym push-pending;
-      done = h .done ∙ sym (done-set cs (p .done) (p .pending) (pairOf (vertex u v)) (omega (arith, s .room, free-less)));
+      done = h .done ∙ sym (done-set cs (p .done) (pairOf (vertex u v)) (omega (arith, s .room, free-less)));
       fresh = λ e. refl;
       last = λ e. differ (sym e);
       taken = subst (Marked (set flags (x .across) true)) (append-assoc seen (z .taken) (x .across ∷ [])) (marked-set (in-mesh across-some) (h .taken));
@@ -280,7 +280,7 @@ module _ (size : ℕ) (m : Mesh) (cs : List (List ℤ)) (es : List (List ℕ)) (
       sound = push-sound;
       less = omega (arith, free-less);
       kept = omega (arith, free-less);
-      holds = λ seen z h. subst (Holds size cs′ es′ (set flags (x .across) true) (pushedBy p) seen) (sym (step-goes seen z h d)) (push-holds h);
+      holds = λ seen z h. subst (Holds size cs′ es′ (set flags (x .across) true) (pushedBy p) seen) (sym (step-goes h d)) (push-holds h);
     }
 
     pub push-room : p .pending < size

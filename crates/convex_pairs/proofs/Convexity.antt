@@ -66,7 +66,7 @@ way-on : (c p q : Pt) → (q -ᵖ p) +ᵖ (p -ᵖ c) ≡ q -ᵖ c
 way-on = ringᵖ (pt ∷ pt ∷ pt ∷ []) (λ c p q. (q -E p) +E (p -E c) :≡ᵖ q -E c) tt
 
 -- from c round E: p is the corner after the edges a ∷ A, and r are the corners after p
-module _ (c : Pt) (E : List Pt) (k : Convex E) where
+module _ (c : Pt) {E : List Pt} (k : Convex E) where
   next-left : {a : Pt} {A : List Pt} (p q : Pt) (r : List Pt) → Split Lt E (a ∷ A) ((q -ᵖ p) ∷ steps q (r ++ (c ∷ []))) → sumᵖ (a ∷ A) ≡ p -ᵖ c → Left c p q
   unfolding links
   next-left p q [] s e = pos-is (seen-edge c p q) (subst (λ v. pos 0 <ℤ cross v (q -ᵖ p)) e (left-strictly k s))
@@ -101,7 +101,7 @@ unfolding edges neighbours links
 from-least c p r k s =
     let E : List Pt = edges (c ∷ p ∷ r) in
     let one : sumᵖ ((p -ᵖ c) ∷ []) ≡ p -ᵖ c = sum-cons (p -ᵖ c) [] ∙ (unfold sumᵖ in +ᵖ-zero (p -ᵖ c)) in
-    ascends-from c E k p r (split-next (split-start s)) one .1
+    ascends-from c k p r (split-next (split-start s)) one .1
 
 -- the others ascend and bend to the left
 least-triples : (c : Pt) (l : List Pt) → Convex (edges (c ∷ l)) → Sorted Lt (edges (c ∷ l)) → Triples (c ∷ l)
@@ -122,9 +122,9 @@ convex-triples (p ∷ t) h =
     let k : s < length l = least-is l (omega arith) .inside in
     let least = least-all l (omega arith) in
     let at : rotate s l ≡ cornerAt l s ∷ (drop (suc s) l ++ take s l) = rotate-at l O k in
-    let c : Convex (edges (rotate s l)) = subst Convex (sharp-live-on l h s k least) (outline-on l s k least (sharp-round l h) .convex) in
+    let c : Convex (edges (rotate s l)) = subst Convex (sharp-live-on l h k least) (outline-on l k least (sharp-round l h) .convex) in
     let w : Triples (cornerAt l s ∷ (drop (suc s) l ++ take s l)) =
-    least-triples (cornerAt l s) (drop (suc s) l ++ take s l) (subst (λ r. Convex (edges r)) at c) (subst (λ r. Sorted Lt (edges r)) at (sharp-ascends l h s k least)) in
+    least-triples (cornerAt l s) (drop (suc s) l ++ take s l) (subst (λ r. Convex (edges r)) at c) (subst (λ r. Sorted Lt (edges r)) at (sharp-ascends l h k least)) in
     subst Triples (rotate-back l (omega arith)) (triples-rotate (length l - s) (rotate s l) (subst Triples (sym at) w))
 
 -- joining's words and demand 3's are the same tests
@@ -188,7 +188,7 @@ joins-left a0 x p b b0 h k =
 triples-round : (x p b : Pt) (l : List Pt) → Triples (x ∷ p ∷ b ∷ l) → Round (edges (x ∷ p ∷ b ∷ l))
 triples-round x p b [] h = round-triangle x p b (h .0 .0 .0)
 triples-round x p b (b0 ∷ l) h =
-    round-join x p b b0 l refl (h .0 .0 .0) (joins-left (lastOf b0 l) x p b b0 (all-last (Left x p) b0 l (h .0 .0 .1)) (h .1 .0 .0 .0))
+    round-join x p b b0 l refl (h .0 .0 .0) (joins-left (lastOf b0 l) x p b b0 (all-last (Left x p) l (h .0 .0 .1)) (h .1 .0 .0 .0))
     (triples-round x b b0 l (h .0 .1, h .1 .1))
 
 -- over u, v and l on to x and y
@@ -207,7 +207,7 @@ pub triples-bends : (a b c : Pt) (l : List Pt) → Triples (a ∷ b ∷ c ∷ l)
 triples-bends a b c l h = (
   h .0 .0 .0,
   bends-on b c l a b (h .1)
-      (sorted-map (Left a) (λ p q. Left p q a) (λ p q k. pos-is (area-cycle a p q) k) (b ∷ c ∷ l) (h .0))
+      (sorted-map (Left a) (λ p q k. pos-is (area-cycle a p q) k) (b ∷ c ∷ l) (h .0))
       (all-map (c ∷ l) (λ q k. pos-is (sym (area-cycle q a b)) k) (h .0 .0)),
 )
 

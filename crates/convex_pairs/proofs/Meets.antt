@@ -22,11 +22,11 @@ pub meets : {l : List Pt} → StrictlyConvex l → MeetsPremise l
 meets {l} s = let h = convex-test s in (h, round-once l (inl (sharp-round l h)))
 
 pub parts-meet-premise : PartsMeetPremise
-parts-meet-premise m h = all-map (parts m) (λ l. meets) (parts-convex m (accepted m h))
+parts-meet-premise m h = all-map (parts m) (λ l. meets) (parts-convex (accepted m h))
 
 pub parts-reach : PartsReach
 parts-reach reflected m n h k =
     all-map (parts m) (λ A a. all-map (parts n) (λ B b. demand3 reflected A B (a .1) (b .1)) (parts-meet-premise n k)) (parts-meet-premise m h)
 
 pub parts-polygons : (m : Mesh) → firstFault (meshKinds m) ≡ 0 → All Polygon (parts m)
-parts-polygons m h = all-map (parts m) (λ l. convex-polygon) (parts-convex m (accepted m h))
+parts-polygons m h = all-map (parts m) (λ l. convex-polygon) (parts-convex (accepted m h))

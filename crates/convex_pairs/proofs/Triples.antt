@@ -49,9 +49,9 @@ module _ (P : Pt → Type 0) (n : ℕ) (l : List Pt) (h : All P l) where
 
 module _ (R : Pt → Pt → Type 0) where
   -- a weaker relation
-  pub sorted-map : (S : Pt → Pt → Type 0) → ((a b : Pt) → R a b → S a b) → (l : List Pt) → Sorted R l → Sorted S l
-  sorted-map S f [] h = tt
-  sorted-map S f (a ∷ l) h = (all-map l (f a) (h .0), sorted-map S f l (h .1))
+  pub sorted-map : {S : Pt → Pt → Type 0} → ((a b : Pt) → R a b → S a b) → (l : List Pt) → Sorted R l → Sorted S l
+  sorted-map {S} f [] h = tt
+  sorted-map {S} f (a ∷ l) h = (all-map l (f a) (h .0), sorted-map f l (h .1))
 
   -- one more at the end
   sorted-snoc : (l : List Pt) (x : Pt) → Sorted R l → All (λ a. R a x) l → Sorted R (l ++ (x ∷ []))
@@ -95,7 +95,7 @@ triples-snoc (a ∷ l) x h k = (sorted-snoc (Left a) l x (h .0) (k .0), triples-
 
 -- the first put last: area b c a = area a b c
 pub triples-cycle : (a : Pt) (l : List Pt) → Triples (a ∷ l) → Triples (l ++ (a ∷ []))
-triples-cycle a l h = triples-snoc l a (h .1) (sorted-map (Left a) (λ b c. Left b c a) (λ b c k. pos-is (area-cycle a b c) k) l (h .0))
+triples-cycle a l h = triples-snoc l a (h .1) (sorted-map (Left a) (λ b c k. pos-is (area-cycle a b c) k) l (h .0))
 
 -- the first ones put last, one by one
 triples-swap : (a b : List Pt) → Triples (a ++ b) → Triples (b ++ a)

@@ -37,7 +37,7 @@ use Rattle.convex_contour.proofs.Contours.{contour-zipper, length-contour}
 
 -- ---- a region gathered
 
-module _ (size : ℕ) (m : Mesh) (k : ℕ) (flags : List Bool) (starts : List ℕ) (points : List (List ℤ)) (t : Tally) (r : Room m flags starts points t) {cs′ : List (List ℤ)} {es′ : List (List ℕ)} {flags′ : List Bool} {p : Progress} (g : Grown size m k flags cs′ es′ flags′ p) where
+module _ {size : ℕ} {m : Mesh} {k : ℕ} {flags : List Bool} {starts : List ℕ} {points : List (List ℤ)} {t : Tally} (r : Room m flags starts points t) {cs′ : List (List ℤ)} {es′ : List (List ℕ)} {flags′ : List Bool} {p : Progress} (g : Grown size m k flags cs′ es′ flags′ p) where
   fewer : suc (free flags′) ≤ free flags
   fewer = omega (arith, g .kept, g .empty, g .sound .three)
 
@@ -59,7 +59,7 @@ module _ (size : ℕ) (m : Mesh) (k : ℕ) (flags : List Bool) (starts : List �
 
   module _ {points′ : List (List ℤ)} {n : ℕ} (a : Appended (withoutStraight (contourAt cs′ p)) points (t .corners) points′ n) where
     corners-room : n + 3 * free flags′ ≤ 3 * length m
-    corners-room = omega (arith, a .count, straight-few (contourAt cs′ p), length-contour cs′ p contour-whole, g .sound .ready .corners, r .corners, g .kept, fewer)
+    corners-room = omega (arith, a .count, straight-few (contourAt cs′ p), length-contour contour-whole, g .sound .ready .corners, r .corners, g .kept, fewer)
 
     pub corners-few : n ≤ 3 * maxTriangles
     corners-few = omega (arith, corners-room, few)
@@ -86,7 +86,7 @@ module _ (size : ℕ) (m : Mesh) (k : ℕ) (flags : List Bool) (starts : List �
 
 -- ---- a triangle visited
 
-module _ (size : ℕ) (m : Mesh) (k : ℕ) (flags : List Bool) (starts : List ℕ) (points : List (List ℤ)) (t : Tally) (l : k < length flags) where
+module _ {size : ℕ} {m : Mesh} {k : ℕ} {flags : List Bool} {starts : List ℕ} {points : List (List ℤ)} {t : Tally} (l : k < length flags) where
   pub visited-skip : {cs : List (List ℤ)} {es : List (List ℕ)} → RegionBuffers size m cs es flags → Room m flags starts points t → getD flags k false ≡ true → Visited size m k flags starts points t cs es flags starts points t
   visited-skip s r f = record {
     ready = s;
@@ -180,7 +180,7 @@ module _ (size starts-size points-size : ℕ) (m : Mesh) where
   pub visiting-end : {cs : List (List ℤ)} {es : List (List ℕ)} {flags : List Bool} {starts : List ℕ} {points : List (List ℤ)} {t : Tally} {k : ℕ} → length m ≤ k → Visiting size starts-size points-size m cs es flags starts points t k → Gathered starts points t (parts m) × (t .parts ≤ length m) × (t .corners ≤ 3 * length m)
   unfolding regionsZ
   visiting-end {starts = starts} {points = points} {t = t} {k} h v = (
-    subst (Gathered starts points t) (sym (append-nil (v .ps)) ∙ ap (λ d. v .ps ++ map contourZ (regionsZ m (v .seen) d)) (sym (drop-of-length-le (upTo (length m)) {i = k} (omega (arith, length-upTo (length m))))) ∙ v .rest ∙ parts-zipped m (accepted m (v .ready .accepted))) (v .gathered),
+    subst (Gathered starts points t) (sym (append-nil (v .ps)) ∙ ap (λ d. v .ps ++ map contourZ (regionsZ m (v .seen) d)) (sym (drop-of-length-le (upTo (length m)) {i = k} (omega (arith, length-upTo (length m))))) ∙ v .rest ∙ parts-zipped (accepted m (v .ready .accepted))) (v .gathered),
     omega (arith, v .room .parts),
     omega (arith, v .room .corners),
   )
@@ -188,10 +188,10 @@ module _ (size starts-size points-size : ℕ) (m : Mesh) where
 -- ---- the buffers at first: no corner, no edge, no flag
 
 -- numbers that sum to 0 are each 0
-total-none : {A : Type 0} (f : A → ℕ) (d : A) → f d ≡ 0 → (l : List A) → total f l ≡ 0 → (i : ℕ) → f (getD l i d) ≡ 0
-total-none f d h [] e i = h
-total-none f d h (a ∷ l) e zero = omega arith
-total-none f d h (a ∷ l) e (suc i) = total-none f d h l (omega arith) i
+total-none : {A : Type 0} (f : A → ℕ) {d : A} → f d ≡ 0 → (l : List A) → total f l ≡ 0 → (i : ℕ) → f (getD l i d) ≡ 0
+total-none f {d} h [] e i = h
+total-none f {d} h (a ∷ l) e zero = omega arith
+total-none f {d} h (a ∷ l) e (suc i) = total-none f h l (omega arith) i
 
 -- a corner with nothing in it is the origin
 at-origin : (x y : ℤ) → natAbs x + natAbs y ≡ 0 → onGrid (record { x = x; y = y }) ≡ true
@@ -217,13 +217,13 @@ module _ (rows : List (List ℤ)) {cs : List (List ℤ)} {es : List (List ℕ)} 
     corners = refl;
     edges = u .for-edges;
     marks = first-flags ∙ sym (length-rows rows);
-    grid = record { at = λ i. at-origin (cornerIn cs i .x) (cornerIn cs i .y) (total-none inCorner [] refl cs (u .no-corners) i) };
-    across = λ i h some d. omega (arith, total-none inEdge [] refl es (u .no-edges) i);
+    grid = record { at = λ i. at-origin (cornerIn cs i .x) (cornerIn cs i .y) (total-none inCorner refl cs (u .no-corners) i) };
+    across = λ i h some d. omega (arith, total-none inEdge {d = []} refl es (u .no-edges) i);
   }
 
   pub first-marked : Marked (take (length rows) flags) []
   unfolding isIn
-  first-marked = record { at = λ k h. getD-take (length rows) flags k false (omega (arith, first-flags)) ∙ not-marked (getD flags k false) (total-none inFlag false refl flags (u .no-flags) k) }
+  first-marked = record { at = λ k h. getD-take (length rows) flags k false (omega (arith, first-flags)) ∙ not-marked (getD flags k false) (total-none inFlag refl flags (u .no-flags) k) }
 
 pub few-rows : (rows : List (List ℤ)) → firstFault (meshKinds (rowsMesh rows)) ≡ 0 → length rows ≤ maxTriangles
 few-rows rows h = omega (arith, accepted (rowsMesh rows) h .few, length-rows rows)

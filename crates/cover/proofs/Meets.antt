@@ -44,7 +44,7 @@ sum-meet A B q z = (
     step = ringᵖ (pt ∷ pt ∷ []) (λ u w. u +E negE (u -E w) :≡ᵖ w) tt
 
 -- K covers the differences of points inside A and points inside B, both once round
-module _ (A B K : List Pt) (a : Turning A) (b : Turning B) (covers : (q : ℤ) (z : Pt) → pos 0 <ℤ q → Inside K q z ↔ Sum true A B q z) (q : ℤ) (z : Pt) (hq : pos 0 <ℤ q) where
+module _ {A B : List Pt} (K : List Pt) (a : Turning A) (b : Turning B) (covers : (q : ℤ) (z : Pt) → pos 0 <ℤ q → Inside K q z ↔ Sum true A B q z) {q : ℤ} {z : Pt} (hq : pos 0 <ℤ q) where
   -- moved a little to the right of the edge e, the place is still covered
   overlap-edge : Overlap A B q z → (e : Pt × Pt) → (e .1 -ᵖ e .0 ≡ O → ⊥) → ((q : ℤ) (z : Pt) → Inside K q z → pos 0 ≤ℤ side e q z) → pos 0 <ℤ side e q z
   overlap-edge o e n on =
@@ -128,4 +128,4 @@ pair-meets A B a b q z hq =
     let s : Turning D = turn-about {l = B} b .round in
     let K : List Pt = pairContour true A B in
     let covers : (q : ℤ) (z : Pt) → pos 0 <ℤ q → Inside K q z ↔ Sum true C D q z = pair-covers true A B a b in
-    (Iff·trans (covers q z hq) (sum-meet C D q z), (strict-overlap C D K r s covers q z hq, overlap-strict C D K r s covers q z hq))
+    (Iff·trans (covers q z hq) (sum-meet C D q z), (strict-overlap K r s covers hq, overlap-strict K r s covers hq))

@@ -83,8 +83,8 @@ pair-sum reflected {A} {B} a b {q} z hq =
 -- ---- pairs
 
 -- R and S of a pair of each
-pub pairs-iff : {A B : Type 0} (R S : A → B → Type 0) {P : A → Type 0} {Q : B → Type 0} (X : List A) (Y : List B) → ((a : A) (b : B) → P a → Q b → R a b ↔ S a b) → All P X → All Q Y → SomePair R X Y ↔ SomePair S X Y
-pairs-iff R S X Y f h k = any-iff (λ a. Any (R a) Y) (λ a. Any (S a) Y) X (all-map X (λ a p. any-iff (R a) (S a) Y (all-map Y (λ b r. f a b p r) k)) h)
+pub pairs-iff : {A B : Type 0} {R S : A → B → Type 0} {P : A → Type 0} {Q : B → Type 0} (X : List A) (Y : List B) → ((a : A) (b : B) → P a → Q b → R a b ↔ S a b) → All P X → All Q Y → SomePair R X Y ↔ SomePair S X Y
+pairs-iff {R} {S} X Y f h k = any-iff (λ a. Any (R a) Y) (λ a. Any (S a) Y) X (all-map X (λ a p. any-iff (R a) (S a) Y (all-map Y (λ b r. f a b p r) k)) h)
 
 pub pairs-image : {A B C D : Type 0} (R : C → D → Type 0) (f : A → C) (g : B → D) (X : List A) (Y : List B) → SomePair R (map f X) (map g Y) ↔ SomePair (λ a b. R (f a) (g b)) X Y
 pairs-image R f g X Y = Iff·trans (any-image (λ c. Any (R c) (map g Y)) f X)
@@ -107,7 +107,7 @@ pairs-cover reflected how m mesh how′ m′ mesh′ h k q z hq =
     let f : SameCover X S = split-parts-cover how m mesh h in
     let g : SameCover Y T = split-parts-cover how′ m′ mesh′ k in
     Iff·trans (any-pairs (λ l. Inside l q z) reflected X Y)
-    (Iff·trans (pairs-iff (λ A B. Inside (pairContour reflected A B) q z) (λ A B. Sum reflected A B q z) X Y (λ A B a b. pair-sum reflected a b z hq) (split-polygons how m mesh h) (split-polygons how′ m′ mesh′ k))
+    (Iff·trans (pairs-iff X Y (λ A B a b. pair-sum reflected a b z hq) (split-polygons how m mesh h) (split-polygons how′ m′ mesh′ k))
     (Iff·trans (sums reflected X Y q z)
     (Iff·trans (sum-same hq f g, sum-same hq (same-back X S f) (same-back Y T g))
     (Iff·trans (Iff·symm (sums reflected S T q z)) (pairs-image (λ A B. Sum reflected A B q z) triangleContour triangleContour mesh mesh′)))))

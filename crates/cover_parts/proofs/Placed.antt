@@ -34,7 +34,7 @@ pair-overlap {A} {B} a b {q} z hq =
 polygons-overlap : {X Y : List (List Pt)} → All Polygon X → All Polygon Y → (q : ℤ) (z : Pt) → pos 0 <ℤ q → Any (λ l. StrictlyInside l q z) (pairsOf true X Y) ↔ Overlapping X Y q z
 polygons-overlap {X} {Y} a b q z hq =
     Iff·trans (any-pairs (λ l. StrictlyInside l q z) true X Y)
-    (Iff·trans (pairs-iff (λ A B. StrictlyInside (pairContour true A B) q z) (λ A B. Overlap A B q z) X Y (λ A B p r. pair-overlap p r z hq) a b)
+    (Iff·trans (pairs-iff X Y (λ A B p r. pair-overlap p r z hq) a b)
     (Iff·symm (wholes-overlap X Y q z hq)))
 
 pairs-convex : (X Y : List (List Pt)) → All Polygon X → All Polygon Y → All (λ l. strictlyConvex l ≡ true) (pairsOf true X Y)
@@ -57,7 +57,7 @@ meshes-placed how m mesh how′ m′ mesh′ h k q z hq =
     record {
       convex = pairs-convex X Y (split-polygons how m mesh h) (split-polygons how′ m′ mesh′ k);
       meets = Iff·trans (pairs-cover true how m mesh how′ m′ mesh′ h k q z hq)
-          (pairs-iff (λ s t. Sum true (triangleContour s) (triangleContour t) q z) (λ s t. Meet (triangleContour s) (triangleContour t) q z) mesh mesh′
+          (pairs-iff mesh mesh′
           (λ s t a b. sum-meet (triangleContour s) (triangleContour t) q z) (all-every {P = λ s. Unit {0}} mesh (λ s. tt)) (all-every {P = λ t. Unit {0}} mesh′ (λ t. tt)));
       overlaps = Iff·trans wholes (Iff·trans (wholes-overlap S T q z hq) (pairs-image (λ s t. Overlap s t q z) triangleContour triangleContour mesh mesh′));
       wholes = wholes;

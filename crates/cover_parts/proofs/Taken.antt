@@ -46,7 +46,7 @@ module _ (m : Mesh) (s : List ℕ) (c : List ℤ) (h : partsFault m (length s) (
 pub each-taken-whole : EachTakenWhole
 each-taken-whole m s c h = record {
   once = each-taken-once m (mesh-accepted m s c h) .once;
-  count = ap (λ n. n .parts) (accepted-counts (partsFault m (length s) (length c)) h (parts m)) ∙ count-parts m s c h;
+  count = ap (λ n. n .parts) (accepted-counts h (parts m)) ∙ count-parts m s c h;
   part = λ k l. part m s c h k;
   covers = covers m s c h;
 }

@@ -43,8 +43,8 @@ pub value-end : (v : ℕ) (l : List ℕ) (i : ℕ) → length l ≤ i → valueF
 value-end v l i h = ap (valueFrom v) (drop-of-length-le l h) ∙ value-none v
 
 -- a digit more, of value d
-pub value-more : (v : ℕ) {d : ℕ} (l : List ℕ) (i : ℕ) → i < length l → d ≡ getD l i 0 - 48 → valueFrom v (drop i l) ≡ valueFrom (10 * v + d) (drop (i + 1) l)
-value-more v l i h e =
+pub value-more : (v : ℕ) {d : ℕ} (l : List ℕ) {i : ℕ} → i < length l → d ≡ getD l i 0 - 48 → valueFrom v (drop i l) ≡ valueFrom (10 * v + d) (drop (i + 1) l)
+value-more v l {i} h e =
     rw add-one (ap (valueFrom v) (drop-cons l i 0 h) ∙ value-cons v (getD l i 0) (drop (suc i) l) ∙ ap (λ n. valueFrom (10 * v + n) (drop (suc i) l)) (sym e))
 
 -- ---- how large
@@ -53,8 +53,8 @@ pub larger : {v d : ℕ} (i : ℕ) → v < 10 ^ i → d < 10 → 10 * v + d < 10
 larger i h k = rw add-one (omega (arith, pow-suc 10 i))
 
 -- of nine digits or fewer
-pub nine-digits : {v : ℕ} (i : ℕ) → v < 10 ^ i → i < 10 → v < 1000000000
-nine-digits i h k = omega (arith, pow-le-pow-right {n = 10} (omega arith) {i = i} {j = 9} (omega arith))
+pub nine-digits : {v : ℕ} {i : ℕ} → v < 10 ^ i → i < 10 → v < 1000000000
+nine-digits {i} h k = omega (arith, pow-le-pow-right {n = 10} (omega arith) {i = i} {j = 9} (omega arith))
 
 -- ---- below 0
 

@@ -12,13 +12,13 @@ use Rattle.integers.proofs.Order.{by-test}
 use Rattle.fields.specs.Fields.{runLength}
 
 module _ (p : ℕ → Bool) where
-  run-in : (b : ℕ) (l : List ℕ) → p b ≡ true → runLength p (b ∷ l) ≡ suc (runLength p l)
+  run-in : {b : ℕ} (l : List ℕ) → p b ≡ true → runLength p (b ∷ l) ≡ suc (runLength p l)
   unfolding runLength
-  run-in b l e = rw e
+  run-in {b} l e = rw e
 
-  run-out : (b : ℕ) (l : List ℕ) → p b ≡ false → runLength p (b ∷ l) ≡ 0
+  run-out : {b : ℕ} (l : List ℕ) → p b ≡ false → runLength p (b ∷ l) ≡ 0
   unfolding runLength
-  run-out b l e = rw e
+  run-out {b} l e = rw e
 
   run-none : runLength p [] ≡ 0
   unfolding runLength
@@ -30,18 +30,18 @@ module _ (p : ℕ → Bool) where
   run-length [] = omega (arith, run-none)
   run-length (b ∷ l) =
       by-test (p b)
-      (λ e. omega (arith, run-in b l e, run-length l))
-      (λ e. omega (arith, run-out b l e))
+      (λ e. omega (arith, run-in l e, run-length l))
+      (λ e. omega (arith, run-out l e))
 
   -- ---- a byte more
 
   pub run-more : (t : List ℕ) {i : ℕ} → i < length t → p (getD t i 0) ≡ true → i + runLength p (drop i t) ≡ i + 1 + runLength p (drop (i + 1) t)
   run-more t {i} h e =
       let d : drop i t ≡ getD t i 0 ∷ drop (i + 1) t = rw add-one (drop-cons t i 0 h) in
-      omega (arith, ap (runLength p) d ∙ run-in (getD t i 0) (drop (i + 1) t) e)
+      omega (arith, ap (runLength p) d ∙ run-in (drop (i + 1) t) e)
 
   pub run-stop : (t : List ℕ) {i : ℕ} → i < length t → p (getD t i 0) ≡ false → i + runLength p (drop i t) ≡ i
-  run-stop t {i} h e = omega (arith, ap (runLength p) (drop-cons t i 0 h) ∙ run-out (getD t i 0) (drop (suc i) t) e)
+  run-stop t {i} h e = omega (arith, ap (runLength p) (drop-cons t i 0 h) ∙ run-out (drop (suc i) t) e)
 
   pub run-past : (t : List ℕ) {i : ℕ} → length t ≤ i → i + runLength p (drop i t) ≡ i
   run-past t h = omega (arith, ap (runLength p) (drop-of-length-le t h) ∙ run-none)
@@ -52,8 +52,8 @@ module _ (p : ℕ → Bool) where
   run-whole (b ∷ l) e zero h =
       by-test (p b)
       (λ t. t)
-      (λ t. absurd (omega (arith, run-out b l t)))
+      (λ t. absurd (omega (arith, run-out l t)))
   run-whole (b ∷ l) e (suc i) h =
       by-test (p b)
-      (λ t. run-whole l (omega (arith, run-in b l t)) i (omega arith))
-      (λ t. absurd (omega (arith, run-out b l t)))
+      (λ t. run-whole l (omega (arith, run-in l t)) i (omega arith))
+      (λ t. absurd (omega (arith, run-out l t)))

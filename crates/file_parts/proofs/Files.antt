@@ -73,7 +73,7 @@ module _ (bytes : List ℕ) (rows : List (List ℤ)) (h : firstFault (headerKind
 -- the fault that counts tell
 pub told-fault : (f : ℕ) (ps : List (List Pt)) → countsOf f ps .fault ≡ f
 told-fault zero ps = refl
-told-fault (suc f) ps = ap (λ r. r .fault) (refused-counts (suc f) (λ z. omega (arith, z)) ps)
+told-fault (suc f) ps = ap (λ r. r .fault) (refused-counts (λ z. omega (arith, z)) ps)
 
 -- ---- what stands on the front of the arrays after success
 
@@ -87,17 +87,17 @@ module _ (bytes s : List ℕ) (c : List ℤ) {r : Counts} {s′ : List ℕ} {c�
     none = sym fault-told ∙ z
 
     parts-told : r .parts + 1 ≡ length (startsOf (fileParts bytes))
-    parts-told = ap (λ x. x .parts + 1) (counts ∙ accepted-counts _ none (fileParts bytes)) ∙ sym (length-starts (fileParts bytes) ∙ sym (add-one (length (fileParts bytes))))
+    parts-told = ap (λ x. x .parts + 1) (counts ∙ accepted-counts none (fileParts bytes)) ∙ sym (length-starts (fileParts bytes) ∙ sym (add-one (length (fileParts bytes))))
 
     corners-told : 2 * r .corners ≡ length (cornersOf (fileParts bytes))
     unfolding cornersOf
-    corners-told = ap (λ x. 2 * x .corners) (counts ∙ accepted-counts _ none (fileParts bytes)) ∙ sym (length-numbers (flatten (fileParts bytes)))
+    corners-told = ap (λ x. 2 * x .corners) (counts ∙ accepted-counts none (fileParts bytes)) ∙ sym (length-numbers (flatten (fileParts bytes)))
 
     starts-there : s′ ≡ overlay (startsOf (fileParts bytes)) s
-    starts-there = starts ∙ accepted-buffer _ none (startsOf (fileParts bytes)) s
+    starts-there = starts ∙ accepted-buffer none (startsOf (fileParts bytes)) s
 
     corners-there : c′ ≡ overlay (cornersOf (fileParts bytes)) c
-    corners-there = corners ∙ accepted-buffer _ none (cornersOf (fileParts bytes)) c
+    corners-there = corners ∙ accepted-buffer none (cornersOf (fileParts bytes)) c
 
     starts-few : length s ≡ 2049 → length (startsOf (fileParts bytes)) ≤ length s
     starts-few ls = omega (arith, length-starts (fileParts bytes), split-table (strategyOf (splitNumber bytes)) (cornerLimit bytes) (meshOf bytes) (accepted-mesh bytes none) .few-parts)
@@ -117,7 +117,7 @@ abbrev pub Left : List ℕ → List ℕ → List ℤ → Counts → List ℕ →
 Left bytes s c r s′ c′ =
     (r ≡ countsOf (fileFault bytes) (fileParts bytes)) × ((s′ ≡ written (fileFault bytes) (startsOf (fileParts bytes)) s) × ((c′ ≡ written (fileFault bytes) (cornersOf (fileParts bytes)) c) × (r .fault ≡ 0 → Within r s′ c′)))
 
-module _ (bytes : List ℕ) (rows : List (List ℤ)) (s : List ℕ) (c : List ℤ) (room : FileRoom bytes rows s c)
+module _ {bytes : List ℕ} {rows : List (List ℤ)} {s : List ℕ} {c : List ℤ} (room : FileRoom bytes rows s c)
     {how : ConvexSplitStrategy} {m : ℕ} (p : how ≡ strategyOf (splitNumber bytes)) (q : m ≡ cornerLimit bytes) (rows′ : List (List ℤ))
     (e : rowsMesh rows′ ≡ recordsOf (length rows) (wordsOf (take (length bytes - 20) (drop 20 bytes)))) where
   parts-of : splitParts how m (rowsMesh rows′) ≡ fileParts bytes
@@ -147,7 +147,7 @@ pub header-left : (bytes s : List ℕ) (c : List ℤ) {f : ℕ} → f ≡ firstF
 header-left bytes s c {f} e h er =
     let q : fileFault bytes ≡ f = header-told bytes (λ z. h (e ∙ z)) ∙ sym e in
     let n : fileFault bytes ≡ 0 → ⊥ = λ z. h (sym q ∙ z) in
-    (er ∙ (λ t. record { fault = sym q t; parts = 0; corners = 0 }) ∙ sym (refused-counts (fileFault bytes) n (fileParts bytes)), (sym (refused-buffer (fileFault bytes) n _ s), (sym (refused-buffer (fileFault bytes) n _ c), λ z. absurd (h (sym (ap (λ x. x .fault) er) ∙ z)))))
+    (er ∙ (λ t. record { fault = sym q t; parts = 0; corners = 0 }) ∙ sym (refused-counts n (fileParts bytes)), (sym (refused-buffer n _ s), (sym (refused-buffer n _ c), λ z. absurd (h (sym (ap (λ x. x .fault) er) ∙ z)))))
 
 module _ (bytes s : List ℕ) (c : List ℤ) {r : Counts} {s′ : List ℕ} {c′ : List ℤ} (left : Left bytes s c r s′ c′) where
   pub fault-is : r .fault ≡ fileFault bytes

@@ -98,7 +98,7 @@ lines-end : (total : ℕ) (ps : List (List Pt)) {k : ℕ} → length ps ≤ k �
 unfolding lineList
 lines-end total ps {k} h = rw (drop-of-length-le ps {i = k} h)
 
-module _ {whole : List ℕ} {from : ℕ} {old : List ℕ} (total : ℕ) (ps : List (List Pt)) (k : ℕ) {out : List ℕ} {at : ℕ} (g : Putting whole from old (linesFrom total ps k) out at) where
+module _ {whole : List ℕ} {from : ℕ} {old : List ℕ} (total : ℕ) (ps : List (List Pt)) {k : ℕ} {out : List ℕ} {at : ℕ} (g : Putting whole from old (linesFrom total ps k) out at) where
   pub lines-next : k < length ps → Putting whole from old (partLine total k (getD ps k []) ∷ linesFrom total ps (k + 1)) out at
   lines-next h = subst (λ r. Putting whole from old r out at) (lines-turn total ps h) g
 

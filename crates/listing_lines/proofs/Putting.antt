@@ -28,7 +28,7 @@ pub record Putting (whole : List ℕ) (at : ℕ) (out₀ : List ℕ) (rest : Lis
   pub put : PutText done at out₀ out m
 
 pub putting-start : {pieces : List (List ℕ)} {whole : List ℕ} {at : ℕ} {out : List ℕ} → flatten pieces ≡ whole → at + length whole ≤ length out → Putting whole at out pieces out at
-putting-start {at = at} {out = out} e h = record { done = []; makes = e; room = h; put = put-none at out (omega arith) }
+putting-start {at = at} {out = out} e h = record { done = []; makes = e; room = h; put = put-none out (omega arith) }
 
 module _ {whole : List ℕ} {at : ℕ} {out₀ : List ℕ} where
   pub putting-length : {rest : List (List ℕ)} {out : List ℕ} {m : ℕ} → Putting whole at out₀ rest out m → length out ≡ length out₀

@@ -57,8 +57,8 @@ told-out z h = rw h
 pub above-told : {n : ℕ} {u : ℤ} → n < 2 ^ 63 → u ≡ pos n → record { fault = 0; «area_two» = u } ≡ areaTold (pos n)
 above-told {n} h e = told-in (above-in h) e
 
-pub above-refused : (n : ℕ) → 2 ^ 63 ≤ n → areaRefused faultTotal ≡ areaTold (pos n)
-above-refused n h = told-out (pos n) (above-out h)
+pub above-refused : {n : ℕ} → 2 ^ 63 ≤ n → areaRefused faultTotal ≡ areaTold (pos n)
+above-refused {n} h = told-out (pos n) (above-out h)
 
 pub below-told : (n : ℕ) {u : ℤ} → n ≤ 2 ^ 63 → u ≡ negℤ (pos n) → record { fault = 0; «area_two» = u } ≡ areaTold (negℤ (pos n))
 below-told n h e = told-in (below-in h) e
@@ -72,7 +72,7 @@ high-refused p h = of (p .negative) (p .words .low) h
   where
     of : (s : Bool) {high : ℕ} (low : ℕ) → (high ≡ 0 → ⊥) → areaRefused faultTotal ≡ areaTold (signed s (twoWords high low))
     of true {high} low h = below-refused (twoWords high low) (omega arith)
-    of false {high} low h = above-refused (twoWords high low) (omega arith)
+    of false {high} low h = above-refused (omega arith)
 
 -- without one the low word is the size
 pub value-below : (p : SignedProduct) → p .words .high ≡ 0 → p .negative ≡ true → value p ≡ negℤ (pos (p .words .low))
@@ -163,9 +163,9 @@ unfolding boundsOf
 bounds-begin [] h e q = absurd (h refl)
 bounds-begin (x ∷ l) h e q = ap (λ b. widenedBy b (x ∷ l)) (q ∙ ap pointBounds e)
 
-pub bounds-more : (l : List Pt) (b : IntRect) (k : ℕ) {p : Pt} {b′ : IntRect} → k < length l → p ≡ cornerAt l k → b′ ≡ widened b p → widenedBy b (drop k l) ≡ widenedBy b′ (drop (k + 1) l)
+pub bounds-more : (l : List Pt) (b : IntRect) {k : ℕ} {p : Pt} {b′ : IntRect} → k < length l → p ≡ cornerAt l k → b′ ≡ widened b p → widenedBy b (drop k l) ≡ widenedBy b′ (drop (k + 1) l)
 unfolding widenedBy
-bounds-more l b k h e q = rw (add-one, drop-cons l k O) (ap (λ x. widenedBy x (drop (suc k) l)) (sym (q ∙ ap (widened b) e)))
+bounds-more l b {k} h e q = rw (add-one, drop-cons l k O) (ap (λ x. widenedBy x (drop (suc k) l)) (sym (q ∙ ap (widened b) e)))
 
 pub bounds-done : (l : List Pt) (b : IntRect) (k : ℕ) → length l ≤ k → widenedBy b (drop k l) ≡ b
 unfolding widenedBy

@@ -44,7 +44,7 @@ module _ (m : Mesh) where
       at (suc zero) = all .1 .0
       at (suc (suc i)) = all .1 .1
 
-  module _ (k i : ℕ) (l : k < length m) (s : i < 3) (d : neighbour (triangleAt m k) i ≡ none → ⊥) where
+  module _ {k i : ℕ} (l : k < length m) (s : i < 3) (d : neighbour (triangleAt m k) i ≡ none → ⊥) where
     abbrev n : ℕ
     n = neighbour (triangleAt m k) i
 
@@ -71,9 +71,9 @@ module _ (m : Mesh) where
         (not-false _ (mesh-side-false (λ k t i n. not (runsOppositely t i (triangleAt m n) (opposite (triangleAt m n) k))) m l s d h)) in
         (eqPt-true _ _ (e .0), eqPt-true _ _ (e .1))
 
-  pub area-rule : flat m ≡ false → {k : ℕ} → k < length m → pos 0 <ℤ triangleArea (triangleAt m k)
+  pub area-rule : flat m ≡ false → (k : ℕ) → k < length m → pos 0 <ℤ triangleArea (triangleAt m k)
   unfolding flat
-  area-rule h {k} l = leZ-< (triangleArea (triangleAt m k)) (pos 0) (some-false (λ k t. leZ (triangleArea t) (pos 0)) m h l)
+  area-rule h k l = leZ-< (triangleArea (triangleAt m k)) (pos 0) (some-false (λ k t. leZ (triangleArea t) (pos 0)) m h l)
 
   few-rule : tooMany m ≡ false → length m ≤ maxTriangles
   unfolding tooMany
@@ -95,11 +95,11 @@ module _ (m : Mesh) where
       record {
         few = few-rule (f1 .0);
         on-grid = λ k i l. grid-rule (f2 .0) i l;
-        in-mesh = λ k i l s d. stray-rule k i l s d (f3 .0) .1;
-        not-self = λ k i l s d. stray-rule k i l s d (f3 .0) .0;
-        named-once = λ k i l s d. named-rule k i l s d (f4 .0) .0;
-        named-back = λ k i l s d. named-rule k i l s d (f4 .0) .1;
-        meets = λ k i l s d. meets-rule k i l s d (f5 .0);
-        turns-left = λ k l. area-rule (f6 .0) l;
+        in-mesh = λ k i l s d. stray-rule l s d (f3 .0) .1;
+        not-self = λ k i l s d. stray-rule l s d (f3 .0) .0;
+        named-once = λ k i l s d. named-rule l s d (f4 .0) .0;
+        named-back = λ k i l s d. named-rule l s d (f4 .0) .1;
+        meets = λ k i l s d. meets-rule l s d (f5 .0);
+        turns-left = area-rule (f6 .0);
         fits = fits-rule (f11 .0);
       }

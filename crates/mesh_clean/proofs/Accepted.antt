@@ -78,10 +78,10 @@ no-side test a b c = rw (a, b, c)
 
 none-shared : (test : ℕ → Triangle → ℕ → ℕ → Bool) (m : Mesh) → ((k i : ℕ) → k < length m → i < 3 → (neighbour (triangleAt m k) i ≡ none → ⊥) → test k (triangleAt m k) i (neighbour (triangleAt m k) i) ≡ false)
     → some (λ k t. someSide (shared t (test k t))) m ≡ false
-none-shared test m f = none-of (λ k t. someSide (shared t (test k t))) m (λ k l. no-side (shared (triangleAt m k) (test k (triangleAt m k))) (side 0 l (omega arith)) (side 1 l (omega arith)) (side 2 l (omega arith)))
+none-shared test m f = none-of (λ k t. someSide (shared t (test k t))) m (λ k l. no-side (shared (triangleAt m k) (test k (triangleAt m k))) (side l (omega arith)) (side l (omega arith)) (side l (omega arith)))
   where
-    side : {k : ℕ} (i : ℕ) → k < length m → i < 3 → shared (triangleAt m k) (test k (triangleAt m k)) i ≡ false
-    side {k} i l h = by-test (eqb (neighbour (triangleAt m k) i) none) (λ e. rw e) (λ e. rw e (f k i l h (eqb-false (neighbour (triangleAt m k) i) none e)))
+    side : {k : ℕ} {i : ℕ} → k < length m → i < 3 → shared (triangleAt m k) (test k (triangleAt m k)) i ≡ false
+    side {k} {i} l h = by-test (eqb (neighbour (triangleAt m k) i) none) (λ e. rw e) (λ e. rw e (f k i l h (eqb-false (neighbour (triangleAt m k) i) none e)))
 
 -- ---- a clean mesh
 

@@ -130,7 +130,7 @@ module _ (m : Mesh) (few : length m ≤ maxTriangles) (area : (k : ℕ) → k < 
 
     met-by : n ≤ named n j → MetBy
     met-by g =
-        let o = onto (passes m namesBefore) (passes m namesAfter) across (3 * length m) into apart no-more (omega arith) (passes-side m namesAfter n h refl ∙ rw (le-ltb (named n j) n g, ne-eqb (named n j) none d)) in
+        let o = onto (passes m namesBefore) (passes m namesAfter) into apart no-more (omega arith) (passes-side m namesAfter n h refl ∙ rw (le-ltb (named n j) n g, ne-eqb (named n j) none d)) in
         let k = o .0 / 3 in
         let i = o .0 % 3 in
         let b = opposite-side (triangleAt m (named k i)) k in

@@ -47,7 +47,7 @@ module _ (rows : List (List ℤ)) where
       let a : s .after ≡ sidesFrom namesAfter 0 m = omega (arith, g .after, none-left namesAfter h) in
       (λ i. eqb (b i) (a i)) ∙ sym (rw (g .rest ∙ ap (linkedFrom m k) (past-rows rows h)))
 
-  module _ (k : ℕ) (h : k < length rows) {s : Seen} (g : Linking rows k s) {r : Seen} (c : RowCounted m k (triangleAt m k) s r) where
+  module _ {k : ℕ} (h : k < length rows) {s : Seen} (g : Linking rows k s) {r : Seen} (c : RowCounted m k (triangleAt m k) s r) where
     linking-turn : linkedFrom m 0 m ≡ cond (sharesAll m k (triangleAt m k)) (linkedFrom m (suc k) (drop (suc k) m)) false
     unfolding linkedFrom
     linking-turn = g .rest ∙ ap (linkedFrom m k) (next-row rows h)

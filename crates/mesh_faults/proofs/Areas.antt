@@ -48,15 +48,15 @@ module _ (rows : List (List ℤ)) where
 
   module _ (f : flat (rowsMesh rows) ≡ false) where
     pub row-above : {k : ℕ} → k < length rows → pos 0 ≤ℤ triangleArea (rowTriangle (getD rows k []))
-    row-above {k} h = omega (zarith, area-rule (rowsMesh rows) f {k = k} (omega (arith, length-rows rows)), ap triangleArea (triangle-row rows k h))
+    row-above {k} h = omega (zarith, area-rule (rowsMesh rows) f k (omega (arith, length-rows rows)), ap triangleArea (triangle-row rows k h))
 
     rest-low : (k : ℕ) → pos 0 ≤ℤ rest rows k
     rest-low k =
         sum-low (drop k (rowsMesh rows))
         (getD-all (λ t. pos 0 ≤ℤ triangleArea t) (drop k (rowsMesh rows)) noTriangle
-        (λ i h. omega (zarith, area-rule (rowsMesh rows) f {k = k + i} (omega (arith, h, length-drop k (rowsMesh rows))), ap triangleArea (getD-drop k (rowsMesh rows) i noTriangle))))
+        (λ i h. omega (zarith, area-rule (rowsMesh rows) f (k + i) (omega (arith, h, length-drop k (rowsMesh rows))), ap triangleArea (getD-drop k (rowsMesh rows) i noTriangle))))
 
-    module _ (k : ℕ) (h : k < length rows) {z : ℤ} (s : Sum rows k z) where
+    module _ {k : ℕ} (h : k < length rows) {z : ℤ} (s : Sum rows k z) where
       abbrev area : ℤ
       area = triangleArea (rowTriangle (getD rows k []))
 

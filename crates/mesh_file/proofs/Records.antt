@@ -64,10 +64,10 @@ unfolding rowsMesh recordsOf
 no-records rows ws = refl
 
 module _ (ws : List ℕ) (rows : List (List ℤ)) where
-  pub row-more : (k : ℕ) → k < length rows → rowsMesh (take k rows) ≡ recordsOf k ws → (v : List ℤ) → rowTriangle v ≡ recordOf (drop (rowWidth * k) ws)
+  pub row-more : {k : ℕ} → k < length rows → rowsMesh (take k rows) ≡ recordsOf k ws → (v : List ℤ) → rowTriangle v ≡ recordOf (drop (rowWidth * k) ws)
       → rowsMesh (take (k + 1) (set rows k v)) ≡ recordsOf (k + 1) ws
   unfolding rowsMesh
-  row-more k h p v q =
+  row-more {k} h p v q =
       rw (add-one, take-suc-set rows k v h, map-append, q, records-more k ws) (ap (λ l. l ++ (recordOf (drop (rowWidth * k) ws) ∷ [])) p)
 
   pub rows-all : {n k : ℕ} → k ≡ n → length rows ≡ n → rowsMesh (take k rows) ≡ recordsOf k ws → rowsMesh rows ≡ recordsOf n ws

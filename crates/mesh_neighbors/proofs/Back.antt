@@ -13,7 +13,7 @@ use Rattle.mesh.specs.Rows.{rowTriangle, rowsMesh}
 use Rattle.mesh.proofs.Rows.{triangle-row}
 use Rattle.mesh_neighbors.specs.Earliest.{edgeFault, backFault}
 
-module _ (rows : List (List ℤ)) (n k : ℕ) (h : n < length rows) (a b : Pt) {i j l : ℕ} (ei : i ≡ neighbour (rowTriangle (getD rows n [])) 0) (ej : j ≡ neighbour (rowTriangle (getD rows n [])) 1) (el : l ≡ neighbour (rowTriangle (getD rows n [])) 2) where
+module _ (rows : List (List ℤ)) {n : ℕ} (k : ℕ) (h : n < length rows) (a b : Pt) {i j l : ℕ} (ei : i ≡ neighbour (rowTriangle (getD rows n [])) 0) (ej : j ≡ neighbour (rowTriangle (getD rows n [])) 1) (el : l ≡ neighbour (rowTriangle (getD rows n [])) 2) where
   abbrev u : Triangle
   u = rowTriangle (getD rows n [])
 

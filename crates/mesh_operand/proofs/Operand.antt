@@ -50,9 +50,9 @@ unfolding someOutside
 none-outside b [] h = refl
 none-outside b (p ∷ l) h = rw (within-all {b = b} {p = p} (h .0 .0 .0) (h .0 .0 .1) (h .0 .1 .0) (h .0 .1 .1)) (none-outside b l (h .1))
 
-not-broken : (b : IntRect) (l : List Pt) → b .«min_x» ≤ℤ b .«max_x» → b .«min_y» ≤ℤ b .«max_y» → All (In b) l → boundsBroken b l ≡ false
+not-broken : {b : IntRect} (l : List Pt) → b .«min_x» ≤ℤ b .«max_x» → b .«min_y» ≤ℤ b .«max_y» → All (In b) l → boundsBroken b l ≡ false
 unfolding boundsBroken
-not-broken b l h k a = rw (≤-ltZ h, ≤-ltZ k) (none-outside b l a)
+not-broken {b} l h k a = rw (≤-ltZ h, ≤-ltZ k) (none-outside b l a)
 
 -- ---- the bounds of a mesh
 
@@ -102,4 +102,4 @@ file-is-operand file e =
     let w = all-within mesh in
     let c : All (In (meshBounds mesh)) (flatten (splitParts how m mesh)) = all-flatten (In (meshBounds mesh)) (splitParts how m mesh) .1 (split-within how m mesh (meshBounds mesh) h w) in
     split-is-operand how m mesh (meshBounds mesh) h (bounds-range mesh (vertices-have (λ p. onGrid p ≡ true) mesh (accepted mesh h .on-grid)))
-    (not-broken (meshBounds mesh) (flatten (splitParts how m mesh)) (least-first mesh .0) (least-first mesh .1) c)
+    (not-broken (flatten (splitParts how m mesh)) (least-first mesh .0) (least-first mesh .1) c)

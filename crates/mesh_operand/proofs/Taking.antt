@@ -13,7 +13,7 @@ use Rattle.mesh_bounds.specs.Bounds.{meshBounds}
 use Rattle.mesh_operand.specs.declared.Taken.{Taken}
 use Rattle.mesh_operand.specs.Operand.{Held, TakenFrom}
 
-module _ (file s : List ℕ) (c : List ℤ) {told : Counts} {s′ : List ℕ} {c′ : List ℤ} (left : Left file s c told s′ c′) where
+module _ {file : List ℕ} (s : List ℕ) (c : List ℤ) {told : Counts} {s′ : List ℕ} {c′ : List ℤ} (left : Left file s c told s′ c′) where
   pub taken-refused : (told .fault ≡ 0 → ⊥) → {b : IntRect} → TakenFrom file (record { fault = told .fault; parts = 0; corners = 0; bounds = b }) s′ c′
   taken-refused h = record { fault = fault-is file s c left; held = λ z. absurd (h z) }
 

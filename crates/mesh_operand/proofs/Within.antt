@@ -46,4 +46,4 @@ centre-in {b} {l = c ∷ l} s h = centre-within s h
 pub split-within : (how : ConvexSplitStrategy) (m : ℕ) (mesh : Mesh) (b : IntRect) → firstFault (meshKinds mesh) ≡ 0 → All (In b) (verticesOf mesh) → All (All (In b)) (splitParts how m mesh)
 split-within how m mesh b h v =
     all-split {P = λ l. Summable l × All (In b) l} (All (In b)) how m mesh (λ l s. split-corners (In b) how (raised m) l (s .1) (centre-in (s .0) (s .1)))
-    (all-map2 (parts mesh) (λ l x y. (x, y)) (parts-summable mesh h) (parts-vertices (In b) mesh (accepted mesh h) (vertex-has (In b) mesh v)))
+    (all-map2 (parts mesh) (λ l x y. (x, y)) (parts-summable mesh h) (parts-vertices (In b) (accepted mesh h) (vertex-has (In b) mesh v)))

@@ -43,7 +43,7 @@ cut-at {bytes} e h = record { inside = h; left = ap (λ n. take n bytes) e; righ
 pub taken-as : {f g : List ℕ} {t : Taken} {s : List ℕ} {c : List ℤ} → f ≡ g → TakenFrom f t s c → TakenFrom g t s c
 taken-as {t = t} {s = s} {c = c} e h = subst (λ x. TakenFrom x t s c) e h
 
-module _ (bytes : List ℕ) {ls : List ℕ} {lc : List ℤ} {t : Taken} (l : TakenFrom (leftFile bytes) t ls lc) where
+module _ {bytes : List ℕ} {ls : List ℕ} {lc : List ℤ} {t : Taken} (l : TakenFrom (leftFile bytes) t ls lc) where
   pub left-refused : (t .fault ≡ 0 → ⊥) → (rs : List ℕ) (rc : List ℤ) → TwoTaken bytes (record { fault = t .fault; left = t; right = t }) ls lc rs rc
   unfolding filesFault
   left-refused h rs rc = record {

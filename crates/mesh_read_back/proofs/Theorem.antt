@@ -55,7 +55,7 @@ rows-small (t ∷ m) h =
     let u = unsigned-small in
     (u (t .v0 .x) (f .first .x-fits), (u (t .v0 .y) (f .first .y-fits), (u (t .v1 .x) (f .next .x-fits), (u (t .v1 .y) (f .next .y-fits), (u (t .v2 .x) (f .last .x-fits), (u (t .v2 .y) (f .last .y-fits), (f .side-0, (f .side-1, (f .side-2, rows-small m (h .1))))))))))
 
-module _ (limit split : ℕ) (m : Mesh) (l : Word limit) (s : split ≤ 2) (n : length m ≤ maxWritten) (h : All TriangleFits m) where
+module _ {limit split : ℕ} (m : Mesh) (l : Word limit) (s : split ≤ 2) (n : length m ≤ maxWritten) (h : All TriangleFits m) where
   file-words : wordsOf (fileOf limit split m) ≡ (20 + rowBytes * length m) ∷ length m ∷ 20 ∷ limit ∷ split ∷ flatten (map triangleWords m)
   unfolding fileOf
   file-words = words-wordBytes (omega arith, (omega arith, (omega arith, (l, (omega arith, rows-small m h)))))
@@ -92,9 +92,9 @@ read-back {text} e =
     let h = all-triangles (drop 1 (telling (linesIn text))) (r .1) in
     let m = trianglesOf text in
     record {
-      mesh = mesh-back (limitOf text) (splitNumberOf text) m l s n h;
-      count = word-back (limitOf text) (splitNumberOf text) m l s n h 1;
-      limit = word-back (limitOf text) (splitNumberOf text) m l s n h 3;
-      split = word-back (limitOf text) (splitNumberOf text) m l s n h 4;
-      header = header-right (limitOf text) (splitNumberOf text) m l s n h;
+      mesh = mesh-back m l s n h;
+      count = word-back m l s n h 1;
+      limit = word-back m l s n h 3;
+      split = word-back m l s n h 4;
+      header = header-right m l s n h;
     }

@@ -38,19 +38,19 @@ right-more k n l ls e w =
 
 -- ---- how many
 
-few-lines : (k n : ℕ) (ls : List (List ℕ)) → k ≤ maxTelling → wrongFrom k n ls ≡ 0 → (k + length (telling ls) ≤ maxTelling) × (1 ≤ k + length (telling ls))
+few-lines : {k : ℕ} (n : ℕ) (ls : List (List ℕ)) → k ≤ maxTelling → wrongFrom k n ls ≡ 0 → (k + length (telling ls) ≤ maxTelling) × (1 ≤ k + length (telling ls))
 unfolding telling
-few-lines k n [] h w = (omega arith, omega (arith, wrong-none k n w))
-few-lines k n (l ∷ ls) h w =
+few-lines {k} n [] h w = (omega arith, omega (arith, wrong-none k n w))
+few-lines {k} n (l ∷ ls) h w =
     by-test (isPassedOver l)
-    (λ e. let f = few-lines k (n + 1) ls h (sym (wrong-passed l ls e k n) ∙ w) in (omega (arith, ap length (telling-passed l ls e)), omega (arith, ap length (telling-passed l ls e))))
+    (λ e. let f = few-lines (n + 1) ls h (sym (wrong-passed l ls e k n) ∙ w) in (omega (arith, ap length (telling-passed l ls e)), omega (arith, ap length (telling-passed l ls e))))
     (λ e.
     let m = right-more k n l ls e w in
-    let f = few-lines (k + 1) (n + 1) ls (omega (arith, fits-few k l (m .0))) (m .1) in
+    let f = few-lines (n + 1) ls (omega (arith, fits-few k l (m .0))) (m .1) in
     (omega (arith, ap length (telling-more l ls e)), omega (arith, ap length (telling-more l ls e))))
 
 pub few-triangles : (text : List ℕ) → wrongLine text ≡ 0 → length (trianglesOf text) ≤ maxWritten
-few-triangles text e = omega (arith, length-mesh text, few-lines 0 0 (linesIn text) (omega arith) e)
+few-triangles text e = omega (arith, length-mesh text, few-lines 0 (linesIn text) (omega arith) e)
 
 -- ---- what they are
 

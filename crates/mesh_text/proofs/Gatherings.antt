@@ -134,9 +134,9 @@ module _ (l : List ℕ) (k : ℕ) (old : List ℕ) where
 -- ---- the whole text
 
 -- the line at a place, and those behind it
-pub lines-at : (text : List ℕ) (at : ℕ) {e : ℕ} → at < length text → e ≡ at + runLength (inRun run.Line) (drop at text)
+pub lines-at : (text : List ℕ) {at : ℕ} {e : ℕ} → at < length text → e ≡ at + runLength (inRun run.Line) (drop at text)
     → linesOf (drop at text) ≡ take (e - at) (drop at text) ∷ linesOf (drop (e + 1) text)
-lines-at text at {e} h q =
+lines-at text {at} {e} h q =
     let n : e - at ≡ runLength (inRun run.Line) (drop at text) = omega arith in
     let m : at + suc (runLength (inRun run.Line) (drop at text)) ≡ e + 1 = omega arith in
     let d = drop-cons text at 0 h in
@@ -171,11 +171,11 @@ going-begins {text} {at} e h =
 module _ {text old : List ℕ} {at line count : ℕ} {words : List ℕ} (g : Going text old at line count words) where
   module _ {new : List ℕ} {e : ℕ} {r : Step} (h : at < length text) (q : e ≡ at + runLength (inRun run.Line) (drop at text)) (u : e ≤ length text) (t : Taken (take (e - at) (drop at text)) count words new r) where
     judged-line : wrongLine text ≡ cond (r .right) (wrongFrom (r .count) (line + 1) (linesOf (drop (e + 1) text))) (line + 1)
-    judged-line = g .judged ∙ ap (wrongFrom count line) (lines-at text at h q) ∙ t .judged line (linesOf (drop (e + 1) text))
+    judged-line = g .judged ∙ ap (wrongFrom count line) (lines-at text h q) ∙ t .judged line (linesOf (drop (e + 1) text))
 
     pub going-on : r .right ≡ true → Going text old (e + 1) (line + 1) (r .count) new
     going-on f =
-        let l = lines-at text at h q in
+        let l = lines-at text h q in
         record {
           judged = judged-line ∙ ap (λ b. cond b (wrongFrom (r .count) (line + 1) (linesOf (drop (e + 1) text))) (line + 1)) f;
           gathered = g .gathered ∙ ap (λ ls. take (rowWidth * count - fewer) words ++ wordsFrom count ls) l ∙ t .words f (linesOf (drop (e + 1) text));

@@ -33,7 +33,7 @@ module _ {text : List ℕ} {n from left count : ℕ} (g : Seeking text n from le
 
     line-said : saidAt n 0 (linesIn text) ≡ cond (ltb left 2) (saidOf count line) (saidAt (left - 1) (count + says line) (linesOf (drop (e + 1) text)))
     unfolding saidAt
-    line-said = g .said ∙ ap (saidAt left count) (lines-at text from h q)
+    line-said = g .said ∙ ap (saidAt left count) (lines-at text h q)
 
     pub found : left < 2 → Sought text n (record { there = true; from = from; end = e; count = count })
     found f =

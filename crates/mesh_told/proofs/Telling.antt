@@ -102,7 +102,7 @@ module _ (l : List ℕ) {at : ℕ} where
       let m = shown-few (length l) .0 in
       rw (ne-eqb (length l) 0 e) (put-after (omega (arith, shown-length l, m)) (put-after (omega (arith, shown-length l, m)) p w) v)
 
-module _ (k : ℕ) (l : List ℕ) {at : ℕ} where
+module _ {k : ℕ} (l : List ℕ) {at : ℕ} where
   pub put-many : {r : ℕ} {o o₁ : List ℕ} → maxWritten < k → PutText manyWord at o o₁ r → PutText (saidOf k l) at o o₁ r
   unfolding saidOf
   put-many h p = rw (lt-ltb maxWritten k h) p
@@ -124,7 +124,7 @@ standing-after l p = omega (arith, p .after, standing-room l)
 
 -- ---- a wrong line put
 
-module _ (text : List ℕ) (n : ℕ) {f : Found} (s : Sought text n f) {a b : ℕ} {o o₁ o₂ : List ℕ} (p : PutText (lineWord ++ decimal n) 0 o o₁ a) (u : PutText colonWord a o₁ o₂ b) where
+module _ {text : List ℕ} {n : ℕ} {f : Found} (s : Sought text n f) {a b : ℕ} {o o₁ o₂ : List ℕ} (p : PutText (lineWord ++ decimal n) 0 o o₁ a) (u : PutText colonWord a o₁ o₂ b) where
   named : PutText ((lineWord ++ decimal n) ++ colonWord) 0 o o₂ b
   named = put-after (omega arith) p u
 
@@ -154,9 +154,9 @@ told t text h p = (p, put-within p (omega (arith, told-room t text)))
 
 pub told-written : {t : Converted} (text : List ℕ) {out : List ℕ} {n : ℕ} → t ≡ converted.Written n → PutText (toldOf t text) 0 out out 0 × Counts 0 out
 unfolding toldOf
-told-written text {out} e = (put-as (sym (ap (λ c. toldOf c text) e)) (put-none 0 out (omega arith)), (omega arith, refl))
+told-written text {out} e = (put-as (sym (ap (λ c. toldOf c text) e)) (put-none out (omega arith)), (omega arith, refl))
 
-module _ (t : Converted) (text : List ℕ) {out : List ℕ} (h : toldRoom ≤ length out) where
+module _ {t : Converted} (text : List ℕ) {out : List ℕ} (h : toldRoom ≤ length out) where
   pub told-wrong : {n r : ℕ} {out′ : List ℕ} → t ≡ converted.Wrong n → PutText (wrongTold text n) 0 out out′ r → PutText (toldOf t text) 0 out out′ r × Counts r out′
   unfolding toldOf
   told-wrong e p = told t text h (put-as (sym (ap (λ c. toldOf c text) e)) p)

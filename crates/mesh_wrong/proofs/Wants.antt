@@ -15,7 +15,7 @@ use Rattle.mesh_wrong.specs.Wanted.{wantedAt, isWanted, wrongFieldFrom}
 
 -- ---- of the first line
 
-module _ (k j : ℕ) (e : k ≡ 0) where
+module _ {k j : ℕ} (e : k ≡ 0) where
   pub name-wanted : j ≡ 0 → wanted.Name ≡ wantedAt k j
   unfolding wantedAt
   name-wanted f = rw (eq-eqb k 0 e, eq-eqb j 0 f)
@@ -36,7 +36,7 @@ module _ (k j : ℕ) (e : k ≡ 0) where
 
 -- ---- of a triangle's
 
-module _ (k j : ℕ) (e : k ≡ 0 → ⊥) where
+module _ {k j : ℕ} (e : k ≡ 0 → ⊥) where
   pub point-wanted : j < 3 → wanted.Point ≡ wantedAt k j
   unfolding wantedAt
   point-wanted f = rw (ne-eqb k 0 e, lt-ltb j 3 f)

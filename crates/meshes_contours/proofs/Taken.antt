@@ -31,8 +31,8 @@ module _ (s : List ℕ) (c : List ℤ) (hs : 1025 ≤ length s) (hc : 6144 ≤ l
   room m h =
       let a = accepted m h in
       append-none (meshKinds m) (roomKinds (parts m) (length s) (length c)) (omega arith, (omega arith, (omega arith, (omega arith, (omega arith, (omega arith, (omega arith, tt))))))) h
-      ∙ first-next 22 _ (le-ltb (length s) (length (startsOf (parts m))) (omega (arith, length-starts (parts m), parts-few m a, a .few)))
-      ∙ first-next 21 _ (le-ltb (length c / 2) (length (flatten (parts m))) (omega (arith, parts-size m a, a .few))) ∙ first-empty
+      ∙ first-next 22 _ (le-ltb (length s) (length (startsOf (parts m))) (omega (arith, length-starts (parts m), parts-few a, a .few)))
+      ∙ first-next 21 _ (le-ltb (length c / 2) (length (flatten (parts m))) (omega (arith, parts-size a, a .few))) ∙ first-empty
 
   file-taken : (file : List ℕ) → fileFault file ≡ 0 → TakenWhole (meshOf file) s c
   file-taken file h = each-taken-whole (meshOf file) s c (room (meshOf file) (accepted-mesh file h))

@@ -110,7 +110,7 @@ module _ (bytes : List ℕ) where
   refused old {f} e h =
       let n : meshesFault bytes ≡ 0 → ⊥ = λ z. h (e ∙ z) in
       let a : record { fault = f; length = 0 } ≡ jobAnswer bytes = rw (ne-eqb (meshesFault bytes) 0 n) (λ i. record { fault = e i; length = 0 }) in
-      (a, (sym (refused-buffer (meshesFault bytes) n (jobOf bytes) old), counted 0 old (omega arith)))
+      (a, (sym (refused-buffer n (jobOf bytes) old), counted 0 old (omega arith)))
 
   pub operation-refused : (old : List ℕ) {f : ℕ} → f ≡ operationFault bytes → (f ≡ 0 → ⊥) → Answered old (record { fault = f; length = 0 }) old
   unfolding meshesFault
@@ -173,7 +173,7 @@ module _ (bytes : List ℕ) where
             let W = op ∷ (leftPut ++ rightPut) in
             let none : meshesFault bytes ≡ 0 = files-told z ∙ sym (k .fault) ∙ y in
             let n : size ≡ length (jobOf bytes) = p .after ∙ sym (length-wordBytes W) ∙ ap length (words-are e) in
-            let b : new ≡ written (meshesFault bytes) (jobOf bytes) old = p .bytes ∙ put-front W old ∙ ap (λ x. overlay x old) (words-are e) ∙ sym (accepted-buffer (meshesFault bytes) none (jobOf bytes) old) in
+            let b : new ≡ written (meshesFault bytes) (jobOf bytes) old = p .bytes ∙ put-front W old ∙ ap (λ x. overlay x old) (words-are e) ∙ sym (accepted-buffer none (jobOf bytes) old) in
             let a : record { fault = t .fault; length = size } ≡ jobAnswer bytes = rw (eq-eqb (meshesFault bytes) 0 none) (λ i. record { fault = y i; length = n i }) in
             let c : length W ≤ 28687 = few-words op (t .left .bounds) _ _ (t .right .bounds) _ _ old (job-room h) in
             (a, (b, counted size new (omega (arith, p .after, c, put-kept 0 W old (omega (arith, c)) (p .bytes)))))

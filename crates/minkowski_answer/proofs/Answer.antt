@@ -33,8 +33,8 @@ module _ (ps : List (List Pt)) (b : IntRect) (s : List ℕ) (c : List ℤ) where
       let n : F ≡ 0 → ⊥ = λ q. d (e ∙ q) in
       record {
         counts = h ∙ ap refusalOf e ∙ sym (refused-counts n ps b);
-        starts = sym (refused-buffer F n (startsOf ps) s);
-        corners = sym (refused-buffer F n (cornersOf ps) c);
+        starts = sym (refused-buffer n (startsOf ps) s);
+        corners = sym (refused-buffer n (cornersOf ps) c);
       }
 
   abbrev F : ℕ
@@ -56,6 +56,6 @@ module _ (ps : List (List Pt)) (b : IntRect) (s : List ℕ) (c : List ℤ) where
         let e : F ≡ 0 = starts-fit ∙ first-next 21 _ (le-ltb (length c / 2) (length (flatten ps)) k) ∙ first-empty in
         record {
           counts = (λ i. record { fault = 0; contours = p i; corners = q i; bounds = b }) ∙ sym (accepted-counts e ps b);
-          starts = u ∙ sym (accepted-buffer F e (startsOf ps) s);
-          corners = v ∙ sym (accepted-buffer F e (cornersOf ps) c);
+          starts = u ∙ sym (accepted-buffer e (startsOf ps) s);
+          corners = v ∙ sym (accepted-buffer e (cornersOf ps) c);
         }

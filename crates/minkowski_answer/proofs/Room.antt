@@ -31,7 +31,7 @@ module _ {firsts : List ℕ} {points : List (List ℤ)} {left right most : ℕ} 
   pub count-contours : length (contoursIn firsts points left right) ≡ left * right
   count-contours = contours-count left right (u .walks)
 
-  module _ (s : List ℕ) (c : List ℤ) (h : left * right + 1 ≤ length s) (k : length (flatten (contoursIn firsts points left right)) ≤ length c / 2) where
+  module _ {s : List ℕ} {c : List ℤ} (h : left * right + 1 ≤ length s) (k : length (flatten (contoursIn firsts points left right)) ≤ length c / 2) where
     pub room-for : PairsRoom (contoursIn firsts points left right) s 0 c 0
     room-for = record {
       for-starts = omega (arith, count-contours, h);

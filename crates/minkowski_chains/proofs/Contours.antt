@@ -63,7 +63,7 @@ module _ {ps c : List (List Pt)} {n m : ℕ} (e : Piece ps n m c) {s₀ s : List
 
 -- ---- the first of some contours
 
-module _ (p : List Pt) (ps : List (List Pt)) {s : List ℕ} {n : ℕ} {o : List ℤ} {k : ℕ} (r : PairsRoom (p ∷ ps) s n o k) where
+module _ {p : List Pt} {ps : List (List Pt)} {s : List ℕ} {n : ℕ} {o : List ℤ} {k : ℕ} (r : PairsRoom (p ∷ ps) s n o k) where
   length-first : length (flatten (p ∷ ps)) ≡ length p + length (flatten ps)
   unfolding flatten
   length-first = length-append p (flatten ps)
@@ -94,7 +94,7 @@ pub corners-count : (c : ℕ) (w : List ℤ) → 2 * c ≤ length w → length (
 corners-count c w h = omega (arith, length-points (take (2 * c) w), length-take (2 * c) w)
 
 -- contours put from a work buffer
-module _ (p : List Pt) {w w′ : List ℤ} {c : ℕ} (a : CornersPut p w 0 w′ c) {s : List ℕ} {n : ℕ} {o : List ℤ} {k : ℕ} where
+module _ {p : List Pt} {w w′ : List ℤ} {c : ℕ} (a : CornersPut p w 0 w′ c) {s : List ℕ} {n : ℕ} {o : List ℤ} {k : ℕ} where
   pub copied-room : PairsRoom (p ∷ []) s n o k → PairsRoom (workCorners c w′ ∷ []) s n o k
   copied-room r = subst (λ l. PairsRoom (l ∷ []) s n o k) (sym (work-corners a)) r
 
@@ -115,7 +115,7 @@ put-on {m} {k} {new} {s} {r} {starts} {starts′} {out} {out′} a p = record {
 pub to-start : (left right : ℕ) (ps : List (List Pt)) (starts : List ℕ) (out : List ℤ) → PutTo left right ps starts out (record { p = 0; q = 0; n = 0; k = 0 }) starts out
 to-start left right ps starts out = record { order = order-start left right 0; some = omega arith; put = pairs-none starts 0 out 0 }
 
-module _ (left right : ℕ) {ps : List (List Pt)} (e : length ps ≡ left * right) (f : left * right < 2 ^ 64) {s₀ s : List ℕ} {o₀ o : List ℤ} (t : Place) (a : PutTo left right ps s₀ o₀ t s o) where
+module _ {left right : ℕ} {ps : List (List Pt)} (e : length ps ≡ left * right) (f : left * right < 2 ^ 64) {s₀ s : List ℕ} {o₀ o : List ℤ} {t : Place} (a : PutTo left right ps s₀ o₀ t s o) where
   -- m pairs are left, and the next contours have room
   pub to-more : {m : ℕ} → t .n + m ≤ left * right → More left right m t
   to-more h = record { order = a .order; some = h; few = f }

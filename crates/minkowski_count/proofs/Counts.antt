@@ -31,11 +31,11 @@ fits-work a b work h k w = omega (arith, length-merged a b)
 
 -- ---- a turn of a row, b being right walk q
 
-module _ (a : List Pt) (rs : List (List Pt)) (q : ℕ) {b : List Pt} (h : q < length rs) (e : getD rs q [] ≡ b) where
+module _ (a : List Pt) (rs : List (List Pt)) {q : ℕ} {b : List Pt} (h : q < length rs) (e : getD rs q [] ≡ b) where
   pub row-turn : rowCount a (take (q + 1) rs) ≡ rowCount a (take q rs) + length (mergedOf a b)
   unfolding flatten
   row-turn =
-      ap (λ l. length (flatten l)) (row-suc a rs q h) ∙ length-flatten-append (mergedRow a (take q rs)) (mergedOf a (getD rs q []) ∷ [])
+      ap (λ l. length (flatten l)) (row-suc a rs h) ∙ length-flatten-append (mergedRow a (take q rs)) (mergedOf a (getD rs q []) ∷ [])
       ∙ ap (λ l. rowCount a (take q rs) + length l) (append-nil (mergedOf a (getD rs q [])) ∙ ap (mergedOf a) e)
 
   pub row-fits : rowCount a (take q rs) + length (mergedOf a b) ≤ rowCount a rs
@@ -45,7 +45,7 @@ module _ (a : List Pt) (rs : List (List Pt)) (q : ℕ) {b : List Pt} (h : q < le
       let one = mergedOf a (getD rs q []) ∷ [] in
       omega (
         arith,
-        ap (λ l. length (flatten l)) (row-whole a rs q h),
+        ap (λ l. length (flatten l)) (row-whole a rs h),
         length-flatten-append (mergedRow a (take q rs)) (one ++ rest),
         length-flatten-append one rest,
         ap length (append-nil (mergedOf a (getD rs q [])) ∙ ap (mergedOf a) e),
@@ -53,10 +53,10 @@ module _ (a : List Pt) (rs : List (List Pt)) (q : ℕ) {b : List Pt} (h : q < le
 
 -- ---- a turn of all rows, a being left walk p
 
-module _ (ls rs : List (List Pt)) (p : ℕ) {a : List Pt} (h : p < length ls) (e : getD ls p [] ≡ a) where
+module _ (ls rs : List (List Pt)) {p : ℕ} {a : List Pt} (h : p < length ls) (e : getD ls p [] ≡ a) where
   pub all-turn : allCount (take (p + 1) ls) rs ≡ allCount (take p ls) rs + rowCount a rs
   all-turn =
-      ap (λ l. length (flatten l)) (all-suc ls rs p h) ∙ length-flatten-append (mergedAll (take p ls) rs) (mergedRow (getD ls p []) rs)
+      ap (λ l. length (flatten l)) (all-suc ls rs h) ∙ length-flatten-append (mergedAll (take p ls) rs) (mergedRow (getD ls p []) rs)
       ∙ ap (λ l. allCount (take p ls) rs + rowCount l rs) e
 
   pub all-fits : allCount (take p ls) rs + rowCount a rs ≤ allCount ls rs
@@ -65,7 +65,7 @@ module _ (ls rs : List (List Pt)) (p : ℕ) {a : List Pt} (h : p < length ls) (e
       let row = mergedRow (getD ls p []) rs in
       omega (
         arith,
-        ap (λ l. length (flatten l)) (all-whole ls rs p h),
+        ap (λ l. length (flatten l)) (all-whole ls rs h),
         length-flatten-append (mergedAll (take p ls) rs) (row ++ rest),
         length-flatten-append row rest,
         ap (λ l. rowCount l rs) e,

@@ -73,16 +73,16 @@ module _ (firsts : List ℕ) (points : List (List ℤ)) (numbers : List ℕ) (le
   es = edgeCounts firsts points left right
 
   abbrev same : length ps ≡ left * right
-  same = contours-length firsts points numbers left right k
+  same = contours-length k
 
   abbrev same-edges : length es ≡ left * right
-  same-edges = edges-length firsts points numbers left right k
+  same-edges = edges-length k
 
   -- pair i is left walk i / right and right walk i % right
-  any-few : (i : ℕ) → i < left * right → length (getD ps i []) ≤ getD es i 0
-  any-few i h =
+  any-few : {i : ℕ} → i < left * right → length (getD ps i []) ≤ getD es i 0
+  any-few {i} h =
       let z : 0 < right = some left right h in
-      as-few (is-pair firsts points numbers left right k (i / right) (i % right) i (div-lt-iff-lt-mul z .1 h) (mod-lt i z) (sym (div-add-mod' i right)) refl)
+      as-few (is-pair k (div-lt-iff-lt-mul z .1 h) (mod-lt i z) (sym (div-add-mod' i right)) refl)
     where
       some : (l r : ℕ) {i : ℕ} → i < l * r → 0 < r
       some l zero h = absurd (omega (arith, h))
@@ -95,7 +95,7 @@ module _ (firsts : List ℕ) (points : List (List ℤ)) (numbers : List ℕ) (le
   module _ (s : Place) (a : Bounds firsts points left right s) where
     -- no fewer than all corners
     pub bounds-most : allCorners firsts points left right ≤ s .k
-    bounds-most = omega (arith, a .bound, sum-rest es (s .n), count-rest ps (s .n), few-rest ps es (same ∙ sym same-edges) (λ i h. any-few i (omega (arith, h, same))) (s .n))
+    bounds-most = omega (arith, a .bound, sum-rest es (s .n), count-rest ps (s .n), few-rest ps es (same ∙ sym same-edges) (λ i h. any-few (omega (arith, h, same))) (s .n))
 
     pub bounds-end : left * right ≤ s .n → s .k ≡ allCorners firsts points left right
     bounds-end h = omega (arith, a .bound, ap sumℕ (take-all (s .n) es (omega (arith, h, same-edges))), ap (λ l. length (flatten l)) (take-all (s .n) ps (omega (arith, h, same))))

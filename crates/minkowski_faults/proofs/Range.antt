@@ -31,7 +31,7 @@ held z = toZ w32 (ofZ w32 z)
 
 -- ---- a number, by its test as the machine holds it
 
-module _ (z : ℤ) (l : List ℤ) (f : SFits w32 z) {r : Bool} (e : r ≡ inRange (held z)) where
+module _ {z : ℤ} (l : List ℤ) (f : SFits w32 z) {r : Bool} (e : r ≡ inRange (held z)) where
   test : r ≡ inRange z
   test = e ∙ ap inRange (kept f)
 
@@ -45,7 +45,7 @@ module _ (z : ℤ) (l : List ℤ) (f : SFits w32 z) {r : Bool} (e : r ≡ inRang
 
 pub off-last : {z : ℤ} → SFits w32 z → {r : Bool} → r ≡ inRange (held z) → offRange (z ∷ []) ≡ not r
 unfolding offRange
-off-last {z} f {r} e = rw (← test z [] f e) (last r)
+off-last {z} f {r} e = rw (← test [] f e) (last r)
   where
     last : (t : Bool) → cond t false true ≡ not t
     last true = refl

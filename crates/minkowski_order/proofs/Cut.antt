@@ -90,7 +90,7 @@ module _ (firsts : List ℕ) (points : List (List ℤ)) (numbers : List ℕ) (le
   }
     where
       below : {n i : ℕ} → n < left + right → i < length (walkIn firsts cutPoints (left + right) n) → getD firsts n 0 + i < getD firsts (left + right) 0
-      below {n} hn hi = omega (arith, walk-ends cut-walks hn, walk-placed firsts cutPoints (left + right) n cut-walks hn .within, cut-few)
+      below {n} hn hi = omega (arith, walk-ends cut-walks hn, walk-placed cut-walks hn .within, cut-few)
 
   -- each of its points is of a walk
   cut-grid : Grid cutPoints

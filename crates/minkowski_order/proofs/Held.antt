@@ -101,9 +101,9 @@ module _ (points : List (List ℤ)) (numbers : List ℕ) where
 -- ---- those of two operands
 
 -- no more edges than a work buffer has corners
-pub edges-short : (n : ℕ) (a b : List Pt) → length a ≤ (maxContour + 1) → length b ≤ (maxContour + 1) → length a + length b ≤ n → edgesOf a b ≤ min (2 * maxContour) n
+pub edges-short : {n : ℕ} (a b : List Pt) → length a ≤ (maxContour + 1) → length b ≤ (maxContour + 1) → length a + length b ≤ n → edgesOf a b ≤ min (2 * maxContour) n
 unfolding edgesOf
-edges-short n a b h k l = at (eqb (length a) 0) (eqb (length b) 0)
+edges-short {n} a b h k l = at (eqb (length a) 0) (eqb (length b) 0)
   where
     at : (s t : Bool) → cond s 0 (cond t 0 (length a + length b - 2)) ≤ min (2 * maxContour) n
     at true t = omega arith
@@ -113,21 +113,21 @@ edges-short n a b h k l = at (eqb (length a) 0) (eqb (length b) 0)
 -- a walk ends where the next begins
 pub walk-ends : {firsts : List ℕ} {points : List (List ℤ)} {all : ℕ} {n : ℕ} → Walks firsts points all → n < all → getD firsts n 0 + length (walkIn firsts points all n) ≡ getD firsts (n + 1) 0
 walk-ends {firsts} {points} {all} {n} w h =
-    let p = walk-placed firsts points all n w h in
+    let p = walk-placed w h in
     let m = getD firsts (n + 1) 0 - getD firsts n 0 in
     let rest = drop (getD firsts n 0) points in
     omega (arith, ap length (p .corners), length-map (take m rest) cornerOf, length-take m rest, length-drop (getD firsts n 0) points, p .rises, p .within)
 
-module _ (firsts : List ℕ) (points : List (List ℤ)) (numbers : List ℕ) (left right : ℕ) (k : Keyed firsts points numbers left right) where
-  module _ (n : ℕ) (h : n < left + right) where
+module _ {firsts : List ℕ} {points : List (List ℤ)} {numbers : List ℕ} {left right : ℕ} (k : Keyed firsts points numbers left right) where
+  module _ {n : ℕ} (h : n < left + right) where
     abbrev walk : List Pt
     walk = walkIn firsts points (left + right) n
 
     placed : PartPlaced firsts points n walk
-    placed = walk-placed firsts points (left + right) n (k .walks) h
+    placed = walk-placed (k .walks) h
 
     pub walk-between : Between firsts n
-    walk-between = record { enough = firsts-enough firsts points (left + right) n (k .walks) h; rises = placed .rises }
+    walk-between = record { enough = firsts-enough (k .walks) h; rises = placed .rises }
 
     abbrev part : List (List ℤ)
     part = take (getD firsts (n + 1) 0 - getD firsts n 0) (drop (getD firsts n 0) points)
@@ -145,9 +145,9 @@ module _ (firsts : List ℕ) (points : List (List ℤ)) (numbers : List ℕ) (le
     }
 
     walk-turns : Turning walk
-    walk-turns = all-getD Turning (walksIn firsts points (left + right)) [] (k .walks .turning) n (walk-inside firsts points (left + right) n (k .walks) h)
+    walk-turns = all-getD Turning (walksIn firsts points (left + right)) [] (k .walks .turning) n (walk-inside (k .walks) h)
 
-  module _ (p q : ℕ) (hp : p < left) (hq : q < right) where
+  module _ {p q : ℕ} (hp : p < left) (hq : q < right) where
     in-left : p < left + right
     in-left = omega arith
 
@@ -158,18 +158,18 @@ module _ (firsts : List ℕ) (points : List (List ℤ)) (numbers : List ℕ) (le
     unfolding pairAt
     pair-held =
         held-from points numbers (walkIn firsts points (left + right) p) (walkIn firsts points (left + right) (left + q))
-        (getD firsts p 0) (getD firsts (p + 1) 0) (getD firsts (left + q) 0) (getD firsts (left + q + 1) 0) (ends p in-left) (ends (left + q) in-right)
-        (walk-lies p in-left leftNumber (λ i. ap (λ t. numberOf t (walkIn firsts points (left + right) p) i) (lt-ltb p left hp)))
-        (walk-lies (left + q) in-right rightNumber (λ i. ap (λ t. numberOf t (walkIn firsts points (left + right) (left + q)) i) (le-ltb (left + q) left (omega arith))))
-        (walk-turns p in-left) (walk-turns (left + q) in-right) (k .close p q hp hq)
+        (getD firsts p 0) (getD firsts (p + 1) 0) (getD firsts (left + q) 0) (getD firsts (left + q + 1) 0) (ends in-left) (ends in-right)
+        (walk-lies in-left leftNumber (λ i. ap (λ t. numberOf t (walkIn firsts points (left + right) p) i) (lt-ltb p left hp)))
+        (walk-lies in-right rightNumber (λ i. ap (λ t. numberOf t (walkIn firsts points (left + right) (left + q)) i) (le-ltb (left + q) left (omega arith))))
+        (walk-turns in-left) (walk-turns in-right) (k .close p q hp hq)
 
     pub pair-between : Between firsts p × Between firsts (left + q)
-    pair-between = (walk-between p in-left, walk-between (left + q) in-right)
+    pair-between = (walk-between in-left, walk-between in-right)
 
     pub pair-short : edgesOf (walkIn firsts points (left + right) p) (walkIn firsts points (left + right) (left + q)) ≤ mostEdges points
     pair-short =
-        edges-short (length points) _ _ (walk-short firsts points (left + right) p (k .walks) in-left) (walk-short firsts points (left + right) (left + q) (k .walks) in-right)
-        (omega (arith, ends p in-left, ends (left + q) in-right, placed (left + q) in-right .within, firsts-rise (k .walks) (p + 1) (left + q - (p + 1)) (omega arith), ap (λ j. getD firsts j 0) on))
+        edges-short _ _ (walk-short (k .walks) in-left) (walk-short (k .walks) in-right)
+        (omega (arith, ends in-left, ends in-right, placed in-right .within, firsts-rise (k .walks) (p + 1) (left + q - (p + 1)) (omega arith), ap (λ j. getD firsts j 0) on))
       where
         on : p + 1 + (left + q - (p + 1)) ≡ left + q
         on = omega arith

@@ -31,10 +31,10 @@ module _ {A B C : Type 0} (f : A → B → C) (rs : List B) where
   pairs-length [] = omega arith
   pairs-length (a ∷ ls) = omega (arith, length-append (map (f a) rs) (pairs ls), length-map rs (f a), pairs-length ls)
 
-  pub pairs-at : (ls : List A) (p q : ℕ) (x : A) (y : B) (d : C) → p < length ls → q < length rs → getD (pairs ls) (p * length rs + q) d ≡ f (getD ls p x) (getD rs q y)
+  pub pairs-at : (ls : List A) (p : ℕ) {q : ℕ} (x : A) (y : B) (d : C) → p < length ls → q < length rs → getD (pairs ls) (p * length rs + q) d ≡ f (getD ls p x) (getD rs q y)
   unfolding flatten
-  pairs-at [] p q x y d h k = absurd (omega arith)
-  pairs-at (a ∷ ls) zero q x y d h k =
+  pairs-at [] p {q} x y d h k = absurd (omega arith)
+  pairs-at (a ∷ ls) zero {q} x y d h k =
       let z : 0 * length rs + q ≡ q = omega arith in
       ap (λ n. getD (map (f a) rs ++ pairs ls) n d) z ∙ List·getD-append (map (f a) rs) (pairs ls) d q (omega (arith, length-map rs (f a)))
       ∙ in-row (f a) rs q y d k
@@ -43,13 +43,13 @@ module _ {A B C : Type 0} (f : A → B → C) (rs : List B) where
       in-row g [] i y d h = absurd (omega arith)
       in-row g (b ∷ l) zero y d h = refl
       in-row g (b ∷ l) (suc i) y d h = in-row g l i y d (omega arith)
-  pairs-at (a ∷ ls) (suc p) q x y d h k =
+  pairs-at (a ∷ ls) (suc p) {q} x y d h k =
       let z : suc p * length rs + q ≡ length (map (f a) rs) + (p * length rs + q) = omega (arith, length-map rs (f a)) in
-      ap (λ n. getD (map (f a) rs ++ pairs ls) n d) z ∙ getD-append-add (map (f a) rs) (pairs ls) (p * length rs + q) d ∙ pairs-at ls p q x y d (omega arith) k
+      ap (λ n. getD (map (f a) rs ++ pairs ls) n d) z ∙ getD-append-add (map (f a) rs) (pairs ls) (p * length rs + q) d ∙ pairs-at ls p x y d (omega arith) k
 
 -- ---- those of two operands' walks
 
-module _ (firsts : List ℕ) (points : List (List ℤ)) (numbers : List ℕ) (left right : ℕ) (k : Keyed firsts points numbers left right) where
+module _ {firsts : List ℕ} {points : List (List ℤ)} {numbers : List ℕ} {left right : ℕ} (k : Keyed firsts points numbers left right) where
   abbrev ws : List (List Pt)
   ws = walksIn firsts points (left + right)
 
@@ -65,23 +65,23 @@ module _ (firsts : List ℕ) (points : List (List ℤ)) (numbers : List ℕ) (le
   pub edges-length : length (edgeCounts firsts points left right) ≡ left * right
   edges-length = pairs-length edgesOf (rightsIn firsts points left right) (leftsIn firsts points left right) ∙ ap₂ _*_ lefts rights
 
-  module _ (p q n : ℕ) (hp : p < left) (hq : q < right) (e : n ≡ p * right + q) where
+  module _ {p q n : ℕ} (hp : p < left) (hq : q < right) (e : n ≡ p * right + q) where
     -- of any definition over two walks
     at : {C : Type 0} (f : List Pt → List Pt → C) (d : C) → getD (pairs f (rightsIn firsts points left right) (leftsIn firsts points left right)) n d ≡ f (walkIn firsts points (left + right) p) (walkIn firsts points (left + right) (left + q))
     at f d =
         ap (λ n. getD (pairs f (rightsIn firsts points left right) (leftsIn firsts points left right)) n d) (e ∙ ap (λ r. p * r + q) (sym rights))
-        ∙ pairs-at f (rightsIn firsts points left right) (leftsIn firsts points left right) p q [] [] d (omega (arith, lefts)) (omega (arith, rights))
+        ∙ pairs-at f (rightsIn firsts points left right) (leftsIn firsts points left right) p [] [] d (omega (arith, lefts)) (omega (arith, rights))
         ∙ ap₂ f (getD-take left ws p [] hp) (getD-drop left ws q [])
 
     pub is-pair : {x : Pair} → x ≡ pairAt firsts left p q → IsPair firsts points numbers left right n x
     is-pair ex =
-        let h = pair-held firsts points numbers left right k p q hp hq in
+        let h = pair-held k hp hq in
         subst (IsPair firsts points numbers left right n) (sym ex) (record {
           runs = h .runs;
           contour = h .contour ∙ sym (at mergedOf []);
           ordered = h .ordered;
           edges = h .edges ∙ sym (at edgesOf 0);
-          short = omega (arith, at edgesOf 0, pair-short firsts points numbers left right k p q hp hq);
+          short = omega (arith, at edgesOf 0, pair-short k hp hq);
         })
 
 -- ---- a pair as pair_chains takes it

@@ -117,24 +117,24 @@ module _ {p : List Pt} {s : List ℕ} {n : ℕ} {o : List ℤ} {k : ℕ} (r : Pa
 
 -- b is right walk q, and a left walk p
 module _ {s s′ : List ℕ} {n n′ : ℕ} {o o′ : List ℤ} {k k′ : ℕ} where
-  pub row-room : (a : List Pt) (rs : List (List Pt)) (q : ℕ) {b : List Pt} → q < length rs → getD rs q [] ≡ b → PairsRoom (mergedRow a rs) s n o k → PairsPut (mergedRow a (take q rs)) s n o k s′ n′ o′ k′ → PairsRoom (mergedOf a b ∷ []) s′ n′ o′ k′
-  row-room a rs q h e r p =
+  pub row-room : (a : List Pt) (rs : List (List Pt)) {q : ℕ} {b : List Pt} → q < length rs → getD rs q [] ≡ b → PairsRoom (mergedRow a rs) s n o k → PairsPut (mergedRow a (take q rs)) s n o k s′ n′ o′ k′ → PairsRoom (mergedOf a b ∷ []) s′ n′ o′ k′
+  row-room a rs {q} h e r p =
       subst (λ l. PairsRoom (mergedOf a l ∷ []) s′ n′ o′ k′) e
-      (room-next (mergedOf a (getD rs q []) ∷ []) (mergedRow a (drop (suc q) rs)) (subst (λ l. PairsRoom l s n o k) (row-whole a rs q h) r) p)
+      (room-next (mergedOf a (getD rs q []) ∷ []) (mergedRow a (drop (suc q) rs)) (subst (λ l. PairsRoom l s n o k) (row-whole a rs h) r) p)
 
-  pub row-more : (a : List Pt) (rs : List (List Pt)) (q : ℕ) {b : List Pt} {s″ : List ℕ} {m m′ : ℕ} {o″ : List ℤ} {k″ : ℕ} → q < length rs → getD rs q [] ≡ b → PairsPut (mergedRow a (take q rs)) s n o k s′ n′ o′ k′ → PairsPut (mergedOf a b ∷ []) s′ n′ o′ k′ s″ m o″ k″ → m ≡ m′ → PairsPut (mergedRow a (take (q + 1) rs)) s n o k s″ m′ o″ k″
-  row-more a rs q {b} {s″} {m} {m′} {o″} {k″} h d p one e =
+  pub row-more : (a : List Pt) (rs : List (List Pt)) {q : ℕ} {b : List Pt} {s″ : List ℕ} {m m′ : ℕ} {o″ : List ℤ} {k″ : ℕ} → q < length rs → getD rs q [] ≡ b → PairsPut (mergedRow a (take q rs)) s n o k s′ n′ o′ k′ → PairsPut (mergedOf a b ∷ []) s′ n′ o′ k′ s″ m o″ k″ → m ≡ m′ → PairsPut (mergedRow a (take (q + 1) rs)) s n o k s″ m′ o″ k″
+  row-more a rs {q} {b} {s″} {m} {m′} {o″} {k″} h d p one e =
       subst (λ j. PairsPut (mergedRow a (take (q + 1) rs)) s n o k s″ j o″ k″) e
-      (subst (λ l. PairsPut l s n o k s″ m o″ k″) (sym (row-suc a rs q h ∙ ap (λ l. mergedRow a (take q rs) ++ (mergedOf a l ∷ [])) d)) (pairs-then p one))
+      (subst (λ l. PairsPut l s n o k s″ m o″ k″) (sym (row-suc a rs h ∙ ap (λ l. mergedRow a (take q rs) ++ (mergedOf a l ∷ [])) d)) (pairs-then p one))
 
-  pub all-room : (ls rs : List (List Pt)) (p : ℕ) {a : List Pt} → p < length ls → getD ls p [] ≡ a → PairsRoom (mergedAll ls rs) s n o k → PairsPut (mergedAll (take p ls) rs) s n o k s′ n′ o′ k′ → PairsRoom (mergedRow a rs) s′ n′ o′ k′
-  all-room ls rs p h e r u =
+  pub all-room : (ls rs : List (List Pt)) {p : ℕ} {a : List Pt} → p < length ls → getD ls p [] ≡ a → PairsRoom (mergedAll ls rs) s n o k → PairsPut (mergedAll (take p ls) rs) s n o k s′ n′ o′ k′ → PairsRoom (mergedRow a rs) s′ n′ o′ k′
+  all-room ls rs {p} h e r u =
       subst (λ l. PairsRoom (mergedRow l rs) s′ n′ o′ k′) e
-      (room-next (mergedRow (getD ls p []) rs) (mergedAll (drop (suc p) ls) rs) (subst (λ l. PairsRoom l s n o k) (all-whole ls rs p h) r) u)
+      (room-next (mergedRow (getD ls p []) rs) (mergedAll (drop (suc p) ls) rs) (subst (λ l. PairsRoom l s n o k) (all-whole ls rs h) r) u)
 
-  pub all-more : (ls rs : List (List Pt)) (p : ℕ) {a : List Pt} {s″ : List ℕ} {m : ℕ} {o″ : List ℤ} {k″ : ℕ} → p < length ls → getD ls p [] ≡ a → PairsPut (mergedAll (take p ls) rs) s n o k s′ n′ o′ k′ → PairsPut (mergedRow a rs) s′ n′ o′ k′ s″ m o″ k″ → PairsPut (mergedAll (take (p + 1) ls) rs) s n o k s″ m o″ k″
-  all-more ls rs p {a} {s″} {m} {o″} {k″} h e u row =
-      subst (λ l. PairsPut l s n o k s″ m o″ k″) (sym (all-suc ls rs p h ∙ ap (λ l. mergedAll (take p ls) rs ++ mergedRow l rs) e)) (pairs-then u row)
+  pub all-more : (ls rs : List (List Pt)) {p : ℕ} {a : List Pt} {s″ : List ℕ} {m : ℕ} {o″ : List ℤ} {k″ : ℕ} → p < length ls → getD ls p [] ≡ a → PairsPut (mergedAll (take p ls) rs) s n o k s′ n′ o′ k′ → PairsPut (mergedRow a rs) s′ n′ o′ k′ s″ m o″ k″ → PairsPut (mergedAll (take (p + 1) ls) rs) s n o k s″ m o″ k″
+  all-more ls rs {p} {a} {s″} {m} {o″} {k″} h e u row =
+      subst (λ l. PairsPut l s n o k s″ m o″ k″) (sym (all-suc ls rs h ∙ ap (λ l. mergedAll (take p ls) rs ++ mergedRow l rs) e)) (pairs-then u row)
 
 -- a row with all its walks
 pub row-done : (a : List Pt) (rs : List (List Pt)) {q : ℕ} {s s′ : List ℕ} {n m : ℕ} {o o′ : List ℤ} {k k′ : ℕ} → q ≡ m → m ≡ length rs → PairsPut (mergedRow a (take q rs)) s n o k s′ (n + q) o′ k′ → PairsPut (mergedRow a rs) s n o k s′ (n + m) o′ k′

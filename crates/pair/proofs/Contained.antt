@@ -70,7 +70,7 @@ normal-is = ring (pt ∷ pt ∷ []) (λ e q. dotE (record { x = e .y; y = :neg (
 abbrev Farthest : List Pt → Pt → Pt → Type 0
 Farthest K c e = All (λ q. cross q e ≤ℤ cross c e) K
 
-module _ (L K : List Pt) (full : L ≡ [] → ⊥) (same : (d : Pt) → reach d L ≡ reach d K) (c : Pt) (there : In K c) where
+module _ {L : List Pt} (K : List Pt) (full : L ≡ [] → ⊥) (same : (d : Pt) → reach d L ≡ reach d K) (c : Pt) (there : In K c) where
   -- L reaches as far as c along e's normal
   reach-along : (e : Pt) → Farthest K c e → reach (normal e) L ≡ cross c e
   reach-along e h =
@@ -98,13 +98,13 @@ module _ (L K : List Pt) (full : L ≡ [] → ⊥) (same : (d : Pt) → reach d 
 
 -- ---- all corners
 
-module _ (L : List Pt) (full : L ≡ [] → ⊥) (P : Pt) (M : List Pt) (c : Convex M) (s : Sorted Lt M) (same : (d : Pt) → reach d L ≡ reach d (cornersFrom P M)) where
+module _ {L : List Pt} (full : L ≡ [] → ⊥) (P : Pt) {M : List Pt} (c : Convex M) (s : Sorted Lt M) (same : (d : Pt) → reach d L ≡ reach d (cornersFrom P M)) where
   -- between neighbours e and f
   between : {e f : Pt} → Nz e → Nz f → pos 0 <ℤ cross e f → cut f M ≡ e +ᵖ cut e M → In L (P +ᵖ cut f M)
   between {e} {f} ne nf turn on =
-      corner-in L (cornersFrom P M) full same (P +ᵖ cut f M) (cut-corner nf P c) e f turn
-      (all-map (cornersFrom P M) (λ q k. subst (λ v. cross q e ≤ℤ v) (own P (cut e M) e ∙ ap (λ v. cross (P +ᵖ v) e) (sym on)) k) (corner-bound e ne P M c))
-      (corner-bound f nf P M c)
+      corner-in (cornersFrom P M) full same (P +ᵖ cut f M) (cut-corner nf P c) e f turn
+      (all-map (cornersFrom P M) (λ q k. subst (λ v. cross q e ≤ℤ v) (own P (cut e M) e ∙ ap (λ v. cross (P +ᵖ v) e) (sym on)) k) (corner-bound ne P c))
+      (corner-bound nf P c)
     where
       -- what an edge adds does not count along its own normal
       own : (p a e : Pt) → cross (p +ᵖ a) e ≡ cross (p +ᵖ (e +ᵖ a)) e

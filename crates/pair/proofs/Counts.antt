@@ -73,10 +73,10 @@ unfolding neighbours
 perm-last e l = subst (λ r. List·Permᴰ r ((lastOf e l, e) ∷ links e l)) (sym (links-last e l e)) (List·Permᴰ·append-comm (links e l) ((lastOf e l, e) ∷ []))
 
 -- the last of e ∷ l is one of them
-pub all-last : (P : Pt → Type 0) (e : Pt) (l : List Pt) → All P (e ∷ l) → P (lastOf e l)
+pub all-last : (P : Pt → Type 0) {e : Pt} (l : List Pt) → All P (e ∷ l) → P (lastOf e l)
 unfolding lastOf
-all-last P e [] h = h .0
-all-last P e (f ∷ l) h = all-last P f l (h .1)
+all-last P {e} [] h = h .0
+all-last P {e} (f ∷ l) h = all-last P l (h .1)
 
 -- neighbours of a sorted list
 pub links-sorted : (R : Pt → Pt → Type 0) (e : Pt) (l : List Pt) → Sorted R (e ∷ l) → All (λ c. R (c .0) (c .1)) (links e l)

@@ -45,7 +45,7 @@ merge-cases = record {
 -- nothing after e has its direction: its run ends
 runs-end : (e s : Pt) (X : List Pt) → All (Lt e) X → runs e s X ≡ s ∷ grouped X
 runs-end e s [] h = unfold runs grouped in refl
-runs-end e s (f ∷ X) h = runs-by s X (λ r. r ≡ s ∷ grouped (f ∷ X)) (lt-le (h .0)) (λ k. absurd (lt-not-same (h .0) k)) (λ k. unfold grouped in refl)
+runs-end e s (f ∷ X) h = runs-by X (λ r. r ≡ s ∷ grouped (f ∷ X)) (lt-le (h .0)) (λ k. absurd (lt-not-same (h .0) k)) (λ k. unfold grouped in refl)
 
 -- each run is one edge
 grouped-strict : {l : List Pt} → Sorted Lt l → grouped l ≡ l
@@ -57,11 +57,11 @@ grouped-strict {l = e ∷ l} s = runs-end e e l (s .0) ∙ ap (λ r. e ∷ r) (g
 stepped-first : {f : Pt} (m l : List Pt) → Nz f → All Nz m → All (Lt f) m → stepped m (f ∷ l) ≡ f ∷ stepped m l
 unfolding stepped
 stepped-first [] l nf nm h = refl
-stepped-first {f} (g ∷ m) l nf nm h = step-by g (stepped m) l (λ r. r ≡ f ∷ stepOne g (stepped m) l) (nm .0) nf (λ k. refl) (λ k. absurd (clash (h .0) k))
+stepped-first {f} (g ∷ m) l nf nm h = step-by g (stepped m) (λ r. r ≡ f ∷ stepOne g (stepped m) l) (nm .0) nf (λ k. refl) (λ k. absurd (clash (h .0) k))
 
 -- ---- the merges agree
 
-module _ (e : Pt) (m : List Pt) (ne : Nz e) (nm : All Nz m) (em : All (Lt e) m)
+module _ {e : Pt} (m : List Pt) (ne : Nz e) (nm : All Nz m) (em : All (Lt e) m)
     (rest : (l : List Pt) → All Nz l → Sorted Lt l → mergeByAngle m l ≡ grouped (stepped m l)) where
   -- e first, and alone in its direction
   alone : (l : List Pt) → All Nz l → Sorted Lt l → All (Lt e) l → e ∷ mergeByAngle m l ≡ grouped (e ∷ stepped m l)
@@ -74,7 +74,7 @@ module _ (e : Pt) (m : List Pt) (ne : Nz e) (nm : All Nz m) (em : All (Lt e) m)
   added {f} l nf nl fl sl s =
       ap (λ r. (e +ᵖ f) ∷ r) (rest l nl sl)
       ∙ sym (ap (runs e e) (stepped-first m l nf nm (all-map2 m (λ g n k. same-lt nf ne n (same-sym s) k) nm em))
-      ∙ runs-by e (stepped m l) (λ r. r ≡ (e +ᵖ f) ∷ grouped (stepped m l)) (same-le s .0)
+      ∙ runs-by (stepped m l) (λ r. r ≡ (e +ᵖ f) ∷ grouped (stepped m l)) (same-le s .0)
       (λ k. runs-end e (e +ᵖ f) (stepped m l) (all-stepped (Lt e) m l em (all-map2 l (λ g n k. same-lt ne nf n s k) nl fl))) (λ k. absurd (lt-not-same k s)))
 
   -- one edge of either list, or both on equality
@@ -82,7 +82,7 @@ module _ (e : Pt) (m : List Pt) (ne : Nz e) (nm : All Nz m) (em : All (Lt e) m)
   unfolding mergeOne stepOne grouped
   merge-front [] nl sl = alone [] nl sl tt
   merge-front (f ∷ l) nl sl =
-      step-by e (stepped m) l (λ r. mergeOne e (mergeByAngle m) (f ∷ l) ≡ grouped r) ne (nl .0)
+      step-by e (stepped m) (λ r. mergeOne e (mergeByAngle m) (f ∷ l) ≡ grouped r) ne (nl .0)
       (λ k. elim (angle-cases e f) [
         | before t x ↦ absurd (clash k (lt-le x))
         | beside t x ↦ absurd (clash k (same-le x .0))
@@ -102,7 +102,7 @@ module _ (e : Pt) (m : List Pt) (ne : Nz e) (nm : All Nz m) (em : All (Lt e) m)
 merge-grouped : (m l : List Pt) → All Nz m → All Nz l → Sorted Lt m → Sorted Lt l → mergeByAngle m l ≡ grouped (stepped m l)
 unfolding mergeByAngle stepped
 merge-grouped [] l nm nl sm sl = sym (grouped-strict sl)
-merge-grouped (e ∷ m) l nm nl sm sl = merge-front e m (nm .0) (nm .1) (sm .0) (λ l nl sl. merge-grouped m l (nm .1) nl (sm .1) sl) l nl sl
+merge-grouped (e ∷ m) l nm nl sm sl = merge-front m (nm .0) (nm .1) (sm .0) (λ l nl sl. merge-grouped m l (nm .1) nl (sm .1) sl) l nl sl
 
 -- de Berg et al.'s merge is the join
 pub berg-join : (m l : List Pt) → All Nz m → All Nz l → Sorted Lt m → Sorted Lt l → mergeByAngle m l ≡ join m l

@@ -56,7 +56,7 @@ module _ {P Q : Pt} {A B E F : List Pt} (a : Outline P A E) (b : Outline Q B F) 
 
   -- each corner is in every list with those reaches
   inside : (L : List Pt) → SameReach A B L → All (In L) K
-  inside L h = contains L (h .nonempty) (P +ᵖ Q) (join E F) c s (λ d. h .adds d ∙ sym (adds d))
+  inside L h = contains (h .nonempty) (P +ᵖ Q) c s (λ d. h .adds d ∙ sym (adds d))
 
   -- demand 3, of the contours A and B that P, E and Q, F stand for
   pub farthest-outlines : FarthestReach (P +ᵖ Q) A B (cornersFrom (P +ᵖ Q) (join E F))

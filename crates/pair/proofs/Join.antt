@@ -45,15 +45,15 @@ module _ (a : Pt) (k : List Pt → List Pt) where
   step-first b l h z t = rw (h, z, t)
 
   -- either edge
-  step-any : (b : Pt) (l : List Pt) (Q : List Pt → Type 0) → Q (b ∷ stepOne a k l) → Q (a ∷ k (b ∷ l)) → Q (stepOne a k (b ∷ l))
-  step-any b l Q g h =
+  step-any : {b : Pt} {l : List Pt} (Q : List Pt → Type 0) → Q (b ∷ stepOne a k l) → Q (a ∷ k (b ∷ l)) → Q (stepOne a k (b ∷ l))
+  step-any {b} {l} Q g h =
       by-test (isZero a) (λ z. subst Q (sym (step-zero (b ∷ l) z)) h)
       (λ z. by-test (isZero b) (λ y. subst Q (sym (step-past b l z y)) g)
       (λ y. by-test (isGreater (angleCmp a b)) (λ t. subst Q (sym (step-second b l z y t)) g) (λ t. subst Q (sym (step-first b l z y t)) h)))
 
   -- the lesser of two that are not zero, the first on equality
-  pub step-by : {b : Pt} (l : List Pt) (Q : List Pt → Type 0) → Nz a → Nz b → (Lt b a → Q (b ∷ stepOne a k l)) → (Le a b → Q (a ∷ k (b ∷ l))) → Q (stepOne a k (b ∷ l))
-  step-by {b} l Q na nb g h = elim (angle-cases a b) [
+  pub step-by : {b : Pt} {l : List Pt} (Q : List Pt → Type 0) → Nz a → Nz b → (Lt b a → Q (b ∷ stepOne a k l)) → (Le a b → Q (a ∷ k (b ∷ l))) → Q (stepOne a k (b ∷ l))
+  step-by {b} {l} Q na nb g h = elim (angle-cases a b) [
     | before e x ↦ subst Q (sym (step-first b l (not-zero na) (not-zero nb) (ap isGreater e))) (h (lt-le x))
     | beside e x ↦ subst Q (sym (step-first b l (not-zero na) (not-zero nb) (ap isGreater e))) (h (same-le x .0))
     | after e x ↦ subst Q (sym (step-second b l (not-zero na) (not-zero nb) (ap isGreater e))) (g x)
@@ -65,18 +65,18 @@ module _ (a : Pt) (k : List Pt → List Pt) where
 -- ---- the steps of two lists
 
 -- one edge of the first list taken in
-step-perm : (a : Pt) (k : List Pt → List Pt) (m : List Pt) → ((l : List Pt) → List·Permᴰ (k l) (m ++ l)) → (l : List Pt) → List·Permᴰ (stepOne a k l) (a ∷ m ++ l)
+step-perm : (a : Pt) {k : List Pt → List Pt} (m : List Pt) → ((l : List Pt) → List·Permᴰ (k l) (m ++ l)) → (l : List Pt) → List·Permᴰ (stepOne a k l) (a ∷ m ++ l)
 unfolding stepOne
-step-perm a k m h [] = List·Permᴰ·cons refl (h [])
-step-perm a k m h (b ∷ l) =
-    step-any a k b l (λ r. List·Permᴰ r (a ∷ m ++ b ∷ l))
-    (List·Permᴰ·trans (List·Permᴰ·cons refl (step-perm a k m h l)) (Permᴰ·symm (Permᴰ·middle b (a ∷ m) l))) (List·Permᴰ·cons refl (h (b ∷ l)))
+step-perm a {k} m h [] = List·Permᴰ·cons refl (h [])
+step-perm a {k} m h (b ∷ l) =
+    step-any a k (λ r. List·Permᴰ r (a ∷ m ++ b ∷ l))
+    (List·Permᴰ·trans (List·Permᴰ·cons refl (step-perm a m h l)) (Permᴰ·symm (Permᴰ·middle b (a ∷ m) l))) (List·Permᴰ·cons refl (h (b ∷ l)))
 
 -- all edges of both, in another order
 pub perm-stepped : (m l : List Pt) → List·Permᴰ (stepped m l) (m ++ l)
 unfolding stepped
 perm-stepped [] l = Permᴰ·refl l
-perm-stepped (a ∷ m) l = step-perm a (stepped m) m (perm-stepped m) l
+perm-stepped (a ∷ m) l = step-perm a m (perm-stepped m) l
 
 -- so what holds of both lists' edges holds of all
 pub all-stepped : (Q : Pt → Type 0) (m l : List Pt) → All Q m → All Q l → All Q (stepped m l)
@@ -91,7 +91,7 @@ ascends-stepped (a ∷ m) l nm nl am al = with-front (λ l nl al. ascends-steppe
     with-front : ((l : List Pt) → All Nz l → Sorted Le l → Sorted Le (stepped m l)) → (l : List Pt) → All Nz l → Sorted Le l → Sorted Le (stepOne a (stepped m) l)
     with-front rest [] nl al = unfold stepOne in (all-stepped (Le a) m [] (am .0) tt, rest [] tt tt)
     with-front rest (b ∷ l) nl al =
-        step-by a (stepped m) l (Sorted Le) (nm .0) (nl .0)
+        step-by a (stepped m) (Sorted Le) (nm .0) (nl .0)
         (λ x. (all-stepped (Le b) (a ∷ m) l (lt-le x, all-map2 m (λ e n k. le-trans (nl .0) (nm .0) n (lt-le x) k) (nm .1) (am .0)) (al .0), with-front rest l (nl .1) (al .1)))
         (λ x. (all-stepped (Le a) m (b ∷ l) (am .0) (x, all-map2 l (λ e n k. le-trans (nm .0) (nl .0) n x k) (nl .1) (al .0)), rest (b ∷ l) nl al))
 
@@ -123,9 +123,9 @@ grouped-live-stepped m l = ap grouped (live-stepped m l)
 -- ---- runs of one direction
 
 -- the next edge in the run's direction, or after it
-pub runs-by : {d : Pt} (s : Pt) {f : Pt} (l : List Pt) (Q : List Pt → Type 0) → Le d f → (Same d f → Q (runs d (s +ᵖ f) l)) → (Lt d f → Q (s ∷ runs f f l)) → Q (runs d s (f ∷ l))
+pub runs-by : {d : Pt} {s : Pt} {f : Pt} (l : List Pt) (Q : List Pt → Type 0) → Le d f → (Same d f → Q (runs d (s +ᵖ f) l)) → (Lt d f → Q (s ∷ runs f f l)) → Q (runs d s (f ∷ l))
 unfolding runs
-runs-by {d} s {f} l Q le g h = elim (angle-cases d f) [
+runs-by {d} {s} {f} l Q le g h = elim (angle-cases d f) [
   | before e x ↦ subst (λ o. Q (cond (isEqual o) (runs d (s +ᵖ f) l) (s ∷ runs f f l))) (sym e) (h x)
   | beside e x ↦ subst (λ o. Q (cond (isEqual o) (runs d (s +ᵖ f) l) (s ∷ runs f f l))) (sym e) (g x)
   | after e x ↦ absurd (clash x le)
@@ -175,7 +175,7 @@ grouped-next {s} ns sl g = record {
 runs-is : {d s : Pt} (l : List Pt) → Nz d → Nz s → Same s d → All Nz l → All (Le d) l → Sorted Le l → Grouped (s ∷ l) (runs d s l)
 runs-is [] nd ns e nl dl al = unfold runs in record { nonzero = (ns, tt); strict = (tt, tt); above = λ c nc h. h; totals = λ p dp. refl; lines = λ v h. h }
 runs-is {d} {s} (f ∷ l) nd ns e nl dl al =
-    runs-by s l (Grouped (s ∷ f ∷ l)) (dl .0)
+    runs-by l (Grouped (s ∷ f ∷ l)) (dl .0)
     (λ k. let t : Same s f = same-trans ns nd (nl .0) e k in
     let a : AddSame s f = add-same ns (nl .0) t in
     grouped-two ns (nl .0) t

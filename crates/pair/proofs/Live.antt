@@ -70,24 +70,24 @@ live-negᵖ (e ∷ l) = by-test (isZero e)
     (λ z. live-keep (negᵖ e) (map negᵖ l) (isZero-negᵖ e ∙ z) ∙ ap (λ r. negᵖ e ∷ r) (live-negᵖ l) ∙ ap (map negᵖ) (sym (live-keep e l z)))
 
 -- either
-pub live-by : (e : Pt) (l : List Pt) (Q : List Pt → Type 0) → (e ≡ O → Q (live l)) → (Nz e → Q (e ∷ live l)) → Q (live (e ∷ l))
-live-by e l Q f g =
+pub live-by : {e : Pt} (l : List Pt) (Q : List Pt → Type 0) → (e ≡ O → Q (live l)) → (Nz e → Q (e ∷ live l)) → Q (live (e ∷ l))
+live-by {e} l Q f g =
     by-test (isZero e) (λ h. subst Q (sym (live-zero e l h)) (f (isZero-true e h))) (λ h. subst Q (sym (live-keep e l h)) (g (nz-of-test e h)))
 
 -- they are nonzero
 pub live-nz : (l : List Pt) → All Nz (live l)
 live-nz [] = unfold live in tt
-live-nz (e ∷ l) = live-by e l (All Nz) (λ h. live-nz l) (λ h. (h, live-nz l))
+live-nz (e ∷ l) = live-by l (All Nz) (λ h. live-nz l) (λ h. (h, live-nz l))
 
 -- they are all where none is zero
 pub live-all : {l : List Pt} → All Nz l → live l ≡ l
 live-all {l = []} n = unfold live in refl
-live-all {l = e ∷ l} n = live-by e l (λ r. r ≡ e ∷ l) (λ h. absurd (nz-not-zero (n .0) h)) (λ h. ap (λ r. e ∷ r) (live-all {l = l} (n .1)))
+live-all {l = e ∷ l} n = live-by l (λ r. r ≡ e ∷ l) (λ h. absurd (nz-not-zero (n .0) h)) (λ h. ap (λ r. e ∷ r) (live-all {l = l} (n .1)))
 
 -- zero edges add nothing
 pub sum-live : (l : List Pt) → sumᵖ (live l) ≡ sumᵖ l
 unfolding sumᵖ
 sum-live [] = unfold live in refl
 sum-live (e ∷ l) =
-    live-by e l (λ r. sumᵖ r ≡ e +ᵖ sumᵖ l) (λ h. sum-live l ∙ sym (ap (λ v. v +ᵖ sumᵖ l) h ∙ zero-+ᵖ (sumᵖ l)))
+    live-by l (λ r. sumᵖ r ≡ e +ᵖ sumᵖ l) (λ h. sum-live l ∙ sym (ap (λ v. v +ᵖ sumᵖ l) h ∙ zero-+ᵖ (sumᵖ l)))
     (λ h. ap (λ v. e +ᵖ v) (sum-live l))

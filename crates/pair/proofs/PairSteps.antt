@@ -233,8 +233,8 @@ module _ (A B : List Pt) where
   -- ---- more fuel changes nothing
 
   -- any two numbers of steps that are enough emit the same
-  pub emit-enough : (n m : ℕ) (s : ConvexSum) → stepsLeft s ≤ n → stepsLeft s ≤ m → emit n A B s ≡ emit m A B s
-  emit-enough n m s h k = emit-is n s h ∙ sym (emit-is m s k)
+  pub emit-enough : {n m : ℕ} (s : ConvexSum) → stepsLeft s ≤ n → stepsLeft s ≤ m → emit n A B s ≡ emit m A B s
+  emit-enough {n} {m} s h k = emit-is n s h ∙ sym (emit-is m s k)
 
   -- a run stops by itself
   pub run-enough : (n : ℕ) (h : Heading) (s : ConvexSum) → stepsLeft s ≤ n → run n A B h s ≡ run (stepsLeft s) A B h s

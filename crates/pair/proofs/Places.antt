@@ -144,7 +144,7 @@ handed-onward l reflected s (suc k) m {i} h g =
     let next : ℕ = cond (eqb (suc i) (length l)) 0 (suc i) in
     let rest : List Pt = drop (suc i) (edges l) ++ take i (edges l) in
     let fits : k ≤ length rest = omega (arith, length-append (drop (suc i) (edges l)) (take i (edges l)), length-drop (suc i) (edges l), length-take-le i (edges l) (omega arith)) in
-    let after : rotate next (edges l) ≡ rest ++ (getD (edges l) i O ∷ []) = rw n at (rotate-after {k = i} (edges l) O (omega arith)) in
+    let after : rotate next (edges l) ≡ rest ++ (getD (edges l) i O ∷ []) = rw n at (rotate-after i (edges l) O (omega arith)) in
     ap₂ _∷_ (ap (turned reflected) (sym (getD-edges l g)))
     (handed-onward l reflected s k (m - 1) (omega arith) (valid-next {n = length l} {w = around false reflected i m i} (record { index = g; start = g; end = g }))
     ∙ ap (λ r. map (turned reflected) (take k r)) after ∙ ap (map (turned reflected)) (take-append-le k rest (getD (edges l) i O ∷ []) fits))

@@ -89,7 +89,7 @@ corners-nonempty P {E = e ∷ l} c h = let z : _≡_ {A = ℕ} 0 1 = cc in omega
 -- ---- no corner passes the cut: A, the edges before the corner, in any order; b ∷ B, those after
 -- it
 
-module _ (r : Pt) (nr : Nz r) (E : List Pt) (c : Convex E) (A : List Pt) (b : Pt) (B : List Pt) (s : Split Le E A (b ∷ B)) where
+module _ {r : Pt} (nr : Nz r) {E : List Pt} (c : Convex E) {A : List Pt} {b : Pt} {B : List Pt} (s : Split Le E A (b ∷ B)) where
   nA : All Nz A
   nA = split-all Nz s (c .nonzero) .0
 
@@ -159,13 +159,13 @@ module _ (r : Pt) (nr : Nz r) (E : List Pt) (c : Convex E) (A : List Pt) (b : Pt
 
 -- ---- the reach of a contour
 
-module _ (r : Pt) (nr : Nz r) (P : Pt) (E : List Pt) (c : Convex E) where
+module _ {r : Pt} (nr : Nz r) (P : Pt) {E : List Pt} (c : Convex E) where
   -- of the corners from q = P + ΣA on
   bound-from : {A B : List Pt} {q : Pt} → Split Le E A B → q ≡ P +ᵖ sumᵖ A → All (λ p. cross p r ≤ℤ cross (P +ᵖ cut r E) r) (cornersFrom q B)
   unfolding cornersFrom
   bound-from {B = []} s e = tt
   bound-from {A} {B = b ∷ B} s e = (
-    subst (λ v. cross v r ≤ℤ cross (P +ᵖ cut r E) r) (sym e) (shift P (sumᵖ A) (cut r E) r (no-corner-passes r nr E c A b B s)),
+    subst (λ v. cross v r ≤ℤ cross (P +ᵖ cut r E) r) (sym e) (shift P (sumᵖ A) (cut r E) r (no-corner-passes nr c s)),
     bound-from (split-next s) (ap (λ v. v +ᵖ b) e ∙ +ᵖ-next P (sumᵖ A) b ∙ ap (λ v. P +ᵖ v) (sym (sum-cons b A))),
   )
     where
@@ -198,7 +198,7 @@ cut-corner nr P {E = e ∷ l} c = ⊎-elim (λ a. a) (λ a. inl (sym (ap (λ v. 
 pub reach-corners : (d P : Pt) {E : List Pt} → Nz (rot d) → Convex E → reach d (cornersFrom P E) ≡ dot d (P +ᵖ cut (rot d) E)
 reach-corners d P {E} n c =
     reach-is d (cornersFrom P E) (dot d (P +ᵖ cut (rot d) E))
-    (all-map (cornersFrom P E) (λ q k. subst₂ _≤ℤ_ (cross-rot q d) (cross-rot (P +ᵖ cut (rot d) E) d) k) (corner-bound (rot d) n P E c))
+    (all-map (cornersFrom P E) (λ q k. subst₂ _≤ℤ_ (cross-rot q d) (cross-rot (P +ᵖ cut (rot d) E) d) k) (corner-bound n P c))
     (any-map (cornersFrom P E) (λ q k. ap (dot d) k) (cut-corner n P c))
 
 -- a quarter turn of d is 0, so d is

@@ -89,7 +89,7 @@ module _ (l : List Pt) (s : ℕ) (least : All (λ c. below c (cornerAt l s) ≡ 
   -- W is the outline of l
   outline-reading : Outline (cornerAt l s) l (live (edges W))
   outline-reading =
-      let o : Outline (cornerAt l s) W (live (edges W)) = subst (λ r. Outline (cornerAt l s) r (live (edges r))) (sym begins) (outline-read (cornerAt l s) t from round') in
+      let o : Outline (cornerAt l s) W (live (edges W)) = subst (λ r. Outline (cornerAt l s) r (live (edges r))) (sym begins) (outline-read t from round') in
       record {
         convex = o .convex;
         reaches = λ d. reach-perm d filled perm ∙ o .reaches d;
@@ -101,9 +101,9 @@ module _ (l : List Pt) (s : ℕ) (least : All (λ c. below c (cornerAt l s) ≡ 
 
   -- and its winding is above 0
   winding-reading : pos 0 <ℤ windingOf (cornerAt l s) W
-  winding-reading = subst (λ r. pos 0 <ℤ windingOf (cornerAt l s) r) (sym begins) (winding-read (cornerAt l s) t from round')
+  winding-reading = subst (λ r. pos 0 <ℤ windingOf (cornerAt l s) r) (sym begins) (winding-read t from round')
 
-module _ (l : List Pt) (s : ℕ) (h : s < length l) (least : All (λ c. below c (cornerAt l s) ≡ false) l) where
+module _ (l : List Pt) {s : ℕ} (h : s < length l) (least : All (λ c. below c (cornerAt l s) ≡ false) l) where
   -- backwards from s begins there too
   backwards-at : backwards (rotate s l) ≡ cornerAt l s ∷ reverse (drop (suc s) l ++ take s l)
   backwards-at = ap backwards (rotate-at l O h) ∙ backwards-cons (cornerAt l s) (drop (suc s) l ++ take s l)

@@ -65,16 +65,16 @@ perm-in {a} {b} p = all-map a (λ c h. any-perm (λ q. q ≡ c) p h) (in-self a)
 -- neighbours are before one another, and the order is transitive
 strict : {E : List Pt} → Convex E → All (λ c. pos 0 <ℤ cross (c .0) (c .1)) (neighbours E) → Sorted Lt E
 strict {E = []} c h = tt
-strict {E = e ∷ l} c h = along e l (c .nonzero) (c .ascends) (all-perm (λ c. pos 0 <ℤ cross (c .0) (c .1)) (perm-last e l) h .1)
+strict {E = e ∷ l} c h = along l (c .nonzero) (c .ascends) (all-perm (λ c. pos 0 <ℤ cross (c .0) (c .1)) (perm-last e l) h .1)
   where
     level-no : {k : ℤ} → pos 0 <ℤ k → k ≡ pos 0 → ⊥
     level-no h e = omega zarith
 
-    along : (e : Pt) (l : List Pt) → All Nz (e ∷ l) → Sorted Le (e ∷ l) → All (λ c. pos 0 <ℤ cross (c .0) (c .1)) (links e l) → Sorted Lt (e ∷ l)
-    along e [] n a h = (tt, tt)
-    along e (f ∷ l) n a h =
+    along : {e : Pt} (l : List Pt) → All Nz (e ∷ l) → Sorted Le (e ∷ l) → All (λ c. pos 0 <ℤ cross (c .0) (c .1)) (links e l) → Sorted Lt (e ∷ l)
+    along {e} [] n a h = (tt, tt)
+    along {e} (f ∷ l) n a h =
         let t : (pos 0 <ℤ cross e f) × All (λ c. pos 0 <ℤ cross (c .0) (c .1)) (links f l) = unfold links in h in
-        let r = along f l (n .1) (a .1) (t .1) in
+        let r = along l (n .1) (a .1) (t .1) in
         let k : Lt e f = le-lt (a .0 .0) (level-no (t .0)) in
         ((k, all-map2 l (λ g m j. lt-trans (n .0) (n .1 .0) m k j) (n .1 .1) (r .0)), r)
 
@@ -129,10 +129,10 @@ perm-edges-rotate k l = subst (λ r. List·Permᴰ r (edges l)) (sym (edges-rota
 perm-turns-rotate : (k : ℕ) (l : List Pt) → List·Permᴰ (neighbours (edges (rotate k l))) (neighbours (edges l))
 perm-turns-rotate k l = subst (λ r. List·Permᴰ (neighbours r) (neighbours (edges l))) (sym (edges-rotate k l)) (perm-neighbours-rotate k (edges l))
 
-module _ (l : List Pt) (h : strictlyConvex l ≡ true) (s : ℕ) (k : s < length l) (least : All (λ c. below c (cornerAt l s) ≡ false) l) where
+module _ (l : List Pt) (h : strictlyConvex l ≡ true) {s : ℕ} (k : s < length l) (least : All (λ c. below c (cornerAt l s) ≡ false) l) where
   -- from a least corner the edges are convex
   convex-on : Convex (live (edges (rotate s l)))
-  convex-on = outline-on l s k least (sharp-round l h) .convex
+  convex-on = outline-on l k least (sharp-round l h) .convex
 
   -- and none is zero
   pub sharp-live-on : live (edges (rotate s l)) ≡ edges (rotate s l)
@@ -144,7 +144,7 @@ module _ (l : List Pt) (h : strictlyConvex l ≡ true) (s : ℕ) (k : s < length
 
 -- ---- where the reverse is strictly convex
 
-module _ (l : List Pt) (h : strictlyConvex (reverse l) ≡ true) (s : ℕ) (k : s < length l) (least : All (λ c. below c (cornerAt l s) ≡ false) l) where
+module _ (l : List Pt) (h : strictlyConvex (reverse l) ≡ true) {s : ℕ} (k : s < length l) (least : All (λ c. below c (cornerAt l s) ≡ false) l) where
   -- backwards from s are the reverse's edges, in another order
   same-back : List·Permᴰ (edges (backwards (rotate s l))) (edges (reverse l))
   same-back = backwards-readings s l (λ r. List·Permᴰ (edges r) (edges (reverse l))) (λ j r p. List·Permᴰ·trans (perm-edges-rotate j r) p) (Permᴰ·refl (edges (reverse l)))
@@ -157,7 +157,7 @@ module _ (l : List Pt) (h : strictlyConvex (reverse l) ≡ true) (s : ℕ) (k : 
 
   -- convex from a least corner
   convex-back : Convex (live (edges (backwards (rotate s l))))
-  convex-back = outline-back l s k least (sharp-round (reverse l) h) .convex
+  convex-back = outline-back l k least (sharp-round (reverse l) h) .convex
 
   -- backwards from a least corner the edges ascend strictly
   pub sharp-live-back : live (edges (backwards (rotate s l))) ≡ edges (backwards (rotate s l))
@@ -168,11 +168,11 @@ module _ (l : List Pt) (h : strictlyConvex (reverse l) ≡ true) (s : ℕ) (k : 
   sharp-ascends-back = ascends-reading (reverse l) h (backwards (rotate s l)) same-back turns-back convex-back
 
   -- which is the reverse read onward from its own least corner
-  module _ (j : ℕ) (i : j < length (reverse l)) (first : All (λ c. below c (cornerAt (reverse l) j) ≡ false) (reverse l)) where
+  module _ {j : ℕ} (i : j < length (reverse l)) (first : All (λ c. below c (cornerAt (reverse l) j) ≡ false) (reverse l)) where
     pub sharp-back : edges (backwards (rotate s l)) ≡ edges (rotate j (reverse l))
     sharp-back =
         let p : List·Permᴰ (edges (backwards (rotate s l))) (edges (rotate j (reverse l))) = List·Permᴰ·trans same-back (Permᴰ·symm (perm-edges-rotate j (reverse l))) in
-        sorted-unique sharp-ascends-back (sharp-ascends (reverse l) h j i first) (perm-in p) (perm-in (Permᴰ·symm p))
+        sorted-unique sharp-ascends-back (sharp-ascends (reverse l) h i first) (perm-in p) (perm-in (Permᴰ·symm p))
 
     pub sharp-back-start : cornerAt l s ≡ cornerAt (reverse l) j
     sharp-back-start =

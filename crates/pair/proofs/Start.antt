@@ -135,21 +135,21 @@ pub record Greatest (l : List Pt) (n b : ℕ) : Type 0 where
 
 module _ (l : List Pt) where
   -- what holds of each place below n, and of n, holds of each below n + 1
-  up-to : (P : ℕ → Type 0) {n : ℕ} → ((i : ℕ) → i < n → P i) → P n → (i : ℕ) → i < suc n → P i
-  up-to P f p i h = ⊎-elim (λ e. subst P (sym e) p) (λ k. f i k) (eq-or-lt-of-le (le-of-suc-le-suc h))
+  up-to : {P : ℕ → Type 0} {n : ℕ} → ((i : ℕ) → i < n → P i) → P n → (i : ℕ) → i < suc n → P i
+  up-to {P} f p i h = ⊎-elim (λ e. subst P (sym e) p) (λ k. f i k) (eq-or-lt-of-le (le-of-suc-le-suc h))
 
   -- of one corner
   least-one : Least l 1 0
   least-one = record {
     inside = omega arith;
-    lowest = up-to (λ i. below (cornerAt l i) (cornerAt l 0) ≡ false) (λ i h. absurd (omega arith)) (below-irrefl (cornerAt l 0));
+    lowest = up-to (λ i h. absurd (omega arith)) (below-irrefl (cornerAt l 0));
     first = λ i h. absurd (omega arith);
   }
 
   greatest-one : Greatest l 1 0
   greatest-one = record {
     inside = omega arith;
-    highest = up-to (λ i. below (cornerAt l 0) (cornerAt l i) ≡ false) (λ i h. absurd (omega arith)) (below-irrefl (cornerAt l 0));
+    highest = up-to (λ i h. absurd (omega arith)) (below-irrefl (cornerAt l 0));
     last = λ i h k. absurd (omega arith);
   }
 
@@ -157,7 +157,7 @@ module _ (l : List Pt) where
   least-moved : {n b : ℕ} → Least l n b → below (cornerAt l n) (cornerAt l b) ≡ true → Least l (suc n) n
   least-moved {n} {b} r h = record {
     inside = omega arith;
-    lowest = up-to (λ i. below (cornerAt l i) (cornerAt l n) ≡ false)
+    lowest = up-to
         (λ i k. below-asym (cornerAt l n) (cornerAt l i) (over i k)) (below-irrefl (cornerAt l n));
     first = over;
   }
@@ -168,7 +168,7 @@ module _ (l : List Pt) where
   least-kept : {n b : ℕ} → Least l n b → below (cornerAt l n) (cornerAt l b) ≡ false → Least l (suc n) b
   least-kept {b} r h = record {
     inside = omega (arith, r .inside);
-    lowest = up-to (λ i. below (cornerAt l i) (cornerAt l b) ≡ false) (r .lowest) h;
+    lowest = up-to (r .lowest) h;
     first = r .first;
   }
 
@@ -176,14 +176,14 @@ module _ (l : List Pt) where
   greatest-kept : {n b : ℕ} → Greatest l n b → below (cornerAt l n) (cornerAt l b) ≡ true → Greatest l (suc n) b
   greatest-kept {n} {b} r h = record {
     inside = omega (arith, r .inside);
-    highest = up-to (λ i. below (cornerAt l b) (cornerAt l i) ≡ false) (r .highest) (below-asym (cornerAt l n) (cornerAt l b) h);
-    last = λ i k m. up-to (λ i. b < i → below (cornerAt l i) (cornerAt l b) ≡ true) (λ i m k. r .last i k m) (λ k. h) i m k;
+    highest = up-to (r .highest) (below-asym (cornerAt l n) (cornerAt l b) h);
+    last = λ i k m. up-to {P = λ i. b < i → below (cornerAt l i) (cornerAt l b) ≡ true} (λ i m k. r .last i k m) (λ k. h) i m k;
   }
 
   greatest-moved : {n b : ℕ} → Greatest l n b → below (cornerAt l n) (cornerAt l b) ≡ false → Greatest l (suc n) n
   greatest-moved {n} {b} r h = record {
     inside = omega arith;
-    highest = up-to (λ i. below (cornerAt l n) (cornerAt l i) ≡ false) over (below-irrefl (cornerAt l n));
+    highest = up-to over (below-irrefl (cornerAt l n));
     last = λ i k m. absurd (omega arith);
   }
     where

@@ -47,7 +47,7 @@ one-descent {M = []} c s = absurd (convex-nonempty c refl)
 one-descent {M = e ∷ []} c s = absurd (nz-not-zero (c .nonzero .0) (sym (+ᵖ-zero e) ∙ c .closed))
 one-descent {M = e ∷ f ∷ l} c s =
     howMany-perm descent (perm-last e (f ∷ l)) ∙ count-cons descent (lastOf e (f ∷ l), e) (links e (f ∷ l))
-    ∙ ap₂ (λ b n. bit b + n) (lt-ahead (all-last (Lt e) f l (s .0)))
+    ∙ ap₂ (λ b n. bit b + n) (lt-ahead (all-last (Lt e) l (s .0)))
     (count-all descent (links e (f ∷ l)) (all-map (links e (f ∷ l)) (λ t h. le-behind (lt-le h)) (links-sorted Lt e (f ∷ l) s)))
 
 -- every turn to the left

@@ -68,7 +68,7 @@ corners-in : (p : Pt) (m : List Pt) → All (In (p ∷ m)) (cornersFrom p (live 
 unfolding links cornersFrom
 corners-in p [] = unfold live in tt
 corners-in p (r ∷ m) =
-    live-by (r -ᵖ p) (steps r m) (λ l. All (In (p ∷ r ∷ m)) (cornersFrom p l))
+    live-by (steps r m) (λ l. All (In (p ∷ r ∷ m)) (cornersFrom p l))
     (λ h. on (sub-zero h) (corners-in r m)) (λ h. (inl refl, on (sym (+ᵖ--ᵖ p r)) (corners-in r m)))
   where
     on : {v : Pt} → r ≡ v → All (In (r ∷ m)) (cornersFrom r (live (steps r m))) → All (In (p ∷ r ∷ m)) (cornersFrom v (live (steps r m)))
@@ -79,7 +79,7 @@ points-in : (p : Pt) (m : List Pt) → All (λ c. In (cornersFrom p (live (steps
 unfolding links cornersFrom lastOf
 points-in p [] = (inr refl, tt)
 points-in p (r ∷ m) =
-    live-by (r -ᵖ p) (steps r m) (λ l. All (λ c. In (cornersFrom p l) c ⊎ (c ≡ lastOf r m)) (p ∷ r ∷ m))
+    live-by (steps r m) (λ l. All (λ c. In (cornersFrom p l) c ⊎ (c ≡ lastOf r m)) (p ∷ r ∷ m))
     (λ h. subst (λ v. All (λ c. In (cornersFrom v (live (steps r m))) c ⊎ (c ≡ lastOf r m)) (v ∷ r ∷ m)) (sub-zero h) (points-in r m .0, points-in r m))
     (λ h. (inl (inl refl), all-map (r ∷ m) (λ c k. ⊎-elim (λ a. inl (inr (subst (λ v. In (cornersFrom v (live (steps r m))) c) (sym (+ᵖ--ᵖ p r)) a))) inr k) (points-in r m)))
 
@@ -102,7 +102,7 @@ crossings-live : (u : Pt) (l : List Pt) → sumℤ (crossings u (live l)) ≡ su
 unfolding crossings sumℤ
 crossings-live u [] = unfold live in refl
 crossings-live u (e ∷ l) =
-    live-by e l (λ r. sumℤ (crossings u r) ≡ cross u e +ℤ sumℤ (crossings (u +ᵖ e) l))
+    live-by l (λ r. sumℤ (crossings u r) ≡ cross u e +ℤ sumℤ (crossings (u +ᵖ e) l))
     (λ h. crossings-live u l ∙ nothing u (sumℤ (crossings u l)) ∙ (λ i. cross u (sym h i) +ℤ sumℤ (crossings ((sym (+ᵖ-zero u) ∙ ap (λ v. u +ᵖ v) (sym h)) i) l)))
     (λ h. ap (λ k. cross u e +ℤ k) (crossings-live (u +ᵖ e) l))
   where
@@ -179,7 +179,7 @@ convex-many s {e} {f} {l} n z from round = record {
   nonzero = n;
   ascends = no-descent (f ∷ l) (n .0) (n .1) (all-count descent (links e (f ∷ l)) none);
   closed = z;
-  wide = λ v nv h. ⊎-elim (λ k. zero-pos k (line-trans e g nv (line-swap e v (h .0)) (all-last (Line v) e (f ∷ l) h))) (λ k. clash falls (same-le k .0)) (forward-cases (g, e) onward);
+  wide = λ v nv h. ⊎-elim (λ k. zero-pos k (line-trans e g nv (line-swap e v (h .0)) (all-last (Line v) (f ∷ l) h))) (λ k. clash falls (same-le k .0)) (forward-cases (g, e) onward);
 }
   where
     zero-pos : {k : ℤ} → pos 0 <ℤ k → k ≡ pos 0 → ⊥
@@ -189,7 +189,7 @@ convex-many s {e} {f} {l} n z from round = record {
     g = lastOf e (f ∷ l)
 
     falls : Lt e g
-    falls = up-down g (first-up s f l (n .0) from) (last-down s e (f ∷ l) (all-last Nz e (f ∷ l) n) z from)
+    falls = up-down g (first-up s f l (n .0) from) (last-down s e (f ∷ l) (all-last Nz (f ∷ l) n) z from)
 
     none : howMany descent (links e (f ∷ l)) ≡ 0
     none =
@@ -211,7 +211,7 @@ convex-from s {E = e ∷ f ∷ l} n z from round = convex-many s n z from round
 
 -- ---- the table read from its least corner
 
-module _ (s : Pt) (t : List Pt) (least : All (From s) (s ∷ t)) (round : RoundEdges (live (edges (s ∷ t)))) where
+module _ {s : Pt} (t : List Pt) (least : All (From s) (s ∷ t)) (round : RoundEdges (live (edges (s ∷ t)))) where
   -- the corners of the nonzero edges are corners of the table
   corners-on : All (In (s ∷ t)) (cornersFrom s (live (edges (s ∷ t))))
   corners-on =

@@ -61,23 +61,23 @@ onward : (reflected : Bool) (l : List Pt) → RoundEdges (live (edges l)) → (p
 unfolding winding second throughOrigin
 onward false l r =
     let h : 0 < length l = filled l r in (
-      winding-on l (startAt false l) (start-inside false l h) (least-start l h) r,
-      subst (λ E. Outline (cornerAt l (startAt false l)) l (live E)) (sym (map-id (edges (rotate (startAt false l) l)))) (outline-on l (startAt false l) (start-inside false l h) (least-start l h) r),
+      winding-on l (start-inside false l h) (least-start l h) r,
+      subst (λ E. Outline (cornerAt l (startAt false l)) l (live E)) (sym (map-id (edges (rotate (startAt false l) l)))) (outline-on l (start-inside false l h) (least-start l h) r),
     )
 onward true l r =
     let h : 0 < length l = filled l r in
-    (winding-on-neg l (startAt true l) (start-inside true l h) (greatest-start l h) r, outline-on-neg l (startAt true l) (start-inside true l h) (greatest-start l h) r)
+    (winding-on-neg l (start-inside true l h) (greatest-start l h) r, outline-on-neg l (start-inside true l h) (greatest-start l h) r)
 
 back : (reflected : Bool) (l : List Pt) → RoundEdges (live (edges (reverse l))) → (winding reflected l <ℤ pos 0) × Outline (turned reflected (cornerAt l (startAt reflected l))) (second reflected l) (live (map (turned reflected) (edges (backwards (rotate (startAt reflected l) l)))))
 unfolding winding second throughOrigin
 back false l r =
     let h : 0 < length l = filled-back l r in (
-      winding-back l (startAt false l) (start-inside false l h) (least-start l h) r,
-      subst (λ E. Outline (cornerAt l (startAt false l)) l (live E)) (sym (map-id (edges (backwards (rotate (startAt false l) l))))) (outline-back l (startAt false l) (start-inside false l h) (least-start l h) r),
+      winding-back l (start-inside false l h) (least-start l h) r,
+      subst (λ E. Outline (cornerAt l (startAt false l)) l (live E)) (sym (map-id (edges (backwards (rotate (startAt false l) l))))) (outline-back l (start-inside false l h) (least-start l h) r),
     )
 back true l r =
     let h : 0 < length l = filled-back l r in
-    (winding-back-neg l (startAt true l) (start-inside true l h) (greatest-start l h) r, outline-back-neg l (startAt true l) (start-inside true l h) (greatest-start l h) r)
+    (winding-back-neg l (start-inside true l h) (greatest-start l h) r, outline-back-neg l (start-inside true l h) (greatest-start l h) r)
 
 walk-on : (reflected : Bool) (l : List Pt) (r : RoundEdges (live (edges l))) → walkEdges reflected l ≡ map (turned reflected) (edges (rotate (startAt reflected l) l))
 walk-on reflected l r = walk-onward reflected l (filled l r) (<-ltZ (onward reflected l r .0))
@@ -159,13 +159,13 @@ read-on l h =
     let r : RoundEdges (live (edges l)) = sharp-round l h in
     let f : 0 < length l = filled l r in
     let i : leastAt l < length l = start-inside false l f in
-    let way : cond (ltZ (contourArea l) (pos 0)) (reverse l) l ≡ l = ap (λ b. cond b (reverse l) l) (≤-ltZ {x = contourArea l} {y = pos 0} (<-≤ (subst (λ k. pos 0 <ℤ k) (winding-area (leastAt l) l) (winding-on l (leastAt l) i (least-all l f) r)))) in
+    let way : cond (ltZ (contourArea l) (pos 0)) (reverse l) l ≡ l = ap (λ b. cond b (reverse l) l) (≤-ltZ {x = contourArea l} {y = pos 0} (<-≤ (subst (λ k. pos 0 <ℤ k) (winding-area (leastAt l) l) (winding-on l i (least-all l f) r)))) in
     subst (λ c. Read l (rotate (leastAt c) c)) (sym way) (record {
       size = f;
       from = begin-point false l ∙ sym (corner-rotate l i);
-      along = ap live (walk-on false l r ∙ map-id (edges (rotate (leastAt l) l))) ∙ sharp-live-on l h (leastAt l) i (least-all l f);
-      nonzero = subst (All Nz) (sharp-live-on l h (leastAt l) i (least-all l f)) (outline-on l (leastAt l) i (least-all l f) r .convex .nonzero);
-      strict = sharp-ascends l h (leastAt l) i (least-all l f);
+      along = ap live (walk-on false l r ∙ map-id (edges (rotate (leastAt l) l))) ∙ sharp-live-on l h i (least-all l f);
+      nonzero = subst (All Nz) (sharp-live-on l h i (least-all l f)) (outline-on l i (least-all l f) r .convex .nonzero);
+      strict = sharp-ascends l h i (least-all l f);
     })
 
 read-back : (l : List Pt) → strictlyConvex (reverse l) ≡ true → Read l (fromLowest (anticlockwise l))
@@ -176,13 +176,13 @@ read-back l h =
     let g : 0 < length (reverse l) = filled (reverse l) r in
     let i : leastAt l < length l = start-inside false l f in
     let j : leastAt (reverse l) < length (reverse l) = start-inside false (reverse l) g in
-    let way : cond (ltZ (contourArea l) (pos 0)) (reverse l) l ≡ reverse l = ap (λ b. cond b (reverse l) l) (<-ltZ (subst (λ k. k <ℤ pos 0) (winding-area (leastAt l) l) (winding-back l (leastAt l) i (least-all l f) r))) in
+    let way : cond (ltZ (contourArea l) (pos 0)) (reverse l) l ≡ reverse l = ap (λ b. cond b (reverse l) l) (<-ltZ (subst (λ k. k <ℤ pos 0) (winding-area (leastAt l) l) (winding-back l i (least-all l f) r))) in
     subst (λ c. Read l (rotate (leastAt c) c)) (sym way) (record {
       size = f;
-      from = begin-point false l ∙ sharp-back-start l h (leastAt l) i (least-all l f) (leastAt (reverse l)) j (least-all (reverse l) g) ∙ sym (corner-rotate (reverse l) j);
-      along = ap live (walk-back false l r ∙ map-id (edges (backwards (rotate (leastAt l) l)))) ∙ sharp-live-back l h (leastAt l) i (least-all l f) ∙ sharp-back l h (leastAt l) i (least-all l f) (leastAt (reverse l)) j (least-all (reverse l) g);
-      nonzero = subst (All Nz) (sharp-live-on (reverse l) h (leastAt (reverse l)) j (least-all (reverse l) g)) (outline-on (reverse l) (leastAt (reverse l)) j (least-all (reverse l) g) r .convex .nonzero);
-      strict = sharp-ascends (reverse l) h (leastAt (reverse l)) j (least-all (reverse l) g);
+      from = begin-point false l ∙ sharp-back-start l h i (least-all l f) j (least-all (reverse l) g) ∙ sym (corner-rotate (reverse l) j);
+      along = ap live (walk-back false l r ∙ map-id (edges (backwards (rotate (leastAt l) l)))) ∙ sharp-live-back l h i (least-all l f) ∙ sharp-back l h i (least-all l f) j (least-all (reverse l) g);
+      nonzero = subst (All Nz) (sharp-live-on (reverse l) h j (least-all (reverse l) g)) (outline-on (reverse l) j (least-all (reverse l) g) r .convex .nonzero);
+      strict = sharp-ascends (reverse l) h j (least-all (reverse l) g);
     })
 
 read : {l : List Pt} → EitherWay l → Read l (fromLowest (anticlockwise l))

@@ -28,7 +28,7 @@ pub sum-cons : (e : Pt) (l : List Pt) → sumᵖ (e ∷ l) ≡ e +ᵖ sumᵖ l
 unfolding sumᵖ
 sum-cons e l = refl
 
-module _ (P : Pt → Type 0) (add : (a b : Pt) → P a → P b → P (a +ᵖ b)) where
+module _ {P : Pt → Type 0} (add : (a b : Pt) → P a → P b → P (a +ᵖ b)) where
   -- what holds of all and of sums of two holds of the sum
   pub sum-all : P O → (l : List Pt) → All P l → P (sumᵖ l)
   unfolding sumᵖ
@@ -36,10 +36,10 @@ module _ (P : Pt → Type 0) (add : (a b : Pt) → P a → P b → P (a +ᵖ b))
   sum-all z (e ∷ l) h = add e (sumᵖ l) (h .0) (sum-all z l (h .1))
 
   -- of at least one edge, without P of 0
-  pub sum-some : (e : Pt) (l : List Pt) → All P (e ∷ l) → P (sumᵖ (e ∷ l))
+  pub sum-some : {e : Pt} (l : List Pt) → All P (e ∷ l) → P (sumᵖ (e ∷ l))
   unfolding sumᵖ
-  sum-some e [] h = subst P (sym (+ᵖ-zero e)) (h .0)
-  sum-some e (f ∷ l) h = add e (sumᵖ (f ∷ l)) (h .0) (sum-some f l (h .1))
+  sum-some {e} [] h = subst P (sym (+ᵖ-zero e)) (h .0)
+  sum-some {e} (f ∷ l) h = add e (sumᵖ (f ∷ l)) (h .0) (sum-some l (h .1))
 
 -- ---- the edges whose direction passes a test
 
@@ -122,12 +122,12 @@ nn-add' {a} {b} e h k = omega (zarith, add-parts a b)
 module _ (r : Pt) where
   -- edges left of r add up left of it
   pub sum-left : (l : List Pt) → All (λ e. pos 0 ≤ℤ cross e r) l → pos 0 ≤ℤ cross (sumᵖ l) r
-  sum-left = sum-all (λ e. pos 0 ≤ℤ cross e r) (λ a b h k. nn-add' (cross-add-l a b r) h k)
+  sum-left = sum-all (λ a b h k. nn-add' (cross-add-l a b r) h k)
       (subst (λ z. pos 0 ≤ℤ z) (sym (cross-zero-l r)) (≤ℤ-refl (pos 0)))
 
   -- and those right of it right
   pub sum-right : (l : List Pt) → All (λ e. pos 0 ≤ℤ cross r e) l → pos 0 ≤ℤ cross r (sumᵖ l)
-  sum-right = sum-all (λ e. pos 0 ≤ℤ cross r e) (λ a b h k. nn-add' (cross-add-r r a b) h k)
+  sum-right = sum-all (λ a b h k. nn-add' (cross-add-r r a b) h k)
       (subst (λ z. pos 0 ≤ℤ z) (sym (cross-zero-r r)) (≤ℤ-refl (pos 0)))
 
   -- the edges before r lie left of it, so their sum does

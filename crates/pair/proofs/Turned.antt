@@ -156,7 +156,7 @@ rises-falls l =
 
 -- ---- once round, negated
 
-module _ (E : List Pt) (n : All Nz E) (h : RoundEdges E) where
+module _ {E : List Pt} (n : All Nz E) (h : RoundEdges E) where
   nz : All (λ c. Nz (c .0) × Nz (c .1)) (neighbours E)
   nz = all-neighbours Nz E n
 
@@ -209,9 +209,9 @@ winding-neg s l =
 
 -- the premise of a contour turned through the origin
 pub round-edges-neg : (l : List Pt) → RoundEdges (live (edges l)) → RoundEdges (live (edges (map negᵖ l)))
-round-edges-neg l h = subst RoundEdges (sym (ap live (edges-negᵖ l) ∙ live-negᵖ (edges l))) (round-neg (live (edges l)) (live-nz (edges l)) h)
+round-edges-neg l h = subst RoundEdges (sym (ap live (edges-negᵖ l) ∙ live-negᵖ (edges l))) (round-neg (live-nz (edges l)) h)
 
-module _ (l : List Pt) (s : ℕ) (h : s < length l) (greatest : All (λ c. below (cornerAt l s) c ≡ false) l) where
+module _ (l : List Pt) {s : ℕ} (h : s < length l) (greatest : All (λ c. below (cornerAt l s) c ≡ false) l) where
   -- as many corners
   inside : s < length (map negᵖ l)
   inside = subst (λ n. s < n) (sym (length-map l negᵖ)) h
@@ -232,17 +232,17 @@ module _ (l : List Pt) (s : ℕ) (h : s < length l) (greatest : All (λ c. below
 
   -- a reflected walk of a counter-clockwise contour: onward, and the winding is above 0
   pub outline-on-neg : RoundEdges (live (edges l)) → Outline (negᵖ (cornerAt l s)) (map negᵖ l) (live (map negᵖ (edges (rotate s l))))
-  outline-on-neg r = subst₂ (λ p E. Outline p (map negᵖ l) (live E)) (corner-neg l s) on-neg (outline-on (map negᵖ l) s inside least (round-edges-neg l r))
+  outline-on-neg r = subst₂ (λ p E. Outline p (map negᵖ l) (live E)) (corner-neg l s) on-neg (outline-on (map negᵖ l) inside least (round-edges-neg l r))
 
   pub winding-on-neg : RoundEdges (live (edges l)) → pos 0 <ℤ sumℤ (windingTerms s l)
-  winding-on-neg r = subst (λ k. pos 0 <ℤ sumℤ k) (winding-neg s l) (winding-on (map negᵖ l) s inside least (round-edges-neg l r))
+  winding-on-neg r = subst (λ k. pos 0 <ℤ sumℤ k) (winding-neg s l) (winding-on (map negᵖ l) inside least (round-edges-neg l r))
 
   -- of a clockwise one: backwards, and it is below 0
   pub outline-back-neg : RoundEdges (live (edges (reverse l))) → Outline (negᵖ (cornerAt l s)) (map negᵖ l) (live (map negᵖ (edges (backwards (rotate s l)))))
   outline-back-neg r =
       subst₂ (λ p E. Outline p (map negᵖ l) (live E)) (corner-neg l s)
       (ap (λ k. edges (backwards k)) (sym (map-rotate negᵖ s l)) ∙ ap edges (backwards-neg (rotate s l)) ∙ edges-negᵖ (backwards (rotate s l)))
-      (outline-back (map negᵖ l) s inside least (back-neg r))
+      (outline-back (map negᵖ l) inside least (back-neg r))
 
   pub winding-back-neg : RoundEdges (live (edges (reverse l))) → sumℤ (windingTerms s l) <ℤ pos 0
-  winding-back-neg r = subst (λ k. sumℤ k <ℤ pos 0) (winding-neg s l) (winding-back (map negᵖ l) s inside least (back-neg r))
+  winding-back-neg r = subst (λ k. sumℤ k <ℤ pos 0) (winding-neg s l) (winding-back (map negᵖ l) inside least (back-neg r))

@@ -72,8 +72,8 @@ module _ {M : List Pt} (c : Convex M) where
   up-corner {a} {b} {A} {B} s =
       let n = split-all Nz s (c .nonzero) in
       by-test (lower b)
-      (λ e. subst Up (sym (before-after s)) (sum-some (λ v. Up (negᵖ v)) down-add b B (nz-down (n .1 .0) e, all-map2 B (λ g m k. nz-down m (half-after k e)) (n .1 .1) (s .sorted .0))))
-      (λ e. sum-some Up (λ x y h k. up-add h k) a A (all-map2 (a ∷ A) (λ g m k. nz-up m (half-before k e)) (n .0) (split-before s)))
+      (λ e. subst Up (sym (before-after s)) (sum-some down-add B (nz-down (n .1 .0) e, all-map2 B (λ g m k. nz-down m (half-after k e)) (n .1 .1) (s .sorted .0))))
+      (λ e. sum-some (λ x y h k. up-add h k) A (all-map2 (a ∷ A) (λ g m k. nz-up m (half-before k e)) (n .0) (split-before s)))
 
   -- each edge before b is left of it, or each after b right of it
   pub left-weakly : {b : Pt} {A B : List Pt} → Split Le M A (b ∷ B) → pos 0 ≤ℤ cross (sumᵖ A) b
@@ -90,8 +90,8 @@ module _ {M : List Pt} (c : Convex M) where
       (λ e. subst (λ v. pos 0 <ℤ cross v b) (sym (before-after s))
       (subst (λ k. pos 0 <ℤ k) (sym (cross-neg-swap-l (sumᵖ (b ∷ d ∷ B)) b ∙ ap (cross b) (sum-cons b (d ∷ B)) ∙ cross-add-r b b (sumᵖ (d ∷ B))))
       (past (cross-self b)
-      (sum-some (λ g. pos 0 <ℤ cross b g) (λ x y. add-right b x y) d B (all-map (d ∷ B) (λ g k. lt-in-half (e ∙ sym (half-after (lt-le k) e)) .0 k) (s .sorted .0))))))
-      (λ e. sum-some (λ g. pos 0 <ℤ cross g b) (λ x y. add-left b x y) a A (all-map (a ∷ A) (λ g k. lt-in-half (half-before (lt-le k) e ∙ sym e) .0 k) (split-before s)))
+      (sum-some (λ x y. add-right b x y) B (all-map (d ∷ B) (λ g k. lt-in-half (e ∙ sym (half-after (lt-le k) e)) .0 k) (s .sorted .0))))))
+      (λ e. sum-some (λ x y. add-left b x y) A (all-map (a ∷ A) (λ g k. lt-in-half (half-before (lt-le k) e ∙ sym e) .0 k) (split-before s)))
     where
       past : {k : ℤ} {m : ℤ} → k ≡ pos 0 → pos 0 <ℤ m → pos 0 <ℤ (k +ℤ m)
       past {k} {m} e h = omega (zarith, add-parts k m)
@@ -129,9 +129,9 @@ distinct-sorted [] s = tt
 distinct-sorted (a ∷ l) s = (all-map l (λ b h e. lt-irrefl (subst (Lt a) (sym e) h)) (s .0), distinct-sorted l (s .1))
 
 -- a function that keeps points apart
-distinct-image : (f : Pt → Pt) → ((a b : Pt) → f a ≡ f b → a ≡ b) → (l : List Pt) → Distinct l → Distinct (map f l)
-distinct-image f i [] d = tt
-distinct-image f i (a ∷ l) d = (all-image (λ y. ¬ (f a ≡ y)) f l .1 (all-map l (λ b n e. n (i a b e)) (d .0)), distinct-image f i l (d .1))
+distinct-image : {f : Pt → Pt} → ((a b : Pt) → f a ≡ f b → a ≡ b) → (l : List Pt) → Distinct l → Distinct (map f l)
+distinct-image {f} i [] d = tt
+distinct-image {f} i (a ∷ l) d = (all-image (λ y. ¬ (f a ≡ y)) f l .1 (all-map l (λ b n e. n (i a b e)) (d .0)), distinct-image i l (d .1))
 
 -- the first cut is 0, the others rise
 distinct-cuts : {M : List Pt} → Convex M → Sorted Lt M → Distinct (map (λ g. cut g M) M)
@@ -146,4 +146,4 @@ distinct-cuts {M = e ∷ f ∷ l} c s =
 -- no two corners are equal
 pub distinct-corners : (P : Pt) {M : List Pt} → Convex M → Sorted Lt M → Distinct (cornersFrom P M)
 distinct-corners P {M} c s =
-    subst Distinct (map-map (λ v. P +ᵖ v) (λ g. cut g M) M ∙ sym (corners-cuts P M s)) (distinct-image (λ v. P +ᵖ v) (+ᵖ-cancel P) (map (λ g. cut g M) M) (distinct-cuts c s))
+    subst Distinct (map-map (λ v. P +ᵖ v) (λ g. cut g M) M ∙ sym (corners-cuts P M s)) (distinct-image (+ᵖ-cancel P) (map (λ g. cut g M) M) (distinct-cuts c s))

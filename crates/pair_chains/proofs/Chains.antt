@@ -110,7 +110,7 @@ module _ (points : List (List ℤ)) (numbers : List ℕ) (end : ℕ) where
   pub lane-less : (s : Lane) {r : Lane} → s .i + s .j < end → r ≡ after s → end - (r .i + r .j) < end - (s .i + s .j)
   lane-less s h e = subst (λ r. end - (r .i + r .j) < end - (s .i + s .j)) (sym e) (omega (arith, onward numbers (s .i) (s .j)))
 
-  module _ {whole : List Pt} {out₀ out : List ℤ} {k₀ : ℕ} (s : Lane) (a : Stands points numbers end whole out₀ k₀ s out) where
+  module _ {whole : List Pt} {out₀ out : List ℤ} {k₀ : ℕ} {s : Lane} (a : Stands points numbers end whole out₀ k₀ s out) where
     comes : s .i + s .j < end → contourFrom points numbers end (s .i) (s .j) ≡ cornerOf s ∷ contourFrom points numbers end (leftAfter numbers (s .i) (s .j)) (rightAfter numbers (s .i) (s .j))
     comes h = ap (along points) (chain-next numbers end (s .i) (s .j) h)
 

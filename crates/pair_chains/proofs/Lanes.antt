@@ -50,7 +50,7 @@ module _ (points : List (List ℤ)) (numbers : List ℕ) (x : Pair) where
   pub of-start : {s : Lane} {out : List ℤ} {k : ℕ} → Fits points numbers x out k → s ≡ laneOf x k → Of out k s out
   of-start {out} {k} f e = subst (λ s. Of out k s out) (sym e) (stands-start points numbers (x .end) (laneOf x k) out (f .runs))
 
-  module _ {out₀ out : List ℤ} {k₀ : ℕ} (s : Lane) (a : Of out₀ k₀ s out) where
+  module _ {out₀ out : List ℤ} {k₀ : ℕ} {s : Lane} (a : Of out₀ k₀ s out) where
     pub of-low : Buffers points numbers → Low s
     of-low b = low s (b .few) (a .runs)
 
@@ -58,16 +58,16 @@ module _ (points : List (List ℤ)) (numbers : List ℕ) (x : Pair) where
     of-turn b f t =
         let h = ltb-true (s .i + s .j) (x .end) t in
         let n = runs-next numbers (x .end) (a .runs) h in
-        (b, n .left, n .right, stands-room points numbers (x .end) s a h (f .room))
+        (b, n .left, n .right, stands-room points numbers (x .end) a h (f .room))
 
     pub of-next : {out′ : List ℤ} {r : Lane} → isGoing s x ≡ true → r ≡ after numbers s → CornersPut (cornerOf s) out (s .k) out′ (s .k + 1) → Of out₀ k₀ r out′
-    of-next t e p = stands-next points numbers (x .end) s a (ltb-true (s .i + s .j) (x .end) t) e p
+    of-next t e p = stands-next points numbers (x .end) a (ltb-true (s .i + s .j) (x .end) t) e p
 
     pub of-rest : Buffers points numbers → Fits points numbers x out₀ k₀ → Buffers points numbers × Runs (length points) numbers (x .end) (s .i) (s .j) × RoomAfter (contourFrom points numbers (x .end) (s .i) (s .j)) out (s .k)
-    of-rest b f = (b, a .runs, stands-left points numbers (x .end) s a (f .room))
+    of-rest b f = (b, a .runs, stands-left points numbers (x .end) a (f .room))
 
     pub of-done : {out′ : List ℤ} {k : ℕ} → CornersPut (contourFrom points numbers (x .end) (s .i) (s .j)) out (s .k) out′ k → CornersPut (chainContour points numbers x) out₀ k₀ out′ k
-    of-done p = stands-rest points numbers (x .end) s a p
+    of-done p = stands-rest points numbers (x .end) a p
 
 -- what is left to add falls
 pub of-less : (numbers : List ℕ) (end : ℕ) (s : Lane) {r : Lane} → ltb (s .i + s .j) end ≡ true → r ≡ after numbers s → end - (r .i + r .j) < end - (s .i + s .j)
@@ -80,7 +80,7 @@ pub record Counting (numbers : List ℕ) (end total : ℕ) (s : Lane) : Type 0 w
   pub runs : Runs (length numbers) numbers end (s .i) (s .j)
   pub count : s .k + length (chain numbers end (s .i) (s .j)) ≡ total
 
-module _ (numbers : List ℕ) (end total : ℕ) (few : length numbers < 2 ^ 32) (small : total < 2 ^ 63) (s : Lane) (a : Counting numbers end total s) where
+module _ {numbers : List ℕ} {end total : ℕ} (few : length numbers < 2 ^ 32) (small : total < 2 ^ 63) {s : Lane} (a : Counting numbers end total s) where
   pub counting-low : Low s
   counting-low = low s few (a .runs)
 
@@ -104,7 +104,7 @@ module _ (numbers : List ℕ) (end total : ℕ) (few : length numbers < 2 ^ 32) 
   counting-end t = omega (arith, a .count, ap length (chain-end numbers end (s .i) (s .j) (ltb-false (s .i + s .j) end t)))
 
 -- those of a pair, from its start
-module _ (numbers : List ℕ) (x : Pair) (z : Countable numbers x) where
+module _ {numbers : List ℕ} {x : Pair} (z : Countable numbers x) where
   pub count-small : length (chainOf numbers x) < 2 ^ 63
   count-small = omega (arith, z .short, chain-short numbers (x .end) (x .end - (x .i + x .j)) (x .i) (x .j))
 

@@ -41,8 +41,8 @@ merged-front {ps} {o} {o′} {k} p =
     ap pointsOf (ap₂ take n e ∙ take-overlay (numbersOf ps) o) ∙ points-numbers ps
 
 -- a sum of two points of the grid
-sum-words : (x y : Pt) → Coordinate (x .x) × Coordinate (x .y) → Coordinate (y .x) × Coordinate (y .y) → Word32s (x +ᵖ y)
-sum-words x y a b = record { x-fits = coordinate-add-fits (a .0) (b .0); y-fits = coordinate-add-fits (a .1) (b .1) }
+sum-words : {x y : Pt} → Coordinate (x .x) × Coordinate (x .y) → Coordinate (y .x) × Coordinate (y .y) → Word32s (x +ᵖ y)
+sum-words {x} {y} a b = record { x-fits = coordinate-add-fits (a .0) (b .0); y-fits = coordinate-add-fits (a .1) (b .1) }
 
 module _ (firsts : List ℕ) (points : List (List ℤ)) (numbers : List ℕ) (left right p q : ℕ) (work : List ℤ) (out : List ℕ) (h : Puttable firsts points numbers left right p q work out) where
   abbrev a : List Pt
@@ -58,20 +58,20 @@ module _ (firsts : List ℕ) (points : List (List ℤ)) (numbers : List ℕ) (le
   right-inside = omega (arith, h .q-inside)
 
   on-grid-walk : {n : ℕ} → n < left + right → All (λ x. onGrid x ≡ true) (walkIn firsts points (left + right) n)
-  on-grid-walk {n} k = all-getD (All (λ x. onGrid x ≡ true)) (walksIn firsts points (left + right)) [] (h .keyed .walks .grid) n (walk-inside firsts points (left + right) n (h .keyed .walks) k)
+  on-grid-walk {n} k = all-getD (All (λ x. onGrid x ≡ true)) (walksIn firsts points (left + right)) [] (h .keyed .walks .grid) n (walk-inside (h .keyed .walks) k)
 
   pub pair-words : All Word32s (pairIn firsts points left right p q)
   pair-words =
       merged-sums Word32s a b
-      (all-map a (λ x g. all-map b (λ y k. sum-words x y (on-grid-both x g) (on-grid-both y k)) (on-grid-walk right-inside)) (on-grid-walk left-inside))
+      (all-map a (λ x g. all-map b (λ y k. sum-words (on-grid-both x g) (on-grid-both y k)) (on-grid-walk right-inside)) (on-grid-walk left-inside))
 
   pub pair-few : length (pairIn firsts points left right p q) ≤ 2 * maxContour
   pair-few =
       omega (
         arith,
         length-merged a b,
-        walk-short firsts points (left + right) p (h .keyed .walks) left-inside,
-        walk-short firsts points (left + right) (left + q) (h .keyed .walks) right-inside,
+        walk-short (h .keyed .walks) left-inside,
+        walk-short (h .keyed .walks) right-inside,
       )
 
   pub pair-room : length (pairLine p q (pairIn firsts points left right p q)) ≤ length out

@@ -23,12 +23,12 @@ unfolding boundsText
 bounds-length b = simp length-append (omega arith)
 
 pub bounds-pieces :
-    (b : IntRect) {s t u v : ℤ} → s ≡ b .«min_x» → t ≡ b .«max_x» → u ≡ b .«min_y» → v ≡ b .«max_y» →
+    {b : IntRect} {s t u v : ℤ} → s ≡ b .«min_x» → t ≡ b .«max_x» → u ≡ b .«min_y» → v ≡ b .«max_y» →
     {at k l m r : ℕ} {o o₁ o₂ o₃ o₄ : List ℕ} → at ≤ length o →
     PutText (boundsWord ++ signedDecimal s) at o o₁ k → PutText (space ++ signedDecimal t) k o₁ o₂ l → PutText (space ++ signedDecimal u) l o₂ o₃ m → PutText (space ++ signedDecimal v) m o₃ o₄ r →
     PutText (boundsText b) at o o₄ r
 unfolding boundsText
-bounds-pieces b e f g i h p q x y =
+bounds-pieces {b} e f g i h p q x y =
     put-as (λ j. (boundsWord ++ signedDecimal (e j)) ++ (space ++ signedDecimal (f j)) ++ (space ++ signedDecimal (g j)) ++ (space ++ signedDecimal (i j)))
     (put-after h (put-after h (put-after h p q) x) y)
 

@@ -15,8 +15,8 @@ use Rattle.pair_lines.specs.Putting.{lineRoom}
 use Rattle.pair_lines.specs.Lines.{pairsHead, pairLine}
 use Rattle.pair_lines.proofs.Pieces.{bounds-length, head-length, line-length}
 
-pub head-size : (n k : ℕ) (b : IntRect) → SFits w32 (b .«min_x») → SFits w32 (b .«max_x») → SFits w32 (b .«min_y») → SFits w32 (b .«max_y») → length (pairsHead n k b) ≤ 114
-head-size n k b e f g h =
+pub head-size : (n k : ℕ) {b : IntRect} → SFits w32 (b .«min_x») → SFits w32 (b .«max_x») → SFits w32 (b .«min_y») → SFits w32 (b .«max_y») → length (pairsHead n k b) ≤ 114
+head-size n k {b} e f g h =
     omega (
       arith,
       head-length n k b,

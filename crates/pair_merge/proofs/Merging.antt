@@ -32,7 +32,7 @@ tie-broken a b {i} j h k = second-more (pointsIn a) i (edgeAt (pointsIn b) j) (o
 
 -- ---- a turn of the merge
 
-module _ (a b : List (List ℤ)) (ma : Mergeable a) (mb : Mergeable b) (i j : ℕ) (hi : i + 1 < length a) (hj : j + 1 < length b) where
+module _ {a b : List (List ℤ)} (ma : Mergeable a) (mb : Mergeable b) (i j : ℕ) (hi : i + 1 < length a) (hj : j + 1 < length b) where
   -- what is still to come from places i and j on
   abbrev toCome : ℕ → ℕ → List Pt
   toCome i j = mergedOf (drop i (pointsIn a)) (drop j (pointsIn b))
@@ -51,16 +51,16 @@ module _ (a b : List (List ℤ)) (ma : Mergeable a) (mb : Mergeable b) (i j : �
   as-read l = λ k. (point-in a i k +ᵖ point-in b j k) ∷ l
 
   come-less : angleCmp (edgeAt (pointsIn a) i) (edgeAt (pointsIn b) j) ≡ Less → toCome i j ≡ corner ∷ toCome (i + 1) j
-  come-less e = at-less (pointsIn a) (pointsIn b) i j (ma .turning) (mb .turning) inside-a inside-b e ∙ as-read (toCome (i + 1) j)
+  come-less e = at-less i j (ma .turning) (mb .turning) inside-a inside-b e ∙ as-read (toCome (i + 1) j)
 
   come-greater : angleCmp (edgeAt (pointsIn a) i) (edgeAt (pointsIn b) j) ≡ Greater → toCome i j ≡ corner ∷ toCome i (j + 1)
-  come-greater e = at-greater (pointsIn a) (pointsIn b) i j (ma .turning) (mb .turning) inside-a inside-b e ∙ as-read (toCome i (j + 1))
+  come-greater e = at-greater i j (ma .turning) (mb .turning) inside-a inside-b e ∙ as-read (toCome i (j + 1))
 
   come-both : angleCmp (edgeAt (pointsIn a) i) (edgeAt (pointsIn b) j) ≡ Equal → secondNext (edgesAlong (drop (i + 1) (pointsIn a))) (edgeAt (pointsIn b) j) ≡ true → toCome i j ≡ corner ∷ toCome (i + 1) (j + 1)
-  come-both e h = at-both (pointsIn a) (pointsIn b) i j (ma .turning) (mb .turning) inside-a inside-b e h ∙ as-read (toCome (i + 1) (j + 1))
+  come-both e h = at-both i j (ma .turning) (mb .turning) inside-a inside-b e h ∙ as-read (toCome (i + 1) (j + 1))
 
   come-first : angleCmp (edgeAt (pointsIn a) i) (edgeAt (pointsIn b) j) ≡ Equal → secondNext (edgesAlong (drop (i + 1) (pointsIn a))) (edgeAt (pointsIn b) j) ≡ false → toCome i j ≡ corner ∷ toCome (i + 1) j
-  come-first e h = at-first (pointsIn a) (pointsIn b) i j (ma .turning) (mb .turning) inside-a inside-b e h ∙ as-read (toCome (i + 1) j)
+  come-first e h = at-first i j (ma .turning) (mb .turning) inside-a inside-b e h ∙ as-read (toCome (i + 1) j)
 
   -- a corner comes, whichever edge steps
   come-some : 1 ≤ length (toCome i j)
@@ -118,7 +118,7 @@ module _ (a b : List (List ℤ)) (p j : ℕ) where
 
 -- ---- where one list has no edge left, and where a list is empty
 
-module _ (a b : List (List ℤ)) (ma : Mergeable a) (mb : Mergeable b) (i j : ℕ) (hi : i < length a) (hj : j < length b) (h : (i + 1 ≡ length a) ⊎ (j + 1 ≡ length b)) {whole : List Pt} {out out′ : List ℤ} {n k : ℕ} (r : Reached whole (mergedOf (drop i (pointsIn a)) (drop j (pointsIn b))) out n out′ k) where
+module _ {a b : List (List ℤ)} (ma : Mergeable a) (mb : Mergeable b) {i j : ℕ} (hi : i < length a) (hj : j < length b) (h : (i + 1 ≡ length a) ⊎ (j + 1 ≡ length b)) {whole : List Pt} {out out′ : List ℤ} {n k : ℕ} (r : Reached whole (mergedOf (drop i (pointsIn a)) (drop j (pointsIn b))) out n out′ k) where
   abbrev ofFirst : List Pt
   ofFirst = restOf (cornerIn b j) (drop i (pointsIn a))
 
@@ -128,7 +128,7 @@ module _ (a b : List (List ℤ)) (ma : Mergeable a) (mb : Mergeable b) (i j : �
   halted : Reached whole (ofFirst ++ ofSecond) out n out′ k
   halted =
       subst (λ l. Reached whole l out n out′ k)
-      (at-rest i j (ma .turning) (mb .turning) (omega (arith, hi, length-map a cornerOf)) (omega (arith, hj, length-map b cornerOf))
+      (at-rest (ma .turning) (mb .turning) (omega (arith, hi, length-map a cornerOf)) (omega (arith, hj, length-map b cornerOf))
       (⊎-elim (λ e. inl (e ∙ sym (length-map a cornerOf))) (λ e. inr (e ∙ sym (length-map b cornerOf))) h)
       ∙ (λ t. restOf (point-in b j t) (drop i (pointsIn a)) ++ restOf (last t) (drop j (pointsIn b)))) r
     where

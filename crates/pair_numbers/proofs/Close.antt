@@ -74,7 +74,7 @@ ranges {b} h =
     let w = was-taken (inRange (b .«max_y»)) _ (v .1) in
     record { least-x = in-range-coordinate _ (t .0); greatest-x = in-range-coordinate _ (u .0); least-y = in-range-coordinate _ (v .0); greatest-y = in-range-coordinate _ (w .0) }
 
-module _ (b c : IntRect) (ub : Upright b) (uc : Upright c) (s : Ranges (sumBounds b c)) (p q : List Pt) (i : All (InBounds b) p) (j : All (InBounds c) q) where
+module _ {b c : IntRect} (ub : Upright b) (uc : Upright c) (s : Ranges (sumBounds b c)) (p q : List Pt) (i : All (InBounds b) p) (j : All (InBounds c) q) where
   abbrev width-x : IntRect → ℕ
   width-x d = natAbs (d .«max_x» -ℤ d .«min_x»)
 
@@ -134,10 +134,10 @@ walks-within reflected o h k =
     (all-map (operandParts o) (λ a i. walk-within reflected (o .bounds) a i) (parts-inside o h k))
 
 pub walks-close :
-    {reflected : Bool} {l r : Operand} → Unrefused reflected l r → (p q : ℕ) → p < length (map (unrolled false) (operandParts l)) → q < length (map (unrolled reflected) (operandParts r)) →
+    {reflected : Bool} {l r : Operand} → Unrefused reflected l r → {p q : ℕ} → p < length (map (unrolled false) (operandParts l)) → q < length (map (unrolled reflected) (operandParts r)) →
     Close (getD (map (unrolled false) (operandParts l)) p []) (getD (map (unrolled reflected) (operandParts r)) q [])
-walks-close {reflected} {l} {r} u p q h k =
-    close-within (l .bounds) (walkBounds reflected (r .bounds)) (upright (l .bounds) _ (u .left-bounds)) (upright-walk reflected (upright (r .bounds) _ (u .right-bounds)))
+walks-close {reflected} {l} {r} u {p} {q} h k =
+    close-within (upright (l .bounds) _ (u .left-bounds)) (upright-walk reflected (upright (r .bounds) _ (u .right-bounds)))
     (result-walk reflected (l .bounds) (r .bounds) (ranges (u .result-bounds))) _ _
     (all-getD (All (InBounds (l .bounds))) (map (unrolled false) (operandParts l)) [] (walks-within false l (u .left-table) (u .left-bounds)) p h)
     (all-getD (All (InBounds (walkBounds reflected (r .bounds)))) (map (unrolled reflected) (operandParts r)) [] (walks-within reflected r (u .right-table) (u .right-bounds)) q k)
@@ -167,6 +167,6 @@ module _
       close : (p q : ℕ) → p < left → q < right → Close (walkIn firsts points (left + right) p) (walkIn firsts points (left + right) (left + q))
       close p q h k =
           subst₂ Close (left-at h) (right-at q)
-          (walks-close u p q
+          (walks-close u
           (omega (arith, h, all, ap length lefts, length-take left ws))
           (omega (arith, k, all, ap length rights, length-drop left ws)))

@@ -114,7 +114,7 @@ alike-two {e} {f} l ne nf s nl = record { same = go }
 -- ---- grouping is two edges made one, again and again
 
 module _
-    (R : List Pt → List Pt → Type 0)
+    {R : List Pt → List Pt → Type 0}
     (rel-refl : (l : List Pt) → R l l)
     (rel-trans : (l m k : List Pt) → R l m → R m k → R l k)
     (rel-cons : (e : Pt) (l m : List Pt) → Nz e → R l m → R (e ∷ l) (e ∷ m))
@@ -137,17 +137,17 @@ module _
 -- its edges are nonzero
 pub grouped-nz : (l : List Pt) → All Nz l → All Nz (grouped l)
 grouped-nz l n =
-    grouped-by (λ l m. All Nz l → All Nz m) (λ l h. h) (λ l m k f g h. g (f h)) (λ e l m ne f h. (h .0, f (h .1)))
+    grouped-by {R = λ l m. All Nz l → All Nz m} (λ l h. h) (λ l m k f g h. g (f h)) (λ e l m ne f h. (h .0, f (h .1)))
     (λ e f l ne nf s nl h. (add-same ne nf s .nonzero, nl)) l n n
 
 -- ---- one step of two nonzero edges
 
-module _ (a : Pt) (k : List Pt → List Pt) (b : Pt) (l : List Pt) (na : Nz a) (nb : Nz b) where
+module _ {a : Pt} (k : List Pt → List Pt) {b : Pt} (l : List Pt) (na : Nz a) (nb : Nz b) where
   pub steps-first : Le a b → stepOne a k (b ∷ l) ≡ a ∷ k (b ∷ l)
-  steps-first h = step-by a k l (λ r. r ≡ a ∷ k (b ∷ l)) na nb (λ x. absurd (clash x h)) (λ x. refl)
+  steps-first h = step-by a k (λ r. r ≡ a ∷ k (b ∷ l)) na nb (λ x. absurd (clash x h)) (λ x. refl)
 
   pub steps-second : Lt b a → stepOne a k (b ∷ l) ≡ b ∷ stepOne a k l
-  steps-second h = step-by a k l (λ r. r ≡ b ∷ stepOne a k l) na nb (λ x. refl) (λ x. absurd (clash h x))
+  steps-second h = step-by a k (λ r. r ≡ b ∷ stepOne a k l) na nb (λ x. refl) (λ x. absurd (clash h x))
 
 -- ---- lists that are alike as the first of the merge
 
@@ -161,8 +161,8 @@ first-cons a m n na r = record { at = go }
     go : (l : List Pt) → All Nz l → Alike (stepOne a (stepped m) l) (stepOne a (stepped n) l)
     go [] nl = unfold stepOne in alike-cons na (r .at [] tt)
     go (b ∷ l) nl = ⊎-elim
-        (λ h. alike-by (steps-first a (stepped m) b l na (nl .0) h) (steps-first a (stepped n) b l na (nl .0) h) (alike-cons na (r .at (b ∷ l) nl)))
-        (λ h. alike-by (steps-second a (stepped m) b l na (nl .0) h) (steps-second a (stepped n) b l na (nl .0) h) (alike-cons (nl .0) (go l (nl .1))))
+        (λ h. alike-by (steps-first (stepped m) l na (nl .0) h) (steps-first (stepped n) l na (nl .0) h) (alike-cons na (r .at (b ∷ l) nl)))
+        (λ h. alike-by (steps-second (stepped m) l na (nl .0) h) (steps-second (stepped n) l na (nl .0) h) (alike-cons (nl .0) (go l (nl .1))))
         (le-or-lt a b)
 
 first-two : (e f : Pt) (m : List Pt) → Nz e → Nz f → Same e f → All Nz m → FirstAlike (e ∷ f ∷ m) ((e +ᵖ f) ∷ m)
@@ -176,18 +176,18 @@ first-two e f m ne nf s nm = record { at = go }
     go [] nl = unfold stepOne in alike-two (stepped m []) ne nf s (all-stepped Nz m [] nm tt)
     go (b ∷ l) nl = ⊎-elim
         (λ h. let k : Le f b = le-trans nf ne (nl .0) (same-le s .1) h in
-        alike-by (steps-first e (stepped (f ∷ m)) b l ne (nl .0) h ∙ ap (λ r. e ∷ r) (steps-first f (stepped m) b l nf (nl .0) k))
-        (steps-first (e +ᵖ f) (stepped m) b l (a .nonzero) (nl .0) (le-trans (a .nonzero) nf (nl .0) (same-le (a .same) .0) k))
+        alike-by (steps-first (stepped (f ∷ m)) l ne (nl .0) h ∙ ap (λ r. e ∷ r) (steps-first (stepped m) l nf (nl .0) k))
+        (steps-first (stepped m) l (a .nonzero) (nl .0) (le-trans (a .nonzero) nf (nl .0) (same-le (a .same) .0) k))
         (alike-two (stepped m (b ∷ l)) ne nf s (all-stepped Nz m (b ∷ l) nm nl)))
         (λ h. let k : Lt b f = lt-same (nl .0) ne nf h s in
-        alike-by (steps-second e (stepped (f ∷ m)) b l ne (nl .0) h)
-        (steps-second (e +ᵖ f) (stepped m) b l (a .nonzero) (nl .0) (lt-same (nl .0) nf (a .nonzero) k (same-sym (a .same))))
+        alike-by (steps-second (stepped (f ∷ m)) l ne (nl .0) h)
+        (steps-second (stepped m) l (a .nonzero) (nl .0) (lt-same (nl .0) nf (a .nonzero) k (same-sym (a .same))))
         (alike-cons (nl .0) (go l (nl .1))))
         (le-or-lt e b)
 
 first-grouped : (m : List Pt) → All Nz m → FirstAlike m (grouped m)
 first-grouped =
-    grouped-by FirstAlike (λ l. record { at = λ k nk. record { same = λ h. refl } })
+    grouped-by (λ l. record { at = λ k nk. record { same = λ h. refl } })
     (λ l m k f g. record { at = λ j nj. alike-trans (f .at j nj) (g .at j nj) }) first-cons first-two
 
 -- ---- and as the second
@@ -202,8 +202,8 @@ second-cons b l k nb r = record { at = go }
     go : (m : List Pt) → All Nz m → Alike (stepped m (b ∷ l)) (stepped m (b ∷ k))
     go [] nm = alike-cons nb (r .at [] tt)
     go (a ∷ m) nm = ⊎-elim
-        (λ h. alike-by (steps-first a (stepped m) b l (nm .0) nb h) (steps-first a (stepped m) b k (nm .0) nb h) (alike-cons (nm .0) (go m (nm .1))))
-        (λ h. alike-by (steps-second a (stepped m) b l (nm .0) nb h) (steps-second a (stepped m) b k (nm .0) nb h) (alike-cons nb (r .at (a ∷ m) nm)))
+        (λ h. alike-by (steps-first (stepped m) l (nm .0) nb h) (steps-first (stepped m) k (nm .0) nb h) (alike-cons (nm .0) (go m (nm .1))))
+        (λ h. alike-by (steps-second (stepped m) l (nm .0) nb h) (steps-second (stepped m) k (nm .0) nb h) (alike-cons nb (r .at (a ∷ m) nm)))
         (le-or-lt a b)
 
 second-two : (e f : Pt) (l : List Pt) → Nz e → Nz f → Same e f → All Nz l → SecondAlike (e ∷ f ∷ l) ((e +ᵖ f) ∷ l)
@@ -217,18 +217,18 @@ second-two e f l ne nf s nl = record { at = go }
     go [] nm = alike-two l ne nf s nl
     go (a ∷ m) nm = ⊎-elim
         (λ h. let k : Le a f = le-trans (nm .0) ne nf h (same-le s .0) in
-        alike-by (steps-first a (stepped m) e (f ∷ l) (nm .0) ne h)
-        (steps-first a (stepped m) (e +ᵖ f) l (nm .0) (t .nonzero) (le-trans (nm .0) nf (t .nonzero) k (same-le (t .same) .1)))
+        alike-by (steps-first (stepped m) (f ∷ l) (nm .0) ne h)
+        (steps-first (stepped m) l (nm .0) (t .nonzero) (le-trans (nm .0) nf (t .nonzero) k (same-le (t .same) .1)))
         (alike-cons (nm .0) (go m (nm .1))))
         (λ h. let k : Lt f a = same-lt nf ne (nm .0) (same-sym s) h in
-        alike-by (steps-second a (stepped m) e (f ∷ l) (nm .0) ne h ∙ ap (λ r. e ∷ r) (steps-second a (stepped m) f l (nm .0) nf k))
-        (steps-second a (stepped m) (e +ᵖ f) l (nm .0) (t .nonzero) (same-lt (t .nonzero) nf (nm .0) (t .same) k))
+        alike-by (steps-second (stepped m) (f ∷ l) (nm .0) ne h ∙ ap (λ r. e ∷ r) (steps-second (stepped m) l (nm .0) nf k))
+        (steps-second (stepped m) l (nm .0) (t .nonzero) (same-lt (t .nonzero) nf (nm .0) (t .same) k))
         (alike-two (stepped (a ∷ m) l) ne nf s (all-stepped Nz (a ∷ m) l nm nl)))
         (le-or-lt a e)
 
 second-grouped : (l : List Pt) → All Nz l → SecondAlike l (grouped l)
 second-grouped =
-    grouped-by SecondAlike (λ l. record { at = λ k nk. record { same = λ h. refl } })
+    grouped-by (λ l. record { at = λ k nk. record { same = λ h. refl } })
     (λ l m k f g. record { at = λ j nj. alike-trans (f .at j nj) (g .at j nj) }) second-cons second-two
 
 -- ---- both

@@ -60,33 +60,33 @@ off-stepped : (e : Pt) (m l : List Pt) → All Nz m → All Nz l → Off e m →
 unfolding stepped
 off-stepped e [] l nm nl h k = k
 off-stepped e (a ∷ m) [] nm nl h k = unfold stepOne in h
-off-stepped e (a ∷ m) (b ∷ l) nm nl h k = step-by a (stepped m) l (Off e) (nm .0) (nl .0) (λ x. k) (λ x. h)
+off-stepped e (a ∷ m) (b ∷ l) nm nl h k = step-by a (stepped m) (Off e) (nm .0) (nl .0) (λ x. k) (λ x. h)
 
 -- an edge of the same direction is off the same list
 off-same : {e f : Pt} (l : List Pt) → Nz e → Nz f → All Nz l → Same e f → Off f l → Off e l
 off-same [] ne nf nl s h = tt
 off-same (g ∷ l) ne nf nl s h = as-off nf ne (nl .0) s h
 
-module _ (e f : Pt) (m l : List Pt) (nm : All Nz (e ∷ m)) (nl : All Nz (f ∷ l)) (om : Off e m) (ol : Off f l) where
+module _ {e f : Pt} (m l : List Pt) (nm : All Nz (e ∷ m)) (nl : All Nz (f ∷ l)) (om : Off e m) (ol : Off f l) where
   -- the first list's edge is the lesser
   join-less : Lt e f → join (e ∷ m) (f ∷ l) ≡ e ∷ join m (f ∷ l)
   unfolding join stepped
   join-less h =
-      ap grouped (steps-first e (stepped m) f l (nm .0) (nl .0) (lt-le h)) ∙ grouped-cons _ _
+      ap grouped (steps-first (stepped m) l (nm .0) (nl .0) (lt-le h)) ∙ grouped-cons _ _
       ∙ runs-off e e (stepped m (f ∷ l)) (off-stepped e m (f ∷ l) (nm .1) nl om (lt-off h))
 
   -- the second list's is
   join-greater : Lt f e → join (e ∷ m) (f ∷ l) ≡ f ∷ join (e ∷ m) l
   unfolding join stepped
   join-greater h =
-      ap grouped (steps-second e (stepped m) f l (nm .0) (nl .0) h) ∙ grouped-cons _ _
+      ap grouped (steps-second (stepped m) l (nm .0) (nl .0) h) ∙ grouped-cons _ _
       ∙ runs-off f f (stepped (e ∷ m) l) (off-stepped f (e ∷ m) l nm (nl .1) (lt-off h) ol)
 
   -- one direction, and the second list's edge steps next
   join-both : Same e f → secondNext m f ≡ true → join (e ∷ m) (f ∷ l) ≡ (e +ᵖ f) ∷ join m l
   unfolding join stepped secondNext
   join-both s h =
-      ap grouped (steps-first e (stepped m) f l (nm .0) (nl .0) (same-le s .0) ∙ ap (λ r. e ∷ r) (next m (nm .1) h)) ∙ grouped-cons _ _
+      ap grouped (steps-first (stepped m) l (nm .0) (nl .0) (same-le s .0) ∙ ap (λ r. e ∷ r) (next m (nm .1) h)) ∙ grouped-cons _ _
       ∙ runs-on e e f (stepped m l) (same-test s)
       ∙ runs-off e (e +ᵖ f) (stepped m l) (off-stepped e m l (nm .1) (nl .1) om (off-same l (nm .0) (nl .0) (nl .1) s ol))
     where
@@ -95,19 +95,19 @@ module _ (e f : Pt) (m l : List Pt) (nm : All Nz (e ∷ m)) (nl : All Nz (f ∷ 
       next (g ∷ m) n h = elim (angle-cases g f) [
         | before t x ↦ differ (sym (ap isGreater t) ∙ h)
         | beside t x ↦ differ (sym (ap isGreater t) ∙ h)
-        | after t x ↦ steps-second g (stepped m) f l (n .0) (nl .0) x
+        | after t x ↦ steps-second (stepped m) l (n .0) (nl .0) x
       ]
 
   -- one direction, and the first list's next edge steps before
   join-first : Same e f → secondNext m f ≡ false → join (e ∷ m) (f ∷ l) ≡ e ∷ join m (f ∷ l)
   unfolding join stepped secondNext
   join-first s h =
-      ap grouped (steps-first e (stepped m) f l (nm .0) (nl .0) (same-le s .0)) ∙ grouped-cons _ _
+      ap grouped (steps-first (stepped m) l (nm .0) (nl .0) (same-le s .0)) ∙ grouped-cons _ _
       ∙ runs-off e e (stepped m (f ∷ l)) (next m (nm .1) om h)
     where
       next : (m : List Pt) → All Nz m → Off e m → secondNext m f ≡ false → Off e (stepped m (f ∷ l))
       next [] n o h = differ (sym h)
-      next (g ∷ m) n o h = step-by g (stepped m) l (Off e) (n .0) (nl .0) (λ x. differ (sym h ∙ greater x)) (λ x. o)
+      next (g ∷ m) n o h = step-by g (stepped m) (Off e) (n .0) (nl .0) (λ x. differ (sym h ∙ greater x)) (λ x. o)
         where
           greater : Lt f g → isGreater (angleCmp g f) ≡ true
           greater x = elim (angle-cases g f) [
@@ -148,30 +148,30 @@ second-leads = ringᵖ (pt ∷ pt ∷ pt ∷ []) (λ p q s. (p +E q) +E (s -E q)
 both-lead : (p q r s : Pt) → (p +ᵖ q) +ᵖ ((r -ᵖ p) +ᵖ (s -ᵖ q)) ≡ r +ᵖ s
 both-lead = ringᵖ (pt ∷ pt ∷ pt ∷ pt ∷ []) (λ p q r s. (p +E q) +E ((r -E p) +E (s -E q)) :≡ᵖ r +E s) tt
 
-module _ (p r q s : Pt) (A B : List Pt) (t : Turning (p ∷ r ∷ A)) (u : Turning (q ∷ s ∷ B)) where
+module _ {p r q s : Pt} {A B : List Pt} (t : Turning (p ∷ r ∷ A)) (u : Turning (q ∷ s ∷ B)) where
   merged-less : Lt (r -ᵖ p) (s -ᵖ q) → mergedOf (p ∷ r ∷ A) (q ∷ s ∷ B) ≡ (p +ᵖ q) ∷ mergedOf (r ∷ A) (q ∷ s ∷ B)
   unfolding edgesAlong
   merged-less h =
       merged-turn p q r q (r ∷ A) (s ∷ B) A (s ∷ B)
-      (join-less (r -ᵖ p) (s -ᵖ q) (edgesAlong (r ∷ A)) (edgesAlong (s ∷ B)) (t .nonzero) (u .nonzero) (t .apart .0) (u .apart .0) h) (first-leads p q r)
+      (join-less (edgesAlong (r ∷ A)) (edgesAlong (s ∷ B)) (t .nonzero) (u .nonzero) (t .apart .0) (u .apart .0) h) (first-leads p q r)
 
   merged-greater : Lt (s -ᵖ q) (r -ᵖ p) → mergedOf (p ∷ r ∷ A) (q ∷ s ∷ B) ≡ (p +ᵖ q) ∷ mergedOf (p ∷ r ∷ A) (s ∷ B)
   unfolding edgesAlong
   merged-greater h =
       merged-turn p q p s (r ∷ A) (s ∷ B) (r ∷ A) B
-      (join-greater (r -ᵖ p) (s -ᵖ q) (edgesAlong (r ∷ A)) (edgesAlong (s ∷ B)) (t .nonzero) (u .nonzero) (t .apart .0) (u .apart .0) h) (second-leads p q s)
+      (join-greater (edgesAlong (r ∷ A)) (edgesAlong (s ∷ B)) (t .nonzero) (u .nonzero) (t .apart .0) (u .apart .0) h) (second-leads p q s)
 
   merged-both : Same (r -ᵖ p) (s -ᵖ q) → secondNext (edgesAlong (r ∷ A)) (s -ᵖ q) ≡ true → mergedOf (p ∷ r ∷ A) (q ∷ s ∷ B) ≡ (p +ᵖ q) ∷ mergedOf (r ∷ A) (s ∷ B)
   unfolding edgesAlong
   merged-both h k =
       merged-turn p q r s (r ∷ A) (s ∷ B) A B
-      (join-both (r -ᵖ p) (s -ᵖ q) (edgesAlong (r ∷ A)) (edgesAlong (s ∷ B)) (t .nonzero) (u .nonzero) (t .apart .0) (u .apart .0) h k) (both-lead p q r s)
+      (join-both (edgesAlong (r ∷ A)) (edgesAlong (s ∷ B)) (t .nonzero) (u .nonzero) (t .apart .0) (u .apart .0) h k) (both-lead p q r s)
 
   merged-first : Same (r -ᵖ p) (s -ᵖ q) → secondNext (edgesAlong (r ∷ A)) (s -ᵖ q) ≡ false → mergedOf (p ∷ r ∷ A) (q ∷ s ∷ B) ≡ (p +ᵖ q) ∷ mergedOf (r ∷ A) (q ∷ s ∷ B)
   unfolding edgesAlong
   merged-first h k =
       merged-turn p q r q (r ∷ A) (s ∷ B) A (s ∷ B)
-      (join-first (r -ᵖ p) (s -ᵖ q) (edgesAlong (r ∷ A)) (edgesAlong (s ∷ B)) (t .nonzero) (u .nonzero) (t .apart .0) (u .apart .0) h k) (first-leads p q r)
+      (join-first (edgesAlong (r ∷ A)) (edgesAlong (s ∷ B)) (t .nonzero) (u .nonzero) (t .apart .0) (u .apart .0) h k) (first-leads p q r)
 
 -- one point against a list: its points but the last, moved
 rest-first : (q : Pt) (a : List Pt) → Turning a → mergedOf a (q ∷ []) ≡ restOf q a
@@ -204,7 +204,7 @@ two-ind a i Q h =
     drop-at : (a : List Pt) {i : ℕ} → i < length a → drop i a ≡ nthPoint a i ∷ drop (i + 1) a
     drop-at a {i} h = rw (add-one) (drop-cons a i O h)
 
-module _ (a b : List Pt) (i j : ℕ) (t : Turning a) (u : Turning b) (hi : i + 1 < length a) (hj : j + 1 < length b) where
+module _ {a b : List Pt} (i j : ℕ) (t : Turning a) (u : Turning b) (hi : i + 1 < length a) (hj : j + 1 < length b) where
   abbrev here : List Pt → List Pt → List Pt
   here x y = (nthPoint a i +ᵖ nthPoint b j) ∷ mergedOf x y
 
@@ -220,13 +220,13 @@ module _ (a b : List Pt) (i j : ℕ) (t : Turning a) (u : Turning b) (hi : i + 1
 
   -- the lesser edge steps
   pub at-less : angleCmp (edgeAt a i) (edgeAt b j) ≡ Less → mergedOf (drop i a) (drop j b) ≡ here (drop (i + 1) a) (drop j b)
-  at-less e = by-two (λ x x' y y'. mergedOf x y ≡ here x' y) (λ A B v w. merged-less (nthPoint a i) (nthPoint a (i + 1)) (nthPoint b j) (nthPoint b (j + 1)) A B v w (less e))
+  at-less e = by-two (λ x x' y y'. mergedOf x y ≡ here x' y) (λ A B v w. merged-less v w (less e))
     where
       less : {f g : Pt} → angleCmp f g ≡ Less → Lt f g
       less {f} {g} e = elim (angle-cases f g) [ before t x ↦ x | beside t x ↦ differ (sym (ap isEqual e) ∙ ap isEqual t) | after t x ↦ differ (sym (ap isGreater e) ∙ ap isGreater t) ]
 
   pub at-greater : angleCmp (edgeAt a i) (edgeAt b j) ≡ Greater → mergedOf (drop i a) (drop j b) ≡ here (drop i a) (drop (j + 1) b)
-  at-greater e = by-two (λ x x' y y'. mergedOf x y ≡ here x y') (λ A B v w. merged-greater (nthPoint a i) (nthPoint a (i + 1)) (nthPoint b j) (nthPoint b (j + 1)) A B v w (greater e))
+  at-greater e = by-two (λ x x' y y'. mergedOf x y ≡ here x y') (λ A B v w. merged-greater v w (greater e))
     where
       greater : {f g : Pt} → angleCmp f g ≡ Greater → Lt g f
       greater {f} {g} e = elim (angle-cases f g) [ before t x ↦ differ (sym (ap isGreater t) ∙ ap isGreater e) | beside t x ↦ differ (sym (ap isGreater t) ∙ ap isGreater e) | after t x ↦ x ]
@@ -237,14 +237,14 @@ module _ (a b : List Pt) (i j : ℕ) (t : Turning a) (u : Turning b) (hi : i + 1
       mergedOf (drop i a) (drop j b) ≡ here (drop (i + 1) a) (drop (j + 1) b)
   at-both e =
       by-two (λ x x' y y'. secondNext (edgesAlong x') (edgeAt b j) ≡ true → mergedOf x y ≡ here x' y')
-      (λ A B v w k. merged-both (nthPoint a i) (nthPoint a (i + 1)) (nthPoint b j) (nthPoint b (j + 1)) A B v w (test-same (ap isEqual e)) k)
+      (λ A B v w k. merged-both v w (test-same (ap isEqual e)) k)
 
   pub at-first :
       angleCmp (edgeAt a i) (edgeAt b j) ≡ Equal → secondNext (edgesAlong (drop (i + 1) a)) (edgeAt b j) ≡ false →
       mergedOf (drop i a) (drop j b) ≡ here (drop (i + 1) a) (drop j b)
   at-first e =
       by-two (λ x x' y y'. secondNext (edgesAlong x') (edgeAt b j) ≡ false → mergedOf x y ≡ here x' y)
-      (λ A B v w k. merged-first (nthPoint a i) (nthPoint a (i + 1)) (nthPoint b j) (nthPoint b (j + 1)) A B v w (test-same (ap isEqual e)) k)
+      (λ A B v w k. merged-first v w (test-same (ap isEqual e)) k)
 
 -- the last point
 drop-last : (a : List Pt) (i : ℕ) → i + 1 ≡ length a → drop i a ≡ nthPoint a i ∷ []
@@ -270,9 +270,9 @@ rest-last q a i e = ap (restOf q) (drop-last a i e)
 
 -- where one list has one point left, the other's points, moved by it
 pub at-rest :
-    {a b : List Pt} (i j : ℕ) → Turning a → Turning b → i < length a → j < length b → (i + 1 ≡ length a) ⊎ (j + 1 ≡ length b) →
+    {a b : List Pt} {i j : ℕ} → Turning a → Turning b → i < length a → j < length b → (i + 1 ≡ length a) ⊎ (j + 1 ≡ length b) →
     mergedOf (drop i a) (drop j b) ≡ restOf (nthPoint b j) (drop i a) ++ restOf (nthPoint a (length a - 1)) (drop j b)
-at-rest {a} {b} i j t u hi hj = ⊎-elim
+at-rest {a} {b} {i} {j} t u hi hj = ⊎-elim
     (λ e. let k : length a - 1 ≡ i = omega arith in
     ap (λ l. mergedOf l (drop j b)) (drop-last a i e) ∙ rest-second (nthPoint a i) (drop j b) (turning-drop j u) ∙ ap (λ n. restOf (nthPoint a n) (drop j b)) (sym k)
     ∙ ap (λ l. l ++ restOf (nthPoint a (length a - 1)) (drop j b)) (sym (rest-last (nthPoint b j) a i e)))

@@ -29,14 +29,14 @@ module _ {new : List Pt} {points₀ : List (List ℤ)} {from : ℕ} {points : Li
   length-front = length-map (take from points₀) cornerOf ∙ length-take-le from points₀ (omega (arith, a .size, a .count))
 
   -- point i of those appended
-  pub new-at : (i : ℕ) → i < length new → cornerIn points (from + i) ≡ getD new i O
-  new-at i h =
+  pub new-at : {i : ℕ} → i < length new → cornerIn points (from + i) ≡ getD new i O
+  new-at {i} h =
       ap cornerOf (sym (getD-take count points (from + i) [] (omega (arith, a .count)))) ∙ sym (List·getD-map cornerOf (take count points) (from + i) [])
       ∙ ap₂ (λ l n. getD l (n + i) O) (a .written) (sym length-front) ∙ getD-append-add (firstPoints from points₀) new i O
 
   -- the first n of those appended
-  pub appended-fewer : (n : ℕ) → n ≤ length new → Appended (take n new) points₀ from points (from + n)
-  appended-fewer n h = record {
+  pub appended-fewer : {n : ℕ} → n ≤ length new → Appended (take n new) points₀ from points (from + n)
+  appended-fewer {n} h = record {
     size = a .size;
     count = ap (λ k. from + k) (sym (length-take-le n new h));
     written =
@@ -49,7 +49,7 @@ module _ {new : List Pt} {points₀ : List (List ℤ)} {from : ℕ} {points : Li
   all-at Q q i h k =
       let e : from + (i - from) ≡ i = omega arith in
       let l : i - from < length new = omega (arith, a .count) in
-      subst (λ j. Q (cornerIn points j)) e (subst Q (sym (new-at (i - from) l)) (all-getD Q new O q (i - from) l))
+      subst (λ j. Q (cornerIn points j)) e (subst Q (sym (new-at l)) (all-getD Q new O q (i - from) l))
 
 -- a point of the code, in range
 pub ranged-on-grid : {p : IntPoint} {q : Pt} → point p ≡ q → Ranged q → OnGrid p
@@ -67,7 +67,7 @@ module _ (r : Pt) (from : ℕ) (points : List (List ℤ)) (count : ℕ) where
 
 -- ---- a point added: r after the points from `from` up to `count`
 
-module _ (r : Pt) (from : ℕ) (points : List (List ℤ)) (count : ℕ) (w : Adding points from count) where
+module _ (r : Pt) {from : ℕ} {points : List (List ℤ)} {count : ℕ} (w : Adding points from count) where
   -- the place of the last point among those appended
   abbrev last : ℕ
   last = count - from - 1
@@ -75,7 +75,7 @@ module _ (r : Pt) (from : ℕ) (points : List (List ℤ)) (count : ℕ) (w : Add
   at-last : {new : List Pt} {points₀ : List (List ℤ)} → Appended new points₀ from points count → cornerIn points (count - 1) ≡ getD new last O
   at-last a =
       let e : count - 1 ≡ from + last = omega (arith, w .some) in
-      ap (cornerIn points) e ∙ new-at a (omega (arith, w .room)) last (omega (arith, a .count, w .some))
+      ap (cornerIn points) e ∙ new-at a (omega (arith, w .room)) (omega (arith, a .count, w .some))
 
   pub added-repeated : {t : Bool} → t ≡ eqPt (cornerIn points (count - 1)) r → t ≡ true → PointAdded r from points count points count
   added-repeated e t = record {
@@ -102,7 +102,7 @@ module _ (r : Pt) (from : ℕ) (points : List (List ℤ)) (count : ℕ) (w : Add
       straight-two =
           let m : count - 2 ≡ from + second = omega arith in
           let n : last ≡ suc second = omega arith in
-          ap₂ (λ p q. straightOn p q r) (sym (ap (cornerIn points) m ∙ new-at a (omega (arith, w .room)) second (omega (arith, a .count))))
+          ap₂ (λ p q. straightOn p q r) (sym (ap (cornerIn points) m ∙ new-at a (omega (arith, w .room)) (omega (arith, a .count))))
           (sym (at-last a ∙ ap (λ k. getD new k O) n))
 
     goes-two : s ≡ true → (from + 2 ≤ count) × (straightOn (cornerIn points (count - 2)) (cornerIn points (count - 1)) r ≡ true)
@@ -125,7 +125,7 @@ module _ (r : Pt) (from : ℕ) (points : List (List ℤ)) (count : ℕ) (w : Add
             let after : count - 1 + 1 ≡ count = omega (arith, w .some) in
             subst (λ l. Appended l points₀ from points′ count) (sym (with-straight r new n (size a (q .0)) (other-two a (q .0)) (straight-two a (q .0) ∙ q .1)))
             (appended-more
-            (subst (Appended (take (suc n) new) points₀ from points) before (appended-fewer a (omega (arith, w .room)) (suc n) (omega (arith, size a (q .0)))))
+            (subst (Appended (take (suc n) new) points₀ from points) before (appended-fewer a (omega (arith, w .room)) (omega (arith, size a (q .0)))))
             (subst (λ b. Appended (r ∷ []) points (count - 1) b count) (sym g)
             (subst (Appended (r ∷ []) points (count - 1) (set points (count - 1) (pairOf r))) after (appended-one points r (omega (arith, w .room))))))
 

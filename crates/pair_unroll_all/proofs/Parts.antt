@@ -148,10 +148,10 @@ some-leaves e = record { told = e; appended = λ t. differ (sym t) }
 
 -- ---- every point of every part is in range
 
-every-part : (reflected : Bool) (starts : List ℕ) (corners : List ℤ) → offRange corners ≡ false → (k : ℕ) → k < partCount starts → All Ranged (unrolled reflected (getD (tableParts starts corners) k []))
-every-part reflected starts corners h k l = subst (λ m. All Ranged (unrolled reflected m)) (part-is starts corners l) (unrolled-ranged reflected (partNumbers starts corners k) (part-ranged starts corners k h))
+every-part : (reflected : Bool) (starts : List ℕ) (corners : List ℤ) → offRange corners ≡ false → {k : ℕ} → k < partCount starts → All Ranged (unrolled reflected (getD (tableParts starts corners) k []))
+every-part reflected starts corners h {k} l = subst (λ m. All Ranged (unrolled reflected m)) (part-is starts corners l) (unrolled-ranged reflected (partNumbers starts corners k) (part-ranged starts corners k h))
 
 pub parts-ranged : (reflected : Bool) (starts : List ℕ) (corners : List ℤ) → tableBroken starts corners ≡ false → offRange corners ≡ false → All (All Ranged) (unrolledParts reflected (tableParts starts corners))
 parts-ranged reflected starts corners e h =
     all-image (All Ranged) (unrolled reflected) (tableParts starts corners) .1
-    (getD-all (λ m. All Ranged (unrolled reflected m)) (tableParts starts corners) [] (λ k l. every-part reflected starts corners h k (omega (arith, count-parts starts corners e))))
+    (getD-all (λ m. All Ranged (unrolled reflected m)) (tableParts starts corners) [] (λ k l. every-part reflected starts corners h (omega (arith, count-parts starts corners e))))

@@ -60,14 +60,14 @@ contours-count {firsts} {points} left right w =
 
 -- ---- rows and all pairs in pieces
 
-module _ (a : List Pt) (rs : List (List Pt)) (q : ℕ) (h : q < length rs) where
+module _ (a : List Pt) (rs : List (List Pt)) {q : ℕ} (h : q < length rs) where
   pub row-suc : mergedRow a (take (q + 1) rs) ≡ mergedRow a (take q rs) ++ (mergedOf a (getD rs q []) ∷ [])
   row-suc = ap (λ n. mergedRow a (take n rs)) (add-one q) ∙ ap (mergedRow a) (take-suc rs q [] h) ∙ map-append (mergedOf a) (take q rs) (getD rs q [] ∷ [])
 
   pub row-whole : mergedRow a rs ≡ mergedRow a (take q rs) ++ ((mergedOf a (getD rs q []) ∷ []) ++ mergedRow a (drop (suc q) rs))
   row-whole = ap (mergedRow a) (sym (take-append-drop q rs)) ∙ map-append (mergedOf a) (take q rs) (drop q rs) ∙ ap (λ l. mergedRow a (take q rs) ++ mergedRow a l) (drop-cons rs q [] h)
 
-module _ (ls rs : List (List Pt)) (p : ℕ) (h : p < length ls) where
+module _ (ls rs : List (List Pt)) {p : ℕ} (h : p < length ls) where
   all-append : (x y : List (List Pt)) → mergedAll (x ++ y) rs ≡ mergedAll x rs ++ mergedAll y rs
   all-append x y = ap flatten (map-append (λ a. mergedRow a rs) x y) ∙ flatten-append (map (λ a. mergedRow a rs) x) (map (λ a. mergedRow a rs) y)
 

@@ -35,7 +35,7 @@ use Rattle.pair_walks.specs.Walks.{walksIn, Walks, mergedRow, mergedAll}
 pub walks-in : {firsts : List ℕ} {points : List (List ℤ)} {ps : List (List Pt)} → Gathered firsts points (record { parts = length ps; corners = length (flatten ps) }) ps → getD firsts (length ps) 0 ≡ length (flatten ps) → walksIn firsts points (length ps) ≡ ps
 walks-in {points} {ps} g e = ap₂ partsOf (g .begins) (ap (λ n. firstPoints n points) e ∙ g .gathered) ∙ parts-starts ps
 
-module _ (firsts : List ℕ) (points : List (List ℤ)) (n q : ℕ) (w : Walks firsts points n) (h : q < n) where
+module _ {firsts : List ℕ} {points : List (List ℤ)} {n q : ℕ} (w : Walks firsts points n) (h : q < n) where
   abbrev ws : List (List Pt)
   ws = walksIn firsts points n
 
@@ -76,7 +76,7 @@ firsts-rise {firsts} w p zero h = omega (arith, ap (λ k. getD firsts k 0) (end 
     end : (p : ℕ) → p + 0 ≡ p
     end p = omega arith
 firsts-rise {firsts} {points} {n} w p (suc d) h =
-    omega (arith, firsts-rise w p d (omega arith), walk-placed firsts points n (p + d) w (omega arith) .rises, ap (λ k. getD firsts k 0) (along d))
+    omega (arith, firsts-rise w p d (omega arith), walk-placed {q = p + d} w (omega arith) .rises, ap (λ k. getD firsts k 0) (along d))
   where
     along : (d : ℕ) → p + suc d ≡ p + d + 1
     along d = omega arith
@@ -87,14 +87,14 @@ unfolding inRange
 coordinate-in-range {z} h =
     rw (<-leZ {x = z} {y = negsuc 1073741823} (omega (zarith, abs-parts z, h .abs)), <-ltZ {x = z} {y = pos 1073741824} (omega (zarith, abs-parts z, h .abs)))
 
-coordinates-grid : (p : Pt) → Coordinate (p .x) × Coordinate (p .y) → onGrid p ≡ true
+coordinates-grid : {p : Pt} → Coordinate (p .x) × Coordinate (p .y) → onGrid p ≡ true
 unfolding onGrid
-coordinates-grid p h = rw (coordinate-in-range (h .0), coordinate-in-range (h .1))
+coordinates-grid {p} h = rw (coordinate-in-range (h .0), coordinate-in-range (h .1))
 
 -- lists gathered that turn at each point, of coordinates in range
 module _ (firsts : List ℕ) (points : List (List ℤ)) (ps : List (List Pt)) (g : Gathered firsts points (record { parts = length ps; corners = length (flatten ps) }) ps) where
   pub last-place : getD firsts (length ps) 0 ≡ length (flatten ps)
-  last-place = start-at firsts points (record { parts = length ps; corners = length (flatten ps) }) ps g (length ps) (omega arith) ∙ ap (λ l. length (flatten l)) (take-all (length ps) ps (omega arith))
+  last-place = start-at firsts points (record { parts = length ps; corners = length (flatten ps) }) ps g (omega arith) ∙ ap (λ l. length (flatten l)) (take-all (length ps) ps (omega arith))
 
   pub gathered-walks-in : walksIn firsts points (length ps) ≡ ps
   gathered-walks-in = walks-in g last-place
@@ -104,7 +104,7 @@ module _ (firsts : List ℕ) (points : List (List ℤ)) (ps : List (List Pt)) (g
       let e : ps ≡ walksIn firsts points (length ps) = sym gathered-walks-in in
       record {
         gathered = subst (Gathered firsts points (record { parts = length ps; corners = getD firsts (length ps) 0 })) e (subst (λ k. Gathered firsts points (record { parts = length ps; corners = k }) ps) (sym last-place) g);
-        grid = subst (All (All (λ p. onGrid p ≡ true))) e (all-map ps (λ w k. all-map w (λ p c. coordinates-grid p c) k) h);
+        grid = subst (All (All (λ p. onGrid p ≡ true))) e (all-map ps (λ w k. all-map w (λ p c. coordinates-grid c) k) h);
         turning = subst (All Turning) e t;
         short = subst (All (λ w. length w ≤ (maxContour + 1))) e k;
       }

@@ -32,11 +32,11 @@ some-factor : (m n : ℕ) → 0 < m * n → 0 < n
 some-factor m zero h = absurd (omega arith)
 some-factor m (suc n) h = omega arith
 
-module _ (firsts : List ℕ) (points : List (List ℤ)) (numbers : List ℕ) (left right : ℕ) (w : Walkable firsts points numbers left right) where
+module _ {firsts : List ℕ} {points : List (List ℤ)} {numbers : List ℕ} {left right : ℕ} (w : Walkable firsts points numbers left right) where
   pub pairs-count : length (contoursIn firsts points left right) ≡ left * right
   pairs-count = contours-count left right (w .keyed .walks)
 
-  module _ (k : ℕ) (h : k < left * right) where
+  module _ {k : ℕ} (h : k < left * right) where
     pub some-right : 0 < right
     some-right = some-factor left right (omega arith)
 
@@ -54,7 +54,7 @@ module _ (firsts : List ℕ) (points : List (List ℤ)) (numbers : List ℕ) (le
         let n = rights-count firsts points left right (w .keyed .walks) in
         let e : k ≡ k / right * length rs + k % right = sym (ap (λ r. k / right * r + k % right) n ∙ div-add-mod' k right) in
         ap (λ i. getD (contoursIn firsts points left right) i []) e
-        ∙ pairs-at mergedOf rs ls (k / right) (k % right) [] [] [] (omega (arith, p-inside, m)) (omega (arith, q-inside, n))
+        ∙ pairs-at mergedOf rs ls (k / right) [] [] [] (omega (arith, p-inside, m)) (omega (arith, q-inside, n))
         ∙ ap₂ mergedOf (left-walk firsts points left right p-inside) (right-walk firsts points left right (k % right))
 
     pub merging : {work : List ℤ} → 4 * maxContour ≤ length work → Merging firsts points numbers left right (k / right) (k % right) work
@@ -87,7 +87,7 @@ module _ {firsts : List ℕ} {points : List (List ℤ)} {numbers : List ℕ} {le
       omega (
         arith,
         length-merged (walkIn firsts points (left + right) p) (walkIn firsts points (left + right) (left + q)),
-        walk-short firsts points (left + right) p (h .keyed .walks) (omega (arith, h .p-inside)),
-        walk-short firsts points (left + right) (left + q) (h .keyed .walks) (omega (arith, h .q-inside)),
+        walk-short {q = p} (h .keyed .walks) (omega (arith, h .p-inside)),
+        walk-short {q = left + q} (h .keyed .walks) (omega (arith, h .q-inside)),
       ) in
       whole-corners k o′ (omega (arith, m .count, m .size, few, f, h .for-corners))

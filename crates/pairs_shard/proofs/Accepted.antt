@@ -79,13 +79,13 @@ steps-from m n x s e zero h = e
 steps-from m n x [] e (suc f) h = absurd (omega arith)
 steps-from m n x (y ∷ s) e (suc f) h = steps-from m n y s (step m n x y s e .rest) f (omega arith)
 
-steps-less : (m n a x : ℕ) (s : List ℕ) (k : ℕ) → stepsBroken m n x s ≡ false → a ≤ x → k ≤ length s → stepsBroken m (getD (x ∷ s) k 0 - a) (x - a) (map (λ t. t - a) (take k s)) ≡ false
+steps-less : (m n a : ℕ) {x : ℕ} (s : List ℕ) (k : ℕ) → stepsBroken m n x s ≡ false → a ≤ x → k ≤ length s → stepsBroken m (getD (x ∷ s) k 0 - a) (x - a) (map (λ t. t - a) (take k s)) ≡ false
 unfolding stepsBroken
-steps-less m n a x s zero e h q = rw (eq-eqb (x - a) (x - a) refl)
-steps-less m n a x [] (suc k) e h q = absurd (omega arith)
-steps-less m n a x (y ∷ s) (suc k) e h q =
+steps-less m n a {x} s zero e h q = rw (eq-eqb (x - a) (x - a) refl)
+steps-less m n a {x} [] (suc k) e h q = absurd (omega arith)
+steps-less m n a {x} (y ∷ s) (suc k) e h q =
     let t = step m n x y s e in
-    rw (le-ltb (y - a) (x - a) (omega arith), le-ltb (x - a + m) (y - a) (omega arith)) (steps-less m n a y s k (t .rest) (omega arith) (omega arith))
+    rw (le-ltb (y - a) (x - a) (omega arith), le-ltb (x - a + m) (y - a) (omega arith)) (steps-less m n a s k (t .rest) (omega arith) (omega arith))
 
 starts-less : (m n : ℕ) (s : List ℕ) → stepsBroken m n 0 s ≡ false → (f k : ℕ) → f + k ≤ length s
     → startsBroken m (getD (0 ∷ s) (f + k) 0 - getD (0 ∷ s) f 0) (map (λ t. t - getD (0 ∷ s) f 0) (take (suc k) (drop f (0 ∷ s)))) ≡ false
@@ -94,7 +94,7 @@ starts-less m n s e f k h =
     let x = getD (0 ∷ s) f 0 in
     let d = drop-cons (0 ∷ s) f 0 (omega arith) in
     let g : getD (getD (0 ∷ s) f 0 ∷ drop f s) k 0 ≡ getD (0 ∷ s) (f + k) 0 = ap (λ l. getD l k 0) (sym d) ∙ getD-drop f (0 ∷ s) k 0 in
-    let q = steps-less m n x x (drop f s) k (steps-from m n 0 s e f (omega arith)) (omega arith) (omega (arith, length-drop f s)) in
+    let q = steps-less m n x (drop f s) k (steps-from m n 0 s e f (omega arith)) (omega arith) (omega (arith, length-drop f s)) in
     ap (λ l. startsBroken m (getD (0 ∷ s) (f + k) 0 - x) (map (λ t. t - x) (take (suc k) l))) d
     ∙ rw (eq-eqb (x - x) 0 (omega arith)) (ap (λ w. stepsBroken m (w - x) (x - x) (map (λ t. t - x) (take k (drop f s)))) (sym g) ∙ q)
 
@@ -162,9 +162,9 @@ module _ (f e : ℕ) (bytes : List ℕ) (c : Cuts f e bytes) where
       let from = tests s₀ (cornersAt bytes 5) t .from in
       let n : length s₀ ≡ suc (length (from .rest)) = ap length (from .shape) in
       let z : f + (e - f) ≡ e = omega (arith, c .parts) in
-      let last : startAt bytes e ≡ getD s₀ (f + (e - f)) 0 = sym (start-word bytes e (c .past)) ∙ ap (λ k. getD s₀ k 0) (sym z) in
-      let first : startAt bytes f ≡ getD s₀ f 0 = sym (start-word bytes f (omega (arith, c .parts, c .past))) in
-      (λ i. startsBroken maxContour (last i - first i) (map (λ t. t - first i) (some-starts f e bytes c i)))
+      let last : startAt bytes e ≡ getD s₀ (f + (e - f)) 0 = sym (start-word bytes (c .past)) ∙ ap (λ k. getD s₀ k 0) (sym z) in
+      let first : startAt bytes f ≡ getD s₀ f 0 = sym (start-word bytes (omega (arith, c .parts, c .past))) in
+      (λ i. startsBroken maxContour (last i - first i) (map (λ t. t - first i) (some-starts c i)))
       ∙ subst (λ s. startsBroken maxContour (getD s (f + (e - f)) 0 - getD s f 0) (map (λ t. t - getD s f 0) (take (suc (e - f)) (drop f s))) ≡ false) (sym (from .shape))
       (starts-less maxContour _ (from .rest) (from .steps) f (e - f) (omega (arith, n, z, c .past, many f e bytes c)))
 
@@ -173,33 +173,33 @@ module _ (f e : ℕ) (bytes : List ℕ) (c : Cuts f e bytes) where
       let k = known f e bytes c in
       let T = shardStarts f e bytes in
       let C = map signed (slice (cornerPlace bytes f) (cornerPlace bytes e) (wordsOf bytes)) in
-      let m = length-map (slice (cornerPlace bytes f) (cornerPlace bytes e) (wordsOf bytes)) signed ∙ length-corners f e bytes c in
-      (λ i. tableBroken (starts-read f e bytes c i) (corners-read f e bytes c i))
-      ∙ sym (rules T C {n = startAt bytes e - startAt bytes f} m (omega (arith, length-starts f e bytes c)) (omega arith)) ∙ starts-cut t
+      let m = length-map (slice (cornerPlace bytes f) (cornerPlace bytes e) (wordsOf bytes)) signed ∙ length-corners c in
+      (λ i. tableBroken (starts-read c i) (corners-read c i))
+      ∙ sym (rules T C {n = startAt bytes e - startAt bytes f} m (omega (arith, length-starts c)) (omega arith)) ∙ starts-cut t
 
   fewer : tableBroken s₀ (cornersAt bytes 5) ≡ false → f < e → Fewer (leftOf bytes) (leftOf S)
   unfolding leftOf
   fewer t h =
       let a = startAt bytes f in
       let b = startAt bytes e in
-      let numbers = corners-read f e bytes c ∙ some-numbers f e bytes c in
+      let numbers = corners-read c ∙ some-numbers c in
       record {
         table = table-cut t;
         range = λ o. ap offRange numbers ∙ off-some a b (cornersAt bytes 5) o;
-        bounds = bounds-read f e bytes c;
+        bounds = bounds-read c;
         inside =
             λ r o. ap (someOutside r) (ap pointsOf numbers ∙ points-slice a b (cornersAt bytes 5))
             ∙ outside-drop r a (take b (pointsOf (cornersAt bytes 5))) (outside-take r b (pointsOf (cornersAt bytes 5)) o);
         windings =
-            λ o. ap (someWindingLeaves false) (parts-read f e bytes c)
+            λ o. ap (someWindingLeaves false) (parts-read c)
             ∙ winding-take (e - f) (drop f (operandParts (leftOf bytes))) (winding-drop f (operandParts (leftOf bytes)) o);
-        some = λ z. omega (arith, z, h, ap length (starts-read f e bytes c), length-starts f e bytes c);
+        some = λ z. omega (arith, z, h, ap length (starts-read c), length-starts c);
       }
 
   -- it is as long as its counts say
   right-same : (wordAt S (rightPlace S) ≡ wordAt bytes (rightPlace bytes)) × (wordAt S (rightPlace S + 1) ≡ wordAt bytes (rightPlace bytes + 1))
   right-same =
-      let r = rest-read f e bytes c in (
+      let r = rest-read c in (
         right-parts S ∙ ap (λ l. getD l 4 0) r ∙ sym (right-parts bytes),
         right-corners S ∙ ap (λ l. getD l 5 0) r ∙ sym (right-corners bytes),
       )
@@ -209,7 +209,7 @@ module _ (f e : ℕ) (bytes : List ℕ) (c : Cuts f e bytes) where
   sized-cut h =
       let k = known f e bytes c in
       let n : length S ≡ 4 * (rightPlace S + tableWords S (rightPlace S)) =
-      omega (arith, length-cut k, sized bytes h, place bytes, place S, parts-word f e bytes c, corners-word f e bytes c, right-same .0, right-same .1) in
+      omega (arith, length-cut k, sized bytes h, place bytes, place S, parts-word c, corners-word c, right-same .0, right-same .1) in
       rw (eq-eqb _ _ n)
 
   pub accepted-cut-at : jobFault bytes ≡ 0 → shapeFault bytes ≡ 0 → f < e → jobFault S ≡ 0
@@ -217,10 +217,10 @@ module _ (f e : ℕ) (bytes : List ℕ) (c : Cuts f e bytes) where
       let s = shaped bytes z in
       let k = known f e bytes c in
       let o = shape-passed bytes z in
-      let t = ap (λ w. eqb w 1) (head-word f e bytes c 0 (omega arith)) in
+      let t = ap (λ w. eqb w 1) (head-word c 0 (omega arith)) in
       let first = first-none (tableBroken (leftOf bytes .starts) (leftOf bytes .corners)) _ (omega arith) (sym o ∙ j) in
-      to-operands S (le-ltb (length S) 4 (omega (arith, length-cut k))) (ap (ltb 1) (head-word f e bytes c 0 (omega arith)) ∙ le-ltb 1 (operation bytes) (s .known)) (sized-cut (s .right-length))
-      ∙ (λ i. firstFault (pairKinds (t i) (leftOf S) (right-read f e bytes c i)))
+      to-operands S (le-ltb (length S) 4 (omega (arith, length-cut k))) (ap (ltb 1) (head-word c 0 (omega arith)) ∙ le-ltb 1 (operation bytes) (s .known)) (sized-cut (s .right-length))
+      ∙ (λ i. firstFault (pairKinds (t i) (leftOf S) (right-read c i)))
       ∙ fewer-kinds (reflectedOf bytes) (rightOf bytes) (fewer (left-as bytes (first .0)) h) (sym o ∙ j)
 
 -- ---- the shard of the numbers that are asked for

@@ -72,9 +72,9 @@ module _ (i j : ℕ) (bytes old : List ℕ) where
   pub refused-cut : {f : ℕ} → f ≡ shardFault bytes → (f ≡ 0 → ⊥) → (record { fault = f; size = 0 } ≡ cutOf i j bytes) × (old ≡ bytesCut i j bytes old)
   refused-cut e d =
       let n : shardFault bytes ≡ 0 → ⊥ = λ z. d (e ∙ z) in
-      (rw (ne-eqb (shardFault bytes) 0 n) (λ k. record { fault = e k; size = 0 }), sym (refused-buffer _ n (shardOf i j bytes) old))
+      (rw (ne-eqb (shardFault bytes) 0 n) (λ k. record { fault = e k; size = 0 }), sym (refused-buffer n (shardOf i j bytes) old))
 
   pub accepted-cut : shardFault bytes ≡ 0 → {n : ℕ} {b : List ℕ} → n ≡ length (shardOf i j bytes) → b ≡ overlay (shardOf i j bytes) old
       → (record { fault = 0; size = n } ≡ cutOf i j bytes) × (b ≡ bytesCut i j bytes old)
   accepted-cut z e q =
-      (rw (eq-eqb (shardFault bytes) 0 z) (λ k. record { fault = sym z k; size = e k }), q ∙ sym (accepted-buffer _ z (shardOf i j bytes) old))
+      (rw (eq-eqb (shardFault bytes) 0 z) (λ k. record { fault = sym z k; size = e k }), q ∙ sym (accepted-buffer z (shardOf i j bytes) old))

@@ -33,8 +33,8 @@ least-of a b =
 
 -- ---- the left table's starts
 
-pub start-word : (bytes : List ℕ) (k : ℕ) → k ≤ wordAt bytes 5 → getD (startsAt bytes 5) k 0 ≡ startAt bytes k
-start-word bytes k h = getD-take (wordAt bytes 5 + 1) (drop 7 (wordsOf bytes)) k 0 (omega arith) ∙ getD-drop 7 (wordsOf bytes) k 0
+pub start-word : (bytes : List ℕ) {k : ℕ} → k ≤ wordAt bytes 5 → getD (startsAt bytes 5) k 0 ≡ startAt bytes k
+start-word bytes {k} h = getD-take (wordAt bytes 5 + 1) (drop 7 (wordsOf bytes)) k 0 (omega arith) ∙ getD-drop 7 (wordsOf bytes) k 0
 
 -- starts rise
 ascend : (s : List ℕ) → ((k : ℕ) → suc k < length s → getD s k 0 ≤ getD s (suc k) 0) → (d f : ℕ) → f + d < length s → getD s f 0 ≤ getD s (f + d) 0
@@ -62,13 +62,13 @@ module _ (f e : ℕ) (bytes : List ℕ) (c : Cuts f e bytes) where
 
   pub rising : (g d : ℕ) → g + d ≤ wordAt bytes 5 → startAt bytes g ≤ startAt bytes (g + d)
   rising g d h =
-      omega (arith, ascend (startsAt bytes 5) (table-sound .rises) d g (omega (arith, many)), start-word bytes g (omega arith), start-word bytes (g + d) h)
+      omega (arith, ascend (startsAt bytes 5) (table-sound .rises) d g (omega (arith, many)), start-word bytes {k = g} (omega arith), start-word bytes h)
 
   -- no start is past the corner count
   pub each-bounded : {k : ℕ} → k ≤ wordAt bytes 5 → startAt bytes k ≤ wordAt bytes 6
   each-bounded {k} h =
       let s = shaped bytes (cuttable bytes (c .fault) .shape) in
-      omega (arith, table-sound .bounded k (omega (arith, many)), count-numbers bytes 5 (left-inside bytes (s .right-length)), start-word bytes k h)
+      omega (arith, table-sound .bounded k (omega (arith, many)), count-numbers bytes 5 (left-inside bytes (s .right-length)), start-word bytes h)
 
   pub known : Known f e bytes
   known =

@@ -54,17 +54,17 @@ rise-bound : {b : ℕ} {x : ℕ} (s : List ℕ) → Rise b (x ∷ s) → x ≤ b
 rise-bound [] r = r
 rise-bound (y ∷ s) r = omega (arith, r .0, rise-bound {x = y} s (r .1))
 
-parts-less : (a b x : ℕ) (s : List ℕ) (l : List Pt) → a ≤ x → Rise b (x ∷ s) → partsOf (map (λ t. t - a) (x ∷ s)) (slice a b l) ≡ partsOf (x ∷ s) l
+parts-less : (a b : ℕ) {x : ℕ} (s : List ℕ) (l : List Pt) → a ≤ x → Rise b (x ∷ s) → partsOf (map (λ t. t - a) (x ∷ s)) (slice a b l) ≡ partsOf (x ∷ s) l
 unfolding partsOf
-parts-less a b x [] l h r = refl
-parts-less a b x (y ∷ s) l h r =
-    λ i. slice-slice l h (r .0) (rise-bound s (r .1)) i ∷ parts-less a b y s l (omega (arith, h, r .0)) (r .1) i
+parts-less a b {x} [] l h r = refl
+parts-less a b {x} (y ∷ s) l h r =
+    λ i. slice-slice l h (r .0) (rise-bound s (r .1)) i ∷ parts-less a b s l (omega (arith, h, r .0)) (r .1) i
 
 -- starts that rise, by their numbers
-pub rise-by : (b : ℕ) (s : List ℕ) → ((k : ℕ) → suc k < length s → getD s k 0 ≤ getD s (suc k) 0) → ((k : ℕ) → k < length s → getD s k 0 ≤ b) → Rise b s
-rise-by b [] r q = tt
-rise-by b (x ∷ []) r q = q 0 (omega arith)
-rise-by b (x ∷ y ∷ s) r q = (r 0 (omega arith), rise-by b (y ∷ s) (λ k h. r (suc k) (omega arith)) (λ k h. q (suc k) (omega arith)))
+pub rise-by : {b : ℕ} (s : List ℕ) → ((k : ℕ) → suc k < length s → getD s k 0 ≤ getD s (suc k) 0) → ((k : ℕ) → k < length s → getD s k 0 ≤ b) → Rise b s
+rise-by {b} [] r q = tt
+rise-by {b} (x ∷ []) r q = q 0 (omega arith)
+rise-by {b} (x ∷ y ∷ s) r q = (r 0 (omega arith), rise-by (y ∷ s) (λ k h. r (suc k) (omega arith)) (λ k h. q (suc k) (omega arith)))
 
 pub parts-cut :
     (f m b : ℕ) (s : List ℕ) (l : List Pt) → f < length s → Rise b (take (suc m) (drop f s)) →
@@ -73,7 +73,7 @@ parts-cut f m b s l h r =
     let x = getD s f 0 in
     let e = drop-cons s f 0 h in
     ap (λ d. partsOf (map (λ t. t - x) (take (suc m) d)) (slice x b l)) e
-    ∙ parts-less x b x (take m (drop (suc f) s)) l (omega arith) (subst (λ d. Rise b (take (suc m) d)) e r)
+    ∙ parts-less x b (take m (drop (suc f) s)) l (omega arith) (subst (λ d. Rise b (take (suc m) d)) e r)
     ∙ ap (λ d. partsOf (take (suc m) d) l) (sym e) ∙ parts-take m (drop f s) l ∙ ap (take m) (parts-drop f s l)
 
 -- ---- some of some of a list
@@ -83,8 +83,8 @@ pub take-within : {A : Type 0} (f n q : ℕ) (l : List A) → f + n ≤ q → ta
 take-within f n q l h = ap (take n) (sym (take-drop f q l (omega arith))) ∙ take-take n (q - f) (drop f l) (omega arith)
 
 -- from u up to v of what stands from q on
-pub slice-drop : {A : Type 0} (q u v : ℕ) (l : List A) → u ≤ v → slice (q + u) (q + v) l ≡ slice u v (drop q l)
-slice-drop q u v l h =
+pub slice-drop : {A : Type 0} (q : ℕ) {u v : ℕ} (l : List A) → u ≤ v → slice (q + u) (q + v) l ≡ slice u v (drop q l)
+slice-drop q {u} {v} l h =
     let z : q + v - (q + u) ≡ v - u = omega arith in
     sym (take-drop (q + u) (q + v) l (omega arith)) ∙ ap (λ n. take n (drop (q + u) l)) z ∙ ap (take (v - u)) (sym (drop-drop u q l)) ∙ take-drop u v (drop q l) h
 

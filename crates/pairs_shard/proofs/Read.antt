@@ -23,7 +23,7 @@ use Rattle.pairs_shard.proofs.Known.{known, start-word, rising, many, a
 use Rattle.pairs_shard.proofs.Words.{laid-head, laid-parts, laid-corners, starts-laid, corners-laid, rest-laid, restOperand, right-from, length-starts, length-head, length-corners, shard-words}
 use Rattle.pairs_shard.proofs.Parts.{Rise, rise-by, parts-cut, take-within, slice-drop, clamped}
 
-module _ (f e : ℕ) (bytes : List ℕ) (c : Cuts f e bytes) where
+module _ {f e : ℕ} {bytes : List ℕ} (c : Cuts f e bytes) where
   abbrev S : List ℕ
   S = shardBytes f e bytes
 
@@ -52,31 +52,31 @@ module _ (f e : ℕ) (bytes : List ℕ) (c : Cuts f e bytes) where
 
   pub head-word : (i : ℕ) → i < 5 → wordAt S i ≡ wordAt bytes i
   head-word i h =
-      ap (λ w. getD w i 0) (shard-words f e bytes c)
-      ∙ laid-head H T C R x y (length-head f e bytes c) (length-starts f e bytes c) (length-corners f e bytes c) h ∙ getD-take 5 W i 0 h
+      ap (λ w. getD w i 0) (shard-words c)
+      ∙ laid-head H T C R x y (length-head c) (length-starts c) (length-corners c) h ∙ getD-take 5 W i 0 h
 
   pub parts-word : wordAt S 5 ≡ e - f
   parts-word =
-      ap (λ w. getD w 5 0) (shard-words f e bytes c) ∙ laid-parts H T C R x y (length-head f e bytes c) (length-starts f e bytes c) (length-corners f e bytes c)
+      ap (λ w. getD w 5 0) (shard-words c) ∙ laid-parts H T C R x y (length-head c) (length-starts c) (length-corners c)
 
   pub corners-word : wordAt S 6 ≡ startAt bytes e - startAt bytes f
   corners-word =
-      ap (λ w. getD w 6 0) (shard-words f e bytes c) ∙ laid-corners H T C R x y (length-head f e bytes c) (length-starts f e bytes c) (length-corners f e bytes c)
+      ap (λ w. getD w 6 0) (shard-words c) ∙ laid-corners H T C R x y (length-head c) (length-starts c) (length-corners c)
 
   pub starts-read : startsAt S 5 ≡ T
   starts-read =
-      (λ i. take (parts-word i + 1) (drop 7 (shard-words f e bytes c i)))
-      ∙ starts-laid H T C R x y (length-head f e bytes c) (length-starts f e bytes c) (length-corners f e bytes c)
+      (λ i. take (parts-word i + 1) (drop 7 (shard-words c i)))
+      ∙ starts-laid H T C R x y (length-head c) (length-starts c) (length-corners c)
 
   pub corners-read : cornersAt S 5 ≡ map signed C
   corners-read =
-      (λ i. map signed (take (2 * corners-word i) (drop (5 + 3 + parts-word i) (shard-words f e bytes c i))))
-      ∙ ap (map signed) (corners-laid H T C R x y (length-head f e bytes c) (length-starts f e bytes c) (length-corners f e bytes c))
+      (λ i. map signed (take (2 * corners-word i) (drop (5 + 3 + parts-word i) (shard-words c i))))
+      ∙ ap (map signed) (corners-laid H T C R x y (length-head c) (length-starts c) (length-corners c))
 
   pub rest-read : drop (5 + tableWords S 5) (wordsOf S) ≡ R
   rest-read =
-      (λ i. drop (5 + (3 + parts-word i + 2 * corners-word i)) (shard-words f e bytes c i))
-      ∙ rest-laid H T C R x y (length-head f e bytes c) (length-starts f e bytes c) (length-corners f e bytes c)
+      (λ i. drop (5 + (3 + parts-word i + 2 * corners-word i)) (shard-words c i))
+      ∙ rest-laid H T C R x y (length-head c) (length-starts c) (length-corners c)
 
   -- ---- its operands
 
@@ -113,7 +113,7 @@ module _ (f e : ℕ) (bytes : List ℕ) (c : Cuts f e bytes) where
       let b = 2 * startAt bytes e in
       let n = 2 * wordAt bytes 6 in
       let q = 8 + wordAt bytes 5 in
-      ap (map signed) (slice-drop q a b W (omega arith) ∙ ap (drop a) (sym (take-take b n (drop q W) (omega arith))))
+      ap (map signed) (slice-drop q W (omega arith) ∙ ap (drop a) (sym (take-take b n (drop q W) (omega arith))))
       ∙ map-drop signed a (take b (take n (drop q W))) ∙ ap (drop a) (map-take signed b (take n (drop q W)))
 
   some-points : pointsOf (map signed C) ≡ slice (startAt bytes f) (startAt bytes e) l₀
@@ -121,21 +121,21 @@ module _ (f e : ℕ) (bytes : List ℕ) (c : Cuts f e bytes) where
 
   starts-at : (k : ℕ) → k < suc (e - f) → getD (take (suc (e - f)) (drop f s₀)) k 0 ≡ startAt bytes (f + k)
   starts-at k h =
-      getD-take (suc (e - f)) (drop f s₀) k 0 h ∙ getD-drop f s₀ k 0 ∙ start-word bytes (f + k) (omega (arith, c .parts, c .past))
+      getD-take (suc (e - f)) (drop f s₀) k 0 h ∙ getD-drop f s₀ k 0 ∙ start-word bytes (omega (arith, c .parts, c .past))
 
   some-length : length (take (suc (e - f)) (drop f s₀)) ≡ suc (e - f)
   some-length = length-take-le (suc (e - f)) (drop f s₀) (omega (arith, length-drop f s₀, many f e bytes c, c .parts, c .past))
 
   rise : Rise (startAt bytes e) (take (suc (e - f)) (drop f s₀))
   rise =
-      rise-by (startAt bytes e) (take (suc (e - f)) (drop f s₀))
+      rise-by (take (suc (e - f)) (drop f s₀))
       (λ k h. let z : f + suc k ≡ f + k + 1 = omega arith in
       omega (arith, starts-at k (omega (arith, some-length)), starts-at (suc k) (omega (arith, some-length)), ap (startAt bytes) z, rising f e bytes c (f + k) 1 (omega (arith, some-length, c .parts, c .past))))
       (λ k h. let z : f + k + (e - f - k) ≡ e = omega (arith, some-length, c .parts) in
       omega (arith, starts-at k (omega (arith, some-length)), ap (startAt bytes) z, rising f e bytes c (f + k) (e - f - k) (omega (arith, z, c .past))))
 
   first-start : getD s₀ f 0 ≡ startAt bytes f
-  first-start = start-word bytes f (omega (arith, c .parts, c .past))
+  first-start = start-word bytes (omega (arith, c .parts, c .past))
 
   pub parts-read : tableParts (startsAt S 5) (cornersAt S 5) ≡ take (e - f) (drop f (tableParts s₀ (cornersAt bytes 5)))
   unfolding tableParts
@@ -159,8 +159,8 @@ shard-operands i j bytes z =
     let e = pastPart j bytes in
     let u = asked i j {bytes = bytes} z in
     record {
-      operation = ap (λ w. eqb w 1) (head-word f e bytes u 0 (omega arith));
-      parts = parts-read f e bytes u ∙ clamped i j (tableParts (startsAt bytes 5) (cornersAt bytes 5)) (left-count bytes z);
-      bounds = bounds-read f e bytes u;
-      right = right-read f e bytes u;
+      operation = ap (λ w. eqb w 1) (head-word u 0 (omega arith));
+      parts = parts-read u ∙ clamped i j (tableParts (startsAt bytes 5) (cornersAt bytes 5)) (left-count bytes z);
+      bounds = bounds-read u;
+      right = right-read u;
     }

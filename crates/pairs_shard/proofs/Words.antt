@@ -130,7 +130,7 @@ module _ (bytes : List ℕ) where
 
 -- ---- the shard's words
 
-module _ (f e : ℕ) (bytes : List ℕ) (c : Cuts f e bytes) where
+module _ {f e : ℕ} {bytes : List ℕ} (c : Cuts f e bytes) where
   counts-small : All Word (shardCounts f e bytes)
   counts-small =
       let k = known f e bytes c in

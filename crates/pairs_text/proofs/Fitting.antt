@@ -40,9 +40,9 @@ module _ (x : Begun) (firsts : List ℕ) (points : List (List ℤ)) where
 
   -- ---- a line
 
-  line-at : (k : ℕ) → k < x .left * x .right → getD (piecesIn x firsts points) (suc k) [] ≡ lineIn x firsts points k
+  line-at : {k : ℕ} → k < x .left * x .right → getD (piecesIn x firsts points) (suc k) [] ≡ lineIn x firsts points k
   unfolding piecesIn
-  line-at k h =
+  line-at {k} h =
       getD-map-inside (lineIn x firsts points) (upTo (x .left * x .right)) k (omega (arith, length-upTo (x .left * x .right)))
       ∙ ap (lineIn x firsts points) (getD-upTo (x .left * x .right) 0 h)
     where
@@ -55,7 +55,7 @@ module _ (x : Begun) (firsts : List ℕ) (points : List (List ℤ)) where
   piece-line zero d h = absurd (d refl)
   piece-line (suc k) d h =
       let z : suc k - 1 ≡ k = omega arith in
-      ap (lineIn x firsts points) z ∙ sym (line-at k (omega arith))
+      ap (lineIn x firsts points) z ∙ sym (line-at (omega arith))
 
   module _ {numbers : List ℕ} {k : ℕ} {work : List ℤ} {out : List ℕ} (p : Fitting x firsts points numbers k work out) (d : k ≡ 0 → ⊥) where
     pub some-right : 0 < x .right

@@ -14,8 +14,8 @@ module _ {A : Type 0} (f : ℕ → ℕ → A) (n : ℕ) where
   numbered k = f (k / n) (k % n)
 
   -- (m * n + j) / n = m and (m * n + j) % n = j
-  in-row : (m j : ℕ) → j < n → numbered (m * n + j) ≡ f m j
-  in-row m j h =
+  in-row : (m : ℕ) {j : ℕ} → j < n → numbered (m * n + j) ≡ f m j
+  in-row m {j} h =
       let p : 0 < n = omega arith in
       ap₂ f (mul-add-div-right p m j ∙ ap (λ q. m + q) (div-eq-of-lt h) ∙ omega arith) (mul-add-mod-self-right m n j ∙ mod-eq-of-lt h)
 
@@ -28,7 +28,7 @@ module _ {A : Type 0} (f : ℕ → ℕ → A) (n : ℕ) where
   row-numbered m (suc j) h =
       let z : m * n + suc j ≡ suc (m * n + j) = omega arith in
       ap (λ k. map numbered (upTo k)) z ∙ ap (map numbered) (upTo-suc (m * n + j)) ∙ map-append numbered (upTo (m * n + j)) ((m * n + j) ∷ [])
-      ∙ ap₂ (λ l x. l ++ (x ∷ [])) (row-numbered m j (omega arith)) (in-row m j (omega arith))
+      ∙ ap₂ (λ l x. l ++ (x ∷ [])) (row-numbered m j (omega arith)) (in-row m (omega arith))
       ∙ append-assoc (map numbered (upTo (m * n))) (map (f m) (upTo j)) (f m j ∷ [])
       ∙ ap (λ l. map numbered (upTo (m * n)) ++ l) (sym (ap (map (f m)) (upTo-suc j) ∙ map-append (f m) (upTo j) (j ∷ [])))
 

@@ -41,4 +41,4 @@ pub refusal-any : (f : ℕ) → length (refusal f) ≤ 29
 refusal-any f = omega (arith, refusal-length f, decimal-size f)
 
 pub put-inside : {t out out′ : List ℕ} {r : ℕ} → PutText t 0 out out′ r → r ≤ length out′
-put-inside {t} {out} {out′} {r} p = front-fits t out (put-whole p .1) r (sym (put-whole p .0))
+put-inside {t} {out} {out′} {r} p = front-fits t out (put-whole p .1) (sym (put-whole p .0))

@@ -52,7 +52,7 @@ module _ (bytes : List ℕ) (e : shapeFault bytes ≡ 0) where
 
 -- ---- the front of a buffer
 
-module _ {A : Type 0} (new old : List A) {buf : List A} (e : buf ≡ overlay new old) (n : ℕ) (h : length new ≡ n) where
+module _ {A : Type 0} (new old : List A) {buf : List A} (e : buf ≡ overlay new old) {n : ℕ} (h : length new ≡ n) where
   pub front : take n buf ≡ new
   front = ap (take n) (e ∙ overlay-eq new old) ∙ take-at new (drop (length new) old) n h
 

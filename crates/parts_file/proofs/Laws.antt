@@ -25,7 +25,7 @@ unfolding partsBytes cornersOf
 parts-read-back bytes os oc e hs hc =
     let ps = fileParts bytes in
     let old : List ℕ = replicate 57356 0 in
-    let f : faultWritten (startsOf ps) (cornersOf ps) old ≡ 0 = parts-written bytes e (length old) (omega (arith, length-replicate {A = ℕ} 57356 0)) in
+    let f : faultWritten (startsOf ps) (cornersOf ps) old ≡ 0 = parts-written bytes e (omega (arith, length-replicate {A = ℕ} 57356 0)) in
     let n = length-starts ps in
     let k : length (cornersOf ps) ≡ 2 * length (flatten ps) = length-numbers (flatten ps) in
     let b = bytes-told (startsOf ps) (cornersOf ps) old f in

@@ -38,8 +38,8 @@ module _ (bytes : List ℕ) (e : fileFault bytes ≡ 0) where
       let t = split-table (strategyOf (splitNumber bytes)) (cornerLimit bytes) (meshOf bytes) (accepted-mesh bytes e) in
       omega (arith, length-starts (fileParts bytes), length-numbers (flatten (fileParts bytes)), t .few-parts, t .few-corners)
 
-  pub parts-written : (room : ℕ) → 57356 ≤ room → writeFault (startsOf (fileParts bytes)) (cornersOf (fileParts bytes)) room ≡ 0
-  parts-written room h =
+  pub parts-written : {room : ℕ} → 57356 ≤ room → writeFault (startsOf (fileParts bytes)) (cornersOf (fileParts bytes)) room ≡ 0
+  parts-written {room} h =
       let l = file-listable bytes e .listable in
       no-fault-write (startsOf (fileParts bytes)) (cornersOf (fileParts bytes)) room (l .whole) (l .ranged) (omega (arith, parts-room))
 
@@ -57,7 +57,7 @@ module _ (bytes s : List ℕ) (c : List ℤ) (old : List ℕ) {told : Counts} {s
       let q = fault-is bytes s c left in
       let n : fileFault bytes ≡ 0 → ⊥ = λ z. h (q ∙ z) in
       let a : record { fault = told .fault; length = 0 } ≡ partsAnswer bytes = rw (ne-eqb (fileFault bytes) 0 n) (λ i. record { fault = q i; length = 0 }) in
-      (a, (sym (refused-buffer (fileFault bytes) n (partsBytes bytes) old), counted 0 old (omega arith)))
+      (a, (sym (refused-buffer n (partsBytes bytes) old), counted 0 old (omega arith)))
 
   module _ (z : told .fault ≡ 0) (room : length old ≡ 57356) {l : List ℤ} (e : l ≡ frontCorners (told .corners) c′) {r : Stored} {new : List ℕ}
       (er : r ≡ answerWritten (take (told .parts + 1) s′) l old) (eb : new ≡ bytesWritten (take (told .parts + 1) s′) l old) where
@@ -65,7 +65,7 @@ module _ (bytes s : List ℕ) (c : List ℤ) (old : List ℕ) {told : Counts} {s
     none = sym (fault-is bytes s c left) ∙ z
 
     unfaulted : writeFault (startsOf (fileParts bytes)) (cornersOf (fileParts bytes)) (length old) ≡ 0
-    unfaulted = parts-written bytes none (length old) (omega (arith, room))
+    unfaulted = parts-written bytes none (omega (arith, room))
 
     answer-is : r ≡ partsAnswer bytes
     unfolding partsBytes
@@ -83,5 +83,5 @@ module _ (bytes s : List ℕ) (c : List ℤ) (old : List ℕ) {told : Counts} {s
     stored-left =
         let a : partsAnswer bytes ≡ record { fault = 0; length = length (partsBytes bytes) } = rw (eq-eqb (fileFault bytes) 0 none) in
         let k : r .length ≡ length (partsBytes bytes) = ap (λ x. x .length) (answer-is ∙ a) in
-        let l : length new ≡ length old = ap length (bytes-are ∙ accepted-buffer (fileFault bytes) none (partsBytes bytes) old) ∙ length-overlay (partsBytes bytes) old (omega (arith, parts-length bytes none, room)) in
+        let l : length new ≡ length old = ap length (bytes-are ∙ accepted-buffer none (partsBytes bytes) old) ∙ length-overlay (partsBytes bytes) old (omega (arith, parts-length bytes none, room)) in
         (answer-is, (bytes-are, counted (r .length) new (omega (arith, k, l, parts-length bytes none, room))))

@@ -61,10 +61,10 @@ left-or-none z (e ∷ m) =
 -- ---- a place inside is among the corners
 
 -- where no corner passes a test, a form has more at each than at z
-none-passes : (t : Pt → Bool) (g : Pt → ℤ) (z : Pt) → ((c : Pt) → t c ≡ false → g z <ℤ g c) → (l : List Pt) → some t l ≡ false → All (λ c. g z <ℤ g c) l
+none-passes : {t : Pt → Bool} {g : Pt → ℤ} (z : Pt) → ((c : Pt) → t c ≡ false → g z <ℤ g c) → (l : List Pt) → some t l ≡ false → All (λ c. g z <ℤ g c) l
 unfolding some
-none-passes t g z f [] h = tt
-none-passes t g z f (c ∷ l) h = by-test (t c) (λ p. differ (sym (rw p at h))) (λ p. (f c p, none-passes t g z f l (rw p at h)))
+none-passes {t} {g} z f [] h = tt
+none-passes {t} {g} z f (c ∷ l) h = by-test (t c) (λ p. differ (sym (rw p at h))) (λ p. (f c p, none-passes z f l (rw p at h)))
 
 above-by-1 : {x y : ℤ} → x <ℤ y → pos 0 ≤ℤ (y +ℤ negℤ (x +ℤ pos 1))
 above-by-1 {x} {y} k = omega (zarith, add-parts y (negℤ (x +ℤ pos 1)), neg-parts (x +ℤ pos 1), add-parts x (pos 1))
@@ -73,11 +73,11 @@ less-by-1 : (x : ℤ) → x +ℤ negℤ (x +ℤ pos 1) *ℤ pos 1 ≡ negℤ (po
 less-by-1 = ring (int ∷ []) (λ x. x :+ :neg (x :+ con (pos 1)) :* con (pos 1) :≡ :neg (con (pos 1))) tt
 
 -- so, the form being linear, it has more at z than at z
-module _ (t : Pt → Bool) (d : Pt) (z : Pt) (f : (c : Pt) → t c ≡ false → cross d z <ℤ cross d c) where
+module _ {t : Pt → Bool} (d : Pt) {z : Pt} (f : (c : Pt) → t c ≡ false → cross d z <ℤ cross d c) where
   some-passes : {l : List Pt} → Hull l (pos 1) z → some t l ≡ true
   some-passes {l} h =
       by-test (some t l) (λ p. p)
-      (λ p. absurd (below-zero (hull-form d (negℤ (cross d z +ℤ pos 1)) (all-map l (λ c k. above-by-1 k) (none-passes t (cross d) z f l p)) h) (subst (λ x. x <ℤ pos 0) (sym (less-by-1 (cross d z))) (omega zarith))))
+      (λ p. absurd (below-zero (hull-form d (negℤ (cross d z +ℤ pos 1)) (all-map l (λ c k. above-by-1 k) (none-passes z f l p)) h) (subst (λ x. x <ℤ pos 0) (sym (less-by-1 (cross d z))) (omega zarith))))
 
 -- the four directions
 abbrev dir : ℤ → ℤ → Pt
@@ -100,10 +100,10 @@ among-hull : {z : Pt} {l : List Pt} → Hull l (pos 1) z → among l z ≡ true
 unfolding among
 among-hull {z} h =
     rw (
-      some-passes (λ c. leZ (c .x) (z .x)) (dir (pos 0) (negℤ (pos 1))) z (λ c p. subst₂ _<ℤ_ (sym (right-of z)) (sym (right-of c)) (leZ-< _ _ p)) h,
-      some-passes (λ c. leZ (z .x) (c .x)) (dir (pos 0) (pos 1)) z (λ c p. subst₂ _<ℤ_ (sym (left-of z)) (sym (left-of c)) (neg-mono-< {a = c .x} {b = z .x} (leZ-< _ _ p))) h,
-      some-passes (λ c. leZ (c .y) (z .y)) (dir (pos 1) (pos 0)) z (λ c p. subst₂ _<ℤ_ (sym (above z)) (sym (above c)) (leZ-< _ _ p)) h,
-      some-passes (λ c. leZ (z .y) (c .y)) (dir (negℤ (pos 1)) (pos 0)) z (λ c p. subst₂ _<ℤ_ (sym (below z)) (sym (below c)) (neg-mono-< {a = c .y} {b = z .y} (leZ-< _ _ p))) h,
+      some-passes (dir (pos 0) (negℤ (pos 1))) (λ c p. subst₂ _<ℤ_ (sym (right-of z)) (sym (right-of c)) (leZ-< _ _ p)) h,
+      some-passes (dir (pos 0) (pos 1)) (λ c p. subst₂ _<ℤ_ (sym (left-of z)) (sym (left-of c)) (neg-mono-< {a = c .x} {b = z .x} (leZ-< _ _ p))) h,
+      some-passes (dir (pos 1) (pos 0)) (λ c p. subst₂ _<ℤ_ (sym (above z)) (sym (above c)) (leZ-< _ _ p)) h,
+      some-passes (dir (negℤ (pos 1)) (pos 0)) (λ c p. subst₂ _<ℤ_ (sym (below z)) (sym (below c)) (neg-mono-< {a = c .y} {b = z .y} (leZ-< _ _ p))) h,
     )
 
 -- ---- a contour that turns left once round

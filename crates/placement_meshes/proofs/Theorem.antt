@@ -127,7 +127,7 @@ placement-told how m mesh b how′ m′ mesh′ b′ s c h k f z g =
     record {
       contact = contactBy z ps;
       answer =
-          ap₂ (λ t d. placedOf t d z) (starts-left ps (pairCount l r) (pairsFault true l r (length s) (length c)) s c n f) (corners-left ps (pairCount l r) (pairsFault true l r (length s) (length c)) s c n f)
+          ap₂ (λ t d. placedOf t d z) (starts-left ps s c n f) (corners-left ps s c n f)
           ∙ answered ps z grid g;
       rightly = subst (λ L. Rightly (contactBy z L) mesh mesh′ z) (sym same) (difference-rightly how m mesh how′ m′ mesh′ h k z);
     }

@@ -15,8 +15,8 @@ use Rattle.plane.specs.Machine.{point, OnGrid}
 use Rattle.plane.proofs.Size.{on-grid-both}
 use Rattle.points.specs.Points.{cornerOf, pairOf, firstPoints, Appended}
 
-pub on-grid-of : (p : IntPoint) {q : Pt} → point p ≡ q → onGrid q ≡ true → OnGrid p
-on-grid-of p e h = let b = on-grid-both (point p) (ap onGrid e ∙ h) in record { x-small = b .0; y-small = b .1 }
+pub on-grid-of : {p : IntPoint} {q : Pt} → point p ≡ q → onGrid q ≡ true → OnGrid p
+on-grid-of {p} e h = let b = on-grid-both (point p) (ap onGrid e ∙ h) in record { x-small = b .0; y-small = b .1 }
 
 -- ---- points appended
 

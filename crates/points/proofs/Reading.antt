@@ -48,17 +48,17 @@ module _ (starts : List ℕ) (points : List (List ℤ)) (t : Tally) (ps : List (
   pub enough-starts : t .parts < length starts
   enough-starts = omega (arith, ap length (g .begins), length-take (t .parts + 1) starts, length-starts ps, g .parts)
 
-  pub start-at : (j : ℕ) → j ≤ length ps → getD starts j 0 ≡ length (flatten (take j ps))
+  pub start-at : {j : ℕ} → j ≤ length ps → getD starts j 0 ≡ length (flatten (take j ps))
   unfolding startsOf
-  start-at j h = sym (getD-take (t .parts + 1) starts j 0 (omega (arith, g .parts))) ∙ ap (λ s. getD s j 0) (g .begins) ∙ starts-at 0 j ps h ∙ zero-add (length (flatten (take j ps)))
+  start-at {j} h = sym (getD-take (t .parts + 1) starts j 0 (omega (arith, g .parts))) ∙ ap (λ s. getD s j 0) (g .begins) ∙ starts-at 0 j ps h ∙ zero-add (length (flatten (take j ps)))
 
   pub part-placed : {k : ℕ} → k < length ps → PartPlaced starts points k (getD ps k [])
   unfolding flatten
   part-placed {k} h =
       let p = getD ps k [] in
-      let a : getD starts k 0 ≡ length (flatten (take k ps)) = start-at k (omega arith) in
+      let a : getD starts k 0 ≡ length (flatten (take k ps)) = start-at (omega arith) in
       let more : flatten (take (suc k) ps) ≡ flatten (take k ps) ++ p = ap flatten (take-suc ps k [] h) ∙ flatten-append (take k ps) (p ∷ []) ∙ ap (λ l. flatten (take k ps) ++ l) (append-nil p) in
-      let e : getD starts (k + 1) 0 ≡ length (flatten (take k ps)) + length p = ap (λ n. getD starts n 0) (add-one k) ∙ start-at (suc k) (omega arith) ∙ ap length more ∙ length-append (flatten (take k ps)) p in
+      let e : getD starts (k + 1) 0 ≡ length (flatten (take k ps)) + length p = ap (λ n. getD starts n 0) (add-one k) ∙ start-at (omega arith) ∙ ap length more ∙ length-append (flatten (take k ps)) p in
       let whole : length (flatten ps) ≡ length (flatten (take k ps)) + length (p ++ flatten (drop (suc k) ps)) = ap length (flatten-at ps h) ∙ length-append (flatten (take k ps)) (p ++ flatten (drop (suc k) ps)) in
       let few : getD starts (k + 1) 0 ≤ t .corners = omega (arith, e, whole, length-append p (flatten (drop (suc k) ps)), g .corners) in
       record {

@@ -78,7 +78,7 @@ module _ (r : List ℕ) where
   unfolding rowsIn
   rows-more k = rw (add-one, upTo-suc, map-append)
 
-  pub row-more : (old : List (List ℤ)) {buf : List (List ℤ)} (k : ℕ) {v : List ℤ} → k < length old → buf ≡ overlay (rowsIn r k) old → v ≡ rowIn r k
+  pub row-more : (old : List (List ℤ)) {buf : List (List ℤ)} {k : ℕ} {v : List ℤ} → k < length old → buf ≡ overlay (rowsIn r k) old → v ≡ rowIn r k
       → set buf k v ≡ overlay (rowsIn r (k + 1)) old
-  row-more old {buf} k h p q =
+  row-more old {buf} {k} h p q =
       ap (set buf k) q ∙ overlay-turn (rowsIn r k) old (rowIn r k) p (length-rows k) h ∙ ap (λ l. overlay l old) (sym (rows-more k))

@@ -39,8 +39,8 @@ split-area how {m} l h =
     by-test (leb (length l) m) (λ e. rw e (unfold sumℤ in +ℤ-idr (contourArea l)))
     (λ e. let k : m < length l = leb-false (length l) m e in rw e (by-area how l h (omega arith)))
 
-each : (how : ConvexSplitStrategy) (m : ℕ) (ps : List (List Pt)) → 3 ≤ m → sumℤ (map contourArea (flatten (map (splitContour how m) ps))) ≡ sumℤ (map contourArea ps)
-each how m ps h = sum-map-flatten contourArea (map (splitContour how m) ps) ∙ ap sumℤ (all ps)
+each : (how : ConvexSplitStrategy) {m : ℕ} (ps : List (List Pt)) → 3 ≤ m → sumℤ (map contourArea (flatten (map (splitContour how m) ps))) ≡ sumℤ (map contourArea ps)
+each how {m} ps h = sum-map-flatten contourArea (map (splitContour how m) ps) ∙ ap sumℤ (all ps)
   where
     all : (ps : List (List Pt)) → map (λ r. sumℤ (map contourArea r)) (map (splitContour how m) ps) ≡ map contourArea ps
     all [] = refl
@@ -48,4 +48,4 @@ each how m ps h = sum-map-flatten contourArea (map (splitContour how m) ps) ∙ 
 
 pub split-areas : SplitKeepsArea
 unfolding splitParts
-split-areas how m mesh h = each how (raised m) (parts mesh) (omega arith) ∙ parts-area mesh (accepted mesh h)
+split-areas how m mesh h = each how (parts mesh) (omega arith) ∙ parts-area (accepted mesh h)

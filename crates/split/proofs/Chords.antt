@@ -126,10 +126,10 @@ fanned-areas (s ∷ ss) c l h =
 -- ---- so the parts' areas add up to the contour's, for a limit of at least 3
 
 parts-above : {n m : ℕ} → 3 ≤ n → 3 ≤ m → 0 < (n - 2 + (m - 2 - 1)) / (m - 2)
-parts-above {n} {m} h k = div-pos (n - 2 + (m - 2 - 1)) (m - 2) (omega arith) (omega arith)
+parts-above {n} {m} h k = div-pos (omega arith) (omega arith)
   where
-    div-pos : (a b : ℕ) → 0 < b → b ≤ a → 0 < a / b
-    div-pos a b h k = le-div-iff-mul-le {k = b} {x = 1} {y = a} h .1 (omega arith)
+    div-pos : {a b : ℕ} → 0 < b → b ≤ a → 0 < a / b
+    div-pos {a} {b} h k = le-div-iff-mul-le {k = b} {x = 1} {y = a} h .1 (omega arith)
 
 pub ear-areas : {m : ℕ} (l : List Pt) → 3 ≤ m → 3 ≤ length l → sumℤ (map contourArea (earParts m l)) ≡ contourArea l
 ear-areas {m} l h k = clipped-areas (triangleShares (length l) m) l (omega (arith, sum-shares (length l - 2) (parts-above k h)))

@@ -106,17 +106,17 @@ no-edges g {s} (a ∷ l) e h = ap (λ n. radial g (take n (a ∷ l))) (sym (one 
     one : {s : ℕ} → s ≡ 0 → s + 1 ≡ 1
     one e = omega (arith, e)
 
-pub group-areas : (n : ℕ) (g : Pt) (s : ℕ) (l : List Pt) → s ≤ n → s < length l → sumℤ (map contourArea (groupParts n g s l)) ≡ radial g (take (s + 1) l)
+pub group-areas : (n : ℕ) (g : Pt) {s : ℕ} (l : List Pt) → s ≤ n → s < length l → sumℤ (map contourArea (groupParts n g s l)) ≡ radial g (take (s + 1) l)
 unfolding groupParts sumℤ
-group-areas zero g s l h k = no-edges g l (omega arith) k
-group-areas (suc n) g s l h k =
+group-areas zero g {s} l h k = no-edges g l (omega arith) k
+group-areas (suc n) g {s} l h k =
     by-test (eqb s 0) (λ e. rw e (no-edges g l (eqb-true s 0 e) k))
     (λ d. let e : ℕ = edgesTaken g s l in
     let z : s ≡ 0 → ⊥ = eqb-false s 0 d in
     let few : e ≤ s = edgesTaken-le g l (omega (arith, z)) in
     let whole : e + (s - e) + 1 ≡ s + 1 = omega (arith, few) in
     rw d
-    (ap₂ _+ℤ_ (part-of g e l (omega arith)) (group-areas n g (s - e) (drop e l) (omega arith) (omega (arith, few, length-drop e l)))
+    (ap₂ _+ℤ_ (part-of g e l (omega arith)) (group-areas n g (drop e l) (omega arith) (omega (arith, few, length-drop e l)))
     ∙ sym (radial-two g e (s - e) l (omega (arith, few))) ∙ ap (λ n. radial g (take n l)) whole))
 
 pub sectors-areas : (ss : List ℕ) (g : Pt) (l : List Pt) → sumℕ ss < length l → sumℤ (map contourArea (sectors ss g l)) ≡ radial g (take (sumℕ ss + 1) l)
@@ -125,7 +125,7 @@ sectors-areas [] g l h = unfold sumℤ in no-edges g l refl h
 sectors-areas (s ∷ ss) g l h =
     let t : ℕ = sumℕ ss in
     ap sumℤ (map-append contourArea (groupParts s g s l) (sectors ss g (drop s l))) ∙ sum-append (map contourArea (groupParts s g s l)) (map contourArea (sectors ss g (drop s l)))
-    ∙ ap₂ _+ℤ_ (group-areas s g s l (omega arith) (omega (arith, h))) (sectors-areas ss g (drop s l) (omega (arith, h, length-drop s l)))
+    ∙ ap₂ _+ℤ_ (group-areas s g l (omega arith) (omega (arith, h))) (sectors-areas ss g (drop s l) (omega (arith, h, length-drop s l)))
     ∙ sym (radial-two g s (sumℕ ss) l (omega (arith, h)))
 
 -- ---- so the parts about the centre have the contour's doubled area

@@ -25,11 +25,11 @@ pub edgesTaken-le : (g : Pt) {s : ℕ} (l : List Pt) → 0 < s → edgesTaken g 
 edgesTaken-le g {s} l h = omega (arith, taking-le g (getD l 0 O) (s - 1) (drop 2 l))
 
 -- with fuel for each edge, more changes nothing
-pub groupParts-enough : (n k : ℕ) (g : Pt) (s : ℕ) (l : List Pt) → s ≤ n → s ≤ k → groupParts n g s l ≡ groupParts k g s l
+pub groupParts-enough : (n k : ℕ) (g : Pt) {s : ℕ} (l : List Pt) → s ≤ n → s ≤ k → groupParts n g s l ≡ groupParts k g s l
 unfolding groupParts
-groupParts-enough zero zero g s l h i = refl
-groupParts-enough zero (suc k) g s l h i = by-test (eqb s 0) (λ e. rw e) (λ e. absurd (eqb-false s 0 e (omega arith)))
-groupParts-enough (suc n) zero g s l h i = by-test (eqb s 0) (λ e. rw e) (λ e. absurd (eqb-false s 0 e (omega arith)))
-groupParts-enough (suc n) (suc k) g s l h i =
+groupParts-enough zero zero g {s} l h i = refl
+groupParts-enough zero (suc k) g {s} l h i = by-test (eqb s 0) (λ e. rw e) (λ e. absurd (eqb-false s 0 e (omega arith)))
+groupParts-enough (suc n) zero g {s} l h i = by-test (eqb s 0) (λ e. rw e) (λ e. absurd (eqb-false s 0 e (omega arith)))
+groupParts-enough (suc n) (suc k) g {s} l h i =
     by-test (eqb s 0) (λ e. rw e)
-    (λ e. ap (λ t. cond (eqb s 0) [] ((g ∷ take (edgesTaken g s l + 1) l) ∷ t)) (groupParts-enough n k g (s - edgesTaken g s l) (drop (edgesTaken g s l) l) (omega arith) (omega arith)))
+    (λ e. ap (λ t. cond (eqb s 0) [] ((g ∷ take (edgesTaken g s l + 1) l) ∷ t)) (groupParts-enough n k g (drop (edgesTaken g s l) l) (omega arith) (omega arith)))

@@ -41,8 +41,8 @@ ceil-above : (n : ℕ) {b : ℕ} → 0 < b → n ≤ ceilDiv n b * b
 ceil-above n {b} h = omega (arith, lt-div-mul-add {a = n + (b - 1)} {b = b} h)
 
 -- from 1 to n groups, for b ≤ n + b − 1 < (n + 1) b
-pub ceil-pos : (n b : ℕ) → 0 < n → 0 < b → 0 < ceilDiv n b
-ceil-pos n b p h = le-div-iff-mul-le {k = b} {x = 1} {y = n + (b - 1)} h .1 (omega arith)
+pub ceil-pos : {n b : ℕ} → 0 < n → 0 < b → 0 < ceilDiv n b
+ceil-pos {n} {b} p h = le-div-iff-mul-le {k = b} {x = 1} {y = n + (b - 1)} h .1 (omega arith)
 
 pub ceil-le : {n b : ℕ} → 0 < n → 0 < b → ceilDiv n b ≤ n
 ceil-le {n} {b} p h = below (div-lt-iff-lt-mul {k = b} {x = n + (b - 1)} {y = n + 1} h .1 (more b p h (mul-le-mul-right b p)))
@@ -58,7 +58,7 @@ ceil-le {n} {b} p h = below (div-lt-iff-lt-mul {k = b} {x = n + (b - 1)} {y = n 
         grow (suc n) b = omega (arith, grow n b)
     more zero p h q = absurd (omega arith)
 
-module _ (n k b : ℕ) (some : 0 < k) (few : k ≤ n) (all : n ≤ k * b) where
+module _ {n k : ℕ} (b : ℕ) (some : 0 < k) (few : k ≤ n) (all : n ≤ k * b) where
   quotient-pos : 1 ≤ n / k
   quotient-pos = le-div-iff-mul-le {k = k} {x = 1} {y = n} some .1 (omega arith)
 
@@ -83,8 +83,8 @@ module _ (n k b : ℕ) (some : 0 < k) (few : k ≤ n) (all : n ≤ k * b) where
       (by-test (ltb i (n % k)) (λ e. rw e (omega (arith, quotient-pos), omega (arith, quotient-lt (omega (arith, ltb-true i (n % k) e))))) (λ e. rw e (omega (arith, quotient-pos), omega (arith, quotient-le))), from-bound (suc i) j)
 
 -- each share of n things in ceil(n / b) groups
-pub shares-bound : (n b : ℕ) → 0 < n → 0 < b → All (λ s. (1 ≤ s) × (s ≤ b)) (shares n (ceilDiv n b))
-shares-bound n b p h = from-bound n (ceilDiv n b) b (ceil-pos n b p h) (ceil-le p h) (ceil-above n h) 0 (ceilDiv n b)
+pub shares-bound : {n b : ℕ} → 0 < n → 0 < b → All (λ s. (1 ≤ s) × (s ≤ b)) (shares n (ceilDiv n b))
+shares-bound {n} {b} p h = from-bound b (ceil-pos p h) (ceil-le p h) (ceil-above n h) 0 (ceilDiv n b)
 
 -- ---- the sizes of parts: from 3 corners to b + 2
 
@@ -177,14 +177,14 @@ module _ (m : ℕ) (l : List Pt) (h : 3 ≤ m) (k : m < length l) where
   n = length l - 2
 
   sum-triangles : sumℕ (triangleShares (length l) m) ≡ n
-  sum-triangles = sum-shares n (ceil-pos n (m - 2) (omega arith) (omega arith))
+  sum-triangles = sum-shares n (ceil-pos (omega arith) (omega arith))
 
   count-triangles : length (triangleShares (length l) m) ≤ n
   count-triangles = omega (arith, length-shares n (ceilDiv n (m - 2)), ceil-le {n = n} {b = m - 2} (omega arith) (omega arith))
 
   ear-few : Few (m - 2) l (earParts m l)
   ear-few = record {
-    sizes = clipped-sizes (m - 2) (triangleShares (length l) m) l (omega (arith, sum-triangles)) (shares-bound n (m - 2) (omega arith) (omega arith));
+    sizes = clipped-sizes (m - 2) (triangleShares (length l) m) l (omega (arith, sum-triangles)) (shares-bound (omega arith) (omega arith));
     some = omega (arith, length-clipped (triangleShares (length l) m) l, count-triangles);
     corners = omega (arith, clipped-corners (triangleShares (length l) m) l, sum-triangles, count-triangles);
   }
@@ -193,7 +193,7 @@ fan-few : {m : ℕ} (l : List Pt) → 3 ≤ m → m < length l → Few (m - 2) l
 unfolding fanParts
 fan-few [] h k = absurd (omega arith)
 fan-few {m} (c ∷ l) h k = record {
-  sizes = fanned-sizes (m - 2) (triangleShares (suc (length l)) m) c l (omega (arith, sum-triangles m (c ∷ l) h k)) (shares-bound (suc (length l) - 2) (m - 2) (omega arith) (omega arith));
+  sizes = fanned-sizes (m - 2) (triangleShares (suc (length l)) m) c l (omega (arith, sum-triangles m (c ∷ l) h k)) (shares-bound (omega arith) (omega arith));
   some = omega (arith, length-fanned (triangleShares (suc (length l)) m) c l, count-triangles m (c ∷ l) h k);
   corners = omega (arith, fanned-corners (triangleShares (suc (length l)) m) c l, sum-triangles m (c ∷ l) h k, count-triangles m (c ∷ l) h k);
 }
@@ -201,10 +201,10 @@ fan-few {m} (c ∷ l) h k = record {
 centroid-few : {m : ℕ} (g c : Pt) (l : List Pt) → 3 ≤ m → m < length l → Few (m - 2) l (centroidParts m g c l)
 centroid-few {m} g c l h k =
     let ss = shares (length l) (ceilDiv (length l) (m - 2)) in
-    let sum : sumℕ ss ≡ length l = sum-shares (length l) (ceil-pos (length l) (m - 2) (omega arith) (omega arith)) in
+    let sum : sumℕ ss ≡ length l = sum-shares (length l) (ceil-pos (omega arith) (omega arith)) in
     let f = sector-few ss g (l ++ (c ∷ [])) in
     record {
-      sizes = sector-sizes (m - 2) ss g (l ++ (c ∷ [])) (omega (arith, sum, length-append l (c ∷ []))) (shares-bound (length l) (m - 2) (omega arith) (omega arith));
+      sizes = sector-sizes (m - 2) ss g (l ++ (c ∷ [])) (omega (arith, sum, length-append l (c ∷ []))) (shares-bound (omega arith) (omega arith));
       some = omega (arith, f .0, sum);
       corners = omega (arith, f .1, sum);
     }
@@ -261,13 +261,13 @@ all-few how {m} (l ∷ ps) h k =
 -- Σ (n − 2) is at most the number of triangles
 pub split-parts-few : (how : ConvexSplitStrategy) (m : ℕ) {mesh : Mesh} → Accepted mesh → AllFew (raised m - 2) (parts mesh) (splitParts how m mesh)
 unfolding splitParts
-split-parts-few how m {mesh} ok = all-few how {m = raised m} (parts mesh) (omega arith) (all-map (parts mesh) convex-three (parts-convex mesh ok))
+split-parts-few how m {mesh} ok = all-few how {m = raised m} (parts mesh) (omega arith) (all-map (parts mesh) convex-three (parts-convex ok))
 
 pub split-table : SplitTable
 split-table how m mesh h =
     let ok = accepted mesh h in
     let f = split-parts-few how m ok in
-    let c = parts-corners mesh ok in
+    let c = parts-corners ok in
     let sizes : All (λ p. (3 ≤ length p) × (length p ≤ raised m)) (splitParts how m mesh) = all-map (splitParts how m mesh) (λ p s. (s .0, omega (arith, s .1))) (f .sizes) in
     let few : length (splitParts how m mesh) ≤ maxParts = omega (arith, f .some, c, ok .few) in
     let corners : length (flatten (splitParts how m mesh)) ≤ 6144 = omega (arith, f .corners, c, ok .few) in
@@ -275,7 +275,7 @@ split-table how m mesh h =
       sizes = sizes;
       few-parts = few;
       few-corners = corners;
-      table = limits-sound (record { parts = few; corners = omega arith; contours = unfold splitParts in all-short how {m = raised m} maxContour (parts mesh) (omega arith) (parts-short mesh ok) });
+      table = limits-sound (record { parts = few; corners = omega arith; contours = unfold splitParts in all-short how {m = raised m} maxContour (parts mesh) (omega arith) (parts-short ok) });
     }
 
 pub split-count : SplitCount
@@ -296,4 +296,4 @@ whole-all how m {ps = l ∷ ps} h = rw (le-leb (length l) m (h .0)) (ap (λ r. l
 -- left whole
 pub split-whole : (how : ConvexSplitStrategy) (m : ℕ) {mesh : Mesh} → Accepted mesh → length mesh + 2 ≤ raised m → splitParts how m mesh ≡ parts mesh
 unfolding splitParts
-split-whole how m {mesh} ok h = whole-all how (raised m) (all-map (parts mesh) (λ l k. omega (arith, k)) (parts-within mesh ok))
+split-whole how m {mesh} ok h = whole-all how (raised m) (all-map (parts mesh) (λ l k. omega (arith, k)) (parts-within ok))

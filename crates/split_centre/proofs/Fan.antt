@@ -109,14 +109,14 @@ pub sofar-start : (c : Pt) (l : List Pt) → Sofar c l 0 noSums
 unfolding sumℤ
 sofar-start c l = record { area = refl; x = refl; y = refl }
 
-sum-take : {A : Type 0} (g : A → ℤ) (l : List A) (k : ℕ) (d : A) {e : A} → k < length l → getD l k d ≡ e → sumℤ (map g (take (suc k) l)) ≡ sumℤ (map g (take k l)) +ℤ g e
-sum-take g l k d {e} h p =
+sum-take : {A : Type 0} (g : A → ℤ) (l : List A) {k : ℕ} (d : A) {e : A} → k < length l → getD l k d ≡ e → sumℤ (map g (take (suc k) l)) ≡ sumℤ (map g (take k l)) +ℤ g e
+sum-take g l {k} d {e} h p =
     ap (λ r. sumℤ (map g r)) (take-suc l k d h ∙ ap (λ z. take k l ++ (z ∷ [])) p) ∙ ap sumℤ (map-append g (take k l) (e ∷ [])) ∙ sum-snoc (map g (take k l)) (g e)
 
-module _ (c : Pt) (l : List Pt) (i : ℕ) (h : 2 ≤ i) (k : i < length l) where
+module _ (c : Pt) (l : List Pt) {i : ℕ} (h : 2 ≤ i) (k : i < length l) where
   -- one wedge more
   more : (g : Pt × Pt → ℤ) → sumℤ (map g (take (suc (i - 2)) (wedges c l))) ≡ sumℤ (map g (take (i - 2) (wedges c l))) +ℤ g (getD l (i - 1) O -ᵖ c, getD l i O -ᵖ c)
-  more g = sum-take g (wedges c l) (i - 2) (O, O) (omega (arith, length-wedges c l)) (wedge-at c l h k)
+  more g = sum-take g (wedges c l) (O, O) (omega (arith, length-wedges c l)) (wedge-at c l h k)
 
   pub sofar-turn : {s r : Sums} → Sofar c l (i - 2) s → Added s (getD l (i - 1) O -ᵖ c) (getD l i O -ᵖ c) r → Sofar c l (i + 1 - 2) r
   sofar-turn {s} {r} p q =
@@ -148,7 +148,7 @@ area-take k m w =
     of : (a : ℤ) {b n : ℤ} → a +ℤ b ≡ n → pos 0 ≤ℤ b → a ≤ℤ n
     of a {b} e h = omega (zarith, e, add-parts a b)
 
-module _ (c b : Pt) (l : List Pt) (h : Summable (c ∷ b ∷ l)) where
+module _ {c b : Pt} {l : List Pt} (h : Summable (c ∷ b ∷ l)) where
   wedges-left : Wedges (wedges c (c ∷ b ∷ l))
   wedges-left = all-fan _ (c -ᵖ c) (b -ᵖ c) (seenFrom c l) (h .wedges)
 
@@ -164,14 +164,14 @@ module _ (c b : Pt) (l : List Pt) (h : Summable (c ∷ b ∷ l)) where
       of : {a n : ℤ} → pos 0 ≤ℤ a → a ≤ℤ n → natAbs n < 2 ^ 63 → natAbs a < 2 ^ 63
       of {a} {n} g k m = omega (zarith, abs-parts a, abs-parts n)
 
-  module _ (f : Pt → ℤ) (minus : (a b : Pt) → f (a -ᵖ b) ≡ f a -ℤ f b) (small : (p : Pt) → onGrid p ≡ true → Coordinate (f p)) where
+  module _ {f : Pt → ℤ} (minus : (a b : Pt) → f (a -ᵖ b) ≡ f a -ℤ f b) (small : (p : Pt) → onGrid p ≡ true → Coordinate (f p)) where
     moment-below : (k : ℕ) → natAbs (momentOf f (take k (wedges c (c ∷ b ∷ l)))) < 2 ^ 96
     moment-below k =
         omega (
           arith,
           area-below k,
           moment-size f (small c (h .grid .0)) (take k (wedges c (c ∷ b ∷ l))) (all-take _ k (wedges c (c ∷ b ∷ l)) wedges-left)
-              (all-take _ k (wedges c (c ∷ b ∷ l)) (all-fan _ (c -ᵖ c) (b -ᵖ c) (seenFrom c l) (edges-between f minus small c (b ∷ l) h))),
+              (all-take _ k (wedges c (c ∷ b ∷ l)) (all-fan _ (c -ᵖ c) (b -ᵖ c) (seenFrom c l) (edges-between minus small h))),
         )
 
 -- there is room for one wedge more
@@ -180,9 +180,9 @@ sofar-room {l = []} h g k p = absurd (omega arith)
 sofar-room {l = c ∷ []} h g k p = absurd (omega arith)
 sofar-room {l = c ∷ b ∷ l} h {i} g k {s} p = record {
   area =
-      subst (λ z. natAbs z < 2 ^ 63) (more c (c ∷ b ∷ l) i g k (λ e. cross (e .0) (e .1)) ∙ ap (λ z. z +ℤ cross (getD (c ∷ b ∷ l) (i - 1) O -ᵖ c) (getD (c ∷ b ∷ l) i O -ᵖ c)) (sym (p .area))) (area-below c b l h (suc (i - 2)));
-  x = high (s .x) (p .x) (moment-below c b l h (λ p. p .x) (λ a b. refl) (λ p g. on-grid-both p g .0) (i - 2));
-  y = high (s .y) (p .y) (moment-below c b l h (λ p. p .y) (λ a b. refl) (λ p g. on-grid-both p g .1) (i - 2));
+      subst (λ z. natAbs z < 2 ^ 63) (more c (c ∷ b ∷ l) g k (λ e. cross (e .0) (e .1)) ∙ ap (λ z. z +ℤ cross (getD (c ∷ b ∷ l) (i - 1) O -ᵖ c) (getD (c ∷ b ∷ l) i O -ᵖ c)) (sym (p .area))) (area-below h (suc (i - 2)));
+  x = high (s .x) (p .x) (moment-below h (λ a b. refl) (λ p g. on-grid-both p g .0) (i - 2));
+  y = high (s .y) (p .y) (moment-below h (λ a b. refl) (λ p g. on-grid-both p g .1) (i - 2));
 }
   where
     high : (v : SignedProduct) {m : ℤ} → value v ≡ m → natAbs m < 2 ^ 96 → v .words .high < 2 ^ 62

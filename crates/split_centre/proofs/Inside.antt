@@ -21,9 +21,9 @@ module _ (g : Pt) (l : List Pt) where
   abbrev pub ahead : Pt → ℕ → Bool
   ahead a i = leftOfAll g (links a (drop i l ++ (getD l 0 O ∷ [])))
 
-  pub inside-turn : (a : Pt) {b : Pt} (i : ℕ) → i < length l → b ≡ getD l i O → ahead a i ≡ cond (ltZ (pos 0) (areaTwo a b g)) (ahead b (i + 1)) false
+  pub inside-turn : (a : Pt) {b : Pt} {i : ℕ} → i < length l → b ≡ getD l i O → ahead a i ≡ cond (ltZ (pos 0) (areaTwo a b g)) (ahead b (i + 1)) false
   unfolding leftOfAll links
-  inside-turn a {b} i h e = rw (drop-cons l i O h, ← e, add-one)
+  inside-turn a {b} {i} h e = rw (drop-cons l i O h, ← e, add-one)
 
   pub inside-end : (a : Pt) {b : Pt} (i : ℕ) → length l ≤ i → b ≡ getD l 0 O → ahead a i ≡ ltZ (pos 0) (areaTwo a b g)
   unfolding leftOfAll links

@@ -30,24 +30,24 @@ high-below-area v {A} p h = omega (zarith, p, h, abs-parts A, signed-size (v .ne
 extent-of : {z r : ℤ} → Coordinate z → low z ≤ℤ r → r ≤ℤ high z → Extent r
 extent-of {z} {r} h l u = record { abs = omega (zarith, sub-parts (pos 1073741823) z, sub-parts (negsuc 1073741822) z, abs-parts z, abs-parts r, h .abs) }
 
-module _ (f : Pt → ℤ) (minus : (a b : Pt) → f (a -ᵖ b) ≡ f a -ℤ f b) (small : (p : Pt) → onGrid p ≡ true → Coordinate (f p)) (c : Pt) (l : List Pt) (h : Summable (c ∷ l)) where
+module _ {f : Pt → ℤ} (minus : (a b : Pt) → f (a -ᵖ b) ≡ f a -ℤ f b) (small : (p : Pt) → onGrid p ≡ true → Coordinate (f p)) {c : Pt} {l : List Pt} (h : Summable (c ∷ l)) where
   abbrev seen : List (Pt × Pt)
   seen = neighbours (seenFrom c (c ∷ l))
 
   placed : (v : SignedProduct) {A : ℤ} → A ≡ areaOf seen → value v ≡ momentOf f seen → Placed (f c) v (3 * natAbs A)
   placed v e g =
       subst (λ a. Placed (f c) v (3 * natAbs a)) (sym e) (record {
-        high = high-below-area v (area-above f minus small c l h) (subst (λ m. natAbs m ≤ 4294967292 * natAbs (areaOf seen)) (sym g) (moment-size f (small c (h .grid .0)) seen (h .wedges) (edges-between f minus small c l h)));
-        offset = subst (λ m. Extent (rounded m (3 * natAbs (areaOf seen)))) (sym g) (extent-of (small c (h .grid .0)) (offset-between f minus small c l h .0) (offset-between f minus small c l h .1));
-        place = subst (λ m. Coordinate (f c +ℤ rounded m (3 * natAbs (areaOf seen)))) (sym g) (in-range-coordinate _ (coordinate-in-range f minus small c l h));
+        high = high-below-area v (area-above minus small h) (subst (λ m. natAbs m ≤ 4294967292 * natAbs (areaOf seen)) (sym g) (moment-size f (small c (h .grid .0)) seen (h .wedges) (edges-between minus small h)));
+        offset = subst (λ m. Extent (rounded m (3 * natAbs (areaOf seen)))) (sym g) (extent-of (small c (h .grid .0)) (offset-between minus small h .0) (offset-between minus small h .1));
+        place = subst (λ m. Coordinate (f c +ℤ rounded m (3 * natAbs (areaOf seen)))) (sym g) (in-range-coordinate _ (coordinate-in-range minus small h));
       })
 
 pub placed-x : {l : List Pt} → 0 < length l → Summable l → {s : Sums} → Summed l s → Placed (getD l 0 O .x) (s .x) (3 * natAbs (s .area))
 unfolding contourArea momentX
 placed-x {l = []} n h g = absurd (omega arith)
-placed-x {l = c ∷ l} n h {s} g = placed (λ p. p .x) (λ a b. refl) (λ p g. on-grid-both p g .0) c l h (s .x) (g .area) (g .x)
+placed-x {l = c ∷ l} n h {s} g = placed (λ a b. refl) (λ p g. on-grid-both p g .0) h (s .x) (g .area) (g .x)
 
 pub placed-y : {l : List Pt} → 0 < length l → Summable l → {s : Sums} → Summed l s → Placed (getD l 0 O .y) (s .y) (3 * natAbs (s .area))
 unfolding contourArea momentY
 placed-y {l = []} n h g = absurd (omega arith)
-placed-y {l = c ∷ l} n h {s} g = placed (λ p. p .y) (λ a b. refl) (λ p g. on-grid-both p g .1) c l h (s .y) (g .area) (g .y)
+placed-y {l = c ∷ l} n h {s} g = placed (λ a b. refl) (λ p g. on-grid-both p g .1) h (s .y) (g .area) (g .y)

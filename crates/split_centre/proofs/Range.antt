@@ -112,9 +112,9 @@ between : {z s : ℤ} → Coordinate z → Coordinate s → Between s (z -ℤ s)
 between {z} {s} h k =
     (omega (zarith, sub-parts z s, sub-parts (negsuc 1073741822) s, abs-parts z, h .abs), omega (zarith, sub-parts z s, sub-parts (pos 1073741823) s, abs-parts z, h .abs))
 
-in-range : (z : ℤ) → negsuc 1073741822 ≤ℤ z → z ≤ℤ pos 1073741823 → inRange z ≡ true
+in-range : {z : ℤ} → negsuc 1073741822 ≤ℤ z → z ≤ℤ pos 1073741823 → inRange z ≡ true
 unfolding inRange
-in-range z h k = rw (<-leZ {x = z} {y = negsuc 1073741823} (omega zarith)) (<-ltZ {x = z} {y = pos 1073741824} (omega zarith))
+in-range {z} h k = rw (<-leZ {x = z} {y = negsuc 1073741823} (omega zarith)) (<-ltZ {x = z} {y = pos 1073741824} (omega zarith))
 
 low-below : {z : ℤ} → Coordinate z → low z ≤ℤ pos 0
 low-below {z} h = omega (zarith, sub-parts (negsuc 1073741822) z, abs-parts z, h .abs)
@@ -149,7 +149,7 @@ moment-size f {k} h m w b =
 
 from-offset : (z : ℤ) {r : ℤ} → low z ≤ℤ r → r ≤ℤ high z → inRange (z +ℤ r) ≡ true
 from-offset z {r} h k =
-    in-range (z +ℤ r) (omega (zarith, add-parts z r, sub-parts (negsuc 1073741822) z)) (omega (zarith, add-parts z r, sub-parts (pos 1073741823) z))
+    in-range (omega (zarith, add-parts z r, sub-parts (negsuc 1073741822) z)) (omega (zarith, add-parts z r, sub-parts (pos 1073741823) z))
 
 less-both : {a b : ℤ} (s : ℤ) → a ≤ℤ b → (a -ℤ s) ≤ℤ (b -ℤ s)
 less-both {a} {b} s h = omega (zarith, sub-parts a s, sub-parts b s)
@@ -158,7 +158,7 @@ less-both {a} {b} s h = omega (zarith, sub-parts a s, sub-parts b s)
 
 -- f is a coordinate, c the first corner, A the doubled area and M the moment of the edges seen from
 -- it
-module _ (f : Pt → ℤ) (minus : (a b : Pt) → f (a -ᵖ b) ≡ f a -ℤ f b) (small : (p : Pt) → onGrid p ≡ true → Coordinate (f p)) (c : Pt) (l : List Pt) (h : Summable (c ∷ l)) where
+module _ {f : Pt → ℤ} (minus : (a b : Pt) → f (a -ᵖ b) ≡ f a -ℤ f b) (small : (p : Pt) → onGrid p ≡ true → Coordinate (f p)) {c : Pt} {l : List Pt} (h : Summable (c ∷ l)) where
   abbrev seen : List (Pt × Pt)
   seen = neighbours (seenFrom c (c ∷ l))
 
@@ -219,7 +219,7 @@ module _ (f : Pt → ℤ) (minus : (a b : Pt) → f (a -ᵖ b) ≡ f a -ℤ f b)
 pub centre-on-grid : {c : Pt} {l : List Pt} → Summable (c ∷ l) → onGrid (centreOf c (c ∷ l)) ≡ true
 unfolding onGrid centreOf momentX momentY contourArea
 centre-on-grid {c} {l} h =
-    rw (coordinate-in-range (λ p. p .x) (λ a b. refl) (λ p g. on-grid-both p g .0) c l h) (coordinate-in-range (λ p. p .y) (λ a b. refl) (λ p g. on-grid-both p g .1) c l h)
+    rw (coordinate-in-range (λ a b. refl) (λ p g. on-grid-both p g .0) h) (coordinate-in-range (λ a b. refl) (λ p g. on-grid-both p g .1) h)
 
 -- the centre is within any bounds of the corners
 pub centre-within : {c : Pt} {l : List Pt} → Summable (c ∷ l) → {a b d e : ℤ} → All (λ p. ((a ≤ℤ p .x) × (p .x ≤ℤ b)) × ((d ≤ℤ p .y) × (p .y ≤ℤ e))) (c ∷ l)
@@ -227,11 +227,11 @@ pub centre-within : {c : Pt} {l : List Pt} → Summable (c ∷ l) → {a b d e :
 unfolding centreOf momentX momentY contourArea
 centre-within {c} {l} h {a} {b} {d} {e} g = (
   (
-    centre-least (λ p. p .x) (λ u v. refl) (λ p k. on-grid-both p k .0) c l h (all-map (c ∷ l) (λ p q. q .0 .0) g),
-    centre-most (λ p. p .x) (λ u v. refl) (λ p k. on-grid-both p k .0) c l h (all-map (c ∷ l) (λ p q. q .0 .1) g),
+    centre-least (λ u v. refl) (λ p k. on-grid-both p k .0) h (all-map (c ∷ l) (λ p q. q .0 .0) g),
+    centre-most (λ u v. refl) (λ p k. on-grid-both p k .0) h (all-map (c ∷ l) (λ p q. q .0 .1) g),
   ),
   (
-    centre-least (λ p. p .y) (λ u v. refl) (λ p k. on-grid-both p k .1) c l h (all-map (c ∷ l) (λ p q. q .1 .0) g),
-    centre-most (λ p. p .y) (λ u v. refl) (λ p k. on-grid-both p k .1) c l h (all-map (c ∷ l) (λ p q. q .1 .1) g),
+    centre-least (λ u v. refl) (λ p k. on-grid-both p k .1) h (all-map (c ∷ l) (λ p q. q .1 .0) g),
+    centre-most (λ u v. refl) (λ p k. on-grid-both p k .1) h (all-map (c ∷ l) (λ p q. q .1 .1) g),
   ),
 )

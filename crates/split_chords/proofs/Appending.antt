@@ -42,7 +42,7 @@ run-more contour i n h =
     ap (λ k. runOf contour i k) (add-one n) ∙ take-suc (drop i (cornersIn contour)) n O (omega (arith, length-drop i (cornersIn contour), length-map contour cornerOf))
     ∙ ap (λ p. runOf contour i n ++ (p ∷ [])) (getD-drop i (cornersIn contour) n O ∙ corner-in contour (i + n))
 
-module _ (contour : List (List ℤ)) (i : ℕ) (points : List (List ℤ)) (count : ℕ) where
+module _ (contour : List (List ℤ)) (i : ℕ) {points : List (List ℤ)} {count : ℕ} where
   -- the first k corners of a run are appended, and one more
   pub run-turn : (k : ℕ) {points′ points″ : List (List ℤ)} {n m : ℕ} → i + k < length contour → Appended (runOf contour i k) points count points′ n → Appended (cornerIn contour (i + k) ∷ []) points′ n points″ m → Appended (runOf contour i (k + 1)) points count points″ m
   run-turn k {points″ = points″} {m = m} h a b =
@@ -50,7 +50,7 @@ module _ (contour : List (List ℤ)) (i : ℕ) (points : List (List ℤ)) (count
 
 -- ---- one part
 
-module _ (s : List ℕ) (p : List (List ℤ)) (t : Tally) where
+module _ {s : List ℕ} {p : List (List ℤ)} {t : Tally} where
   room-points : {q : List Pt} → RoomFor s p t (q ∷ []) → t .corners + length q ≤ length p
   unfolding flatten
   room-points {q} r = omega (arith, r .for-points, ap length (append-nil q))
@@ -77,7 +77,7 @@ pub record Partway (qs rest : List (List Pt)) (s₀ : List ℕ) (p₀ : List (Li
   pub appended : PartsAppended done s₀ p₀ t₀ s p t
   pub whole : done ++ rest ≡ qs
 
-module _ (qs : List (List Pt)) (s₀ : List ℕ) (p₀ : List (List ℤ)) (t₀ : Tally) where
+module _ {qs : List (List Pt)} (s₀ : List ℕ) (p₀ : List (List ℤ)) (t₀ : Tally) where
   pub partway-start : {rest : List (List Pt)} → rest ≡ qs → Partway qs rest s₀ p₀ t₀ s₀ p₀ t₀
   partway-start e = record { done = []; appended = none-appended s₀ p₀ t₀; whole = e }
 

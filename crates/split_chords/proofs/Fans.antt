@@ -39,10 +39,10 @@ module _ (contour : List (List ℤ)) (s₀ : List ℕ) (p₀ : List (List ℤ)) 
   pub fanning-start : (limit : ℕ) {k : ℕ} → 3 ≤ length contour → 0 < k → k ≡ ceilDiv (length contour - 2) (limit - 2) → Fanning contour (fanParts limit (cornersIn contour)) (length contour - 2) k 0 1 s₀ p₀ t₀ s₀ p₀ t₀
   fanning-start limit {k} h some e = record {
     size = omega (arith, h, ap sumℕ (shares-all (length contour - 2) k), sum-shares (length contour - 2) some);
-    partway = partway-start (fanParts limit (cornersIn contour)) s₀ p₀ t₀ (ap (λ ss. fanned ss (cornerIn contour 0) (drop 1 (cornersIn contour))) (shares-all (length contour - 2) k ∙ ap (shares (length contour - 2)) e) ∙ fan-whole contour limit h);
+    partway = partway-start s₀ p₀ t₀ (ap (λ ss. fanned ss (cornerIn contour 0) (drop 1 (cornersIn contour))) (shares-all (length contour - 2) k ∙ ap (shares (length contour - 2)) e) ∙ fan-whole contour limit h);
   }
 
-  module _ (qs : List (List Pt)) (n k i start : ℕ) {s : List ℕ} {p : List (List ℤ)} {t : Tally} (f : Fanning contour qs n k i start s₀ p₀ t₀ s p t) where
+  module _ {qs : List (List Pt)} {n k i start : ℕ} {s : List ℕ} {p : List (List ℤ)} {t : Tally} (f : Fanning contour qs n k i start s₀ p₀ t₀ s p t) where
     module _ (h : i < k) {m : ℕ} (e : m ≡ n / k + cond (ltb i (n % k)) 1 0) where
       next : fanFrom contour n k i start ≡ ((cornerIn contour 0 ∷ runOf contour start (m + 1)) ∷ []) ++ fanFrom contour n k (i + 1) (start + m)
       unfolding fanned
@@ -54,14 +54,14 @@ module _ (contour : List (List ℤ)) (s₀ : List ℕ) (p₀ : List (List ℤ)) 
       fanning-within = omega (arith, f .size, sum-next n h, e)
 
       pub fanning-room : RoomFor s₀ p₀ t₀ qs → RoomFor s p t ((cornerIn contour 0 ∷ runOf contour start (m + 1)) ∷ [])
-      fanning-room r = partway-room qs s₀ p₀ t₀ ((cornerIn contour 0 ∷ runOf contour start (m + 1)) ∷ []) (fanFrom contour n k (i + 1) (start + m)) r (f .partway) next
+      fanning-room r = partway-room s₀ p₀ t₀ ((cornerIn contour 0 ∷ runOf contour start (m + 1)) ∷ []) (fanFrom contour n k (i + 1) (start + m)) r (f .partway) next
 
       pub fanning-turn : {s′ : List ℕ} {p′ : List (List ℤ)} {t′ : Tally} → PartsAppended ((cornerIn contour 0 ∷ runOf contour start (m + 1)) ∷ []) s p t s′ p′ t′ → Fanning contour qs n k (i + 1) (start + m) s₀ p₀ t₀ s′ p′ t′
       fanning-turn a = record {
         size = omega (arith, f .size, sum-next n h, e);
-        partway = partway-turn qs s₀ p₀ t₀ (f .partway) next a;
+        partway = partway-turn s₀ p₀ t₀ (f .partway) next a;
       }
 
     pub fanning-end : k ≤ i → PartsAppended qs s₀ p₀ t₀ s p t
     unfolding fanned
-    fanning-end h = partway-end qs s₀ p₀ t₀ (f .partway) (ap (λ ss. fanned ss (cornerIn contour 0) (drop start (cornersIn contour))) (shares-none n h))
+    fanning-end h = partway-end s₀ p₀ t₀ (f .partway) (ap (λ ss. fanned ss (cornerIn contour 0) (drop start (cornersIn contour))) (shares-none n h))

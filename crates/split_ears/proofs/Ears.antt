@@ -48,7 +48,7 @@ module _ (contour : List (List ℤ)) (s₀ : List ℕ) (p₀ : List (List ℤ)) 
     ringed = ringed-start (omega arith) f;
     here = sym (getD-upTo (length contour) 0 (omega arith));
     size = omega (arith, h, length-upTo (length contour), ap sumℕ (shares-all (length contour - 2) k), sum-shares (length contour - 2) some);
-    partway = partway-start (earParts limit (cornersIn contour)) s₀ p₀ t₀
+    partway = partway-start s₀ p₀ t₀
         (ap₂ clipped (shares-all (length contour - 2) k ∙ ap (shares (length contour - 2)) e ∙ ap (λ n. triangleShares n limit) (sym (length-map contour cornerOf))) (corners-all contour));
   }
 
@@ -67,7 +67,7 @@ module _ (contour : List (List ℤ)) (s₀ : List ℕ) (p₀ : List (List ℤ)) 
       ear : take (m + 2) (map (cornerIn contour) (f .left)) ≡ cornerIn contour start ∷ cornersAfter contour ring start (m + 1)
       ear =
           let q : m + 2 ≡ suc (m + 1) = omega arith in
-          ap (λ j. take j (map (cornerIn contour) (f .left))) q ∙ sym (ringed-ear ring (length contour) (f .left) (f .ringed) contour (m + 1) enough)
+          ap (λ j. take j (map (cornerIn contour) (f .left))) q ∙ sym (ringed-ear (f .ringed) contour (m + 1) enough)
           ∙ ap (λ j. cornerIn contour j ∷ cornersAfter contour ring j (m + 1)) (sym (f .here))
 
       left-corners : drop (m + 1) (map (cornerIn contour) (f .left)) ++ take 1 (map (cornerIn contour) (f .left)) ≡ map (cornerIn contour) rest
@@ -80,7 +80,7 @@ module _ (contour : List (List ℤ)) (s₀ : List ℕ) (p₀ : List (List ℤ)) 
           ∙ ap₂ (λ q l. q ∷ clipped (sharesFrom n k (i + 1) (k - (i + 1))) l) ear left-corners
 
       pub clipping-room : RoomFor s₀ p₀ t₀ qs → RoomFor s p t ((cornerIn contour start ∷ cornersAfter contour ring start (m + 1)) ∷ [])
-      clipping-room r = partway-room qs s₀ p₀ t₀ ((cornerIn contour start ∷ cornersAfter contour ring start (m + 1)) ∷ []) (earsFrom contour n k (i + 1) rest) r (f .partway) next
+      clipping-room r = partway-room s₀ p₀ t₀ ((cornerIn contour start ∷ cornersAfter contour ring start (m + 1)) ∷ []) (earsFrom contour n k (i + 1) rest) r (f .partway) next
 
       module _ {ring′ : List ℕ} {start′ : ℕ} {s′ : List ℕ} {p′ : List (List ℤ)} {t′ : Tally} where
         pub clipping-turn : (ring′ ≡ set ring start (stepped ring start (m + 1))) × PartsAppended ((cornerIn contour start ∷ cornersAfter contour ring start (m + 1)) ∷ []) s p t s′ p′ t′ → start′ ≡ getD ring′ start 0 → Clipping contour qs n k (i + 1) start′ ring′ s₀ p₀ t₀ s′ p′ t′
@@ -88,12 +88,12 @@ module _ (contour : List (List ℤ)) (s₀ : List ℕ) (p₀ : List (List ℤ)) 
             let c : ring′ ≡ set ring (getD (f .left) 0 0) (stepped ring (getD (f .left) 0 0) (m + 1)) = a .0 ∙ ap (λ j. set ring j (stepped ring j (m + 1))) (f .here) in
             record {
               left = rest;
-              ringed = ringed-turn ring (length contour) (f .left) (f .ringed) (m + 1) (omega arith) enough c;
-              here = b ∙ ap (λ j. getD ring′ j 0) (f .here) ∙ ringed-next ring (length contour) (f .left) (f .ringed) (m + 1) (omega arith) enough c;
+              ringed = ringed-turn (f .ringed) (omega arith) enough c;
+              here = b ∙ ap (λ j. getD ring′ j 0) (f .here) ∙ ringed-next (f .ringed) (omega arith) enough c;
               size = omega (arith, f .size, sum-next n h, e, length-append (drop (m + 1) (f .left)) (take 1 (f .left)), length-drop (m + 1) (f .left), length-take-le 1 (f .left) (omega (arith, enough)));
-              partway = partway-turn qs s₀ p₀ t₀ (f .partway) next (a .1);
+              partway = partway-turn s₀ p₀ t₀ (f .partway) next (a .1);
             }
 
     pub clipping-end : k ≤ i → PartsAppended qs s₀ p₀ t₀ s p t
     unfolding clipped
-    clipping-end h = partway-end qs s₀ p₀ t₀ (f .partway) (ap (λ ss. clipped ss (map (cornerIn contour) (f .left))) (shares-none n h))
+    clipping-end h = partway-end s₀ p₀ t₀ (f .partway) (ap (λ ss. clipped ss (map (cornerIn contour) (f .left))) (shares-none n h))

@@ -109,7 +109,7 @@ ringed-start {ring} {n} some f = record {
         (λ t. omega (arith, f .next i (ltb-true i (n - 1) t), ltb-true i (n - 1) t))
         (λ t. let e : i ≡ n - 1 = omega (arith, ltb-false i (n - 1) t) in omega (arith, ap (λ k. getD ring k 0) e, f .last))
 
-module _ (ring : List ℕ) (n : ℕ) (ks : List ℕ) (r : Ringed ring n ks) where
+module _ {ring : List ℕ} {n : ℕ} {ks : List ℕ} (r : Ringed ring n ks) where
   pub ringed-steps : (j : ℕ) → j < length ks → stepped ring (getD ks 0 0) j ≡ getD ks j 0
   unfolding stepped
   ringed-steps zero h = refl
@@ -126,7 +126,7 @@ module _ (ring : List ℕ) (n : ℕ) (ks : List ℕ) (r : Ringed ring n ks) wher
       ∙ sym (take-suc (map (cornerIn contour) ks) (suc m) (cornerIn contour 0) (omega (arith, length-map ks (cornerIn contour))))
 
   -- after the first comes the one m places on, and those between are passed over
-  module _ (m : ℕ) (some : 0 < m) (few : m < length ks) {ring′ : List ℕ} (e : ring′ ≡ set ring (getD ks 0 0) (stepped ring (getD ks 0 0) m)) where
+  module _ {m : ℕ} (some : 0 < m) (few : m < length ks) {ring′ : List ℕ} (e : ring′ ≡ set ring (getD ks 0 0) (stepped ring (getD ks 0 0) m)) where
     length-left : length (drop m ks ++ take 1 ks) ≡ length ks - m + 1
     length-left = omega (arith, length-append (drop m ks) (take 1 ks), length-drop m ks, length-take-le 1 ks (omega arith))
 

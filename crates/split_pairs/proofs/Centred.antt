@@ -109,23 +109,23 @@ group-polygon {g} s (a ∷ b ∷ l) z h k =
 
 -- ---- the groups
 
-group-polygons : (n : ℕ) (g : Pt) (s : ℕ) (l : List Pt) → s < length l → Around g l → All Polygon (groupParts n g s l)
+group-polygons : (n : ℕ) (g : Pt) {s : ℕ} (l : List Pt) → s < length l → Around g l → All Polygon (groupParts n g s l)
 unfolding groupParts
-group-polygons zero g s l h k = tt
-group-polygons (suc n) g s l h k =
+group-polygons zero g {s} l h k = tt
+group-polygons (suc n) g {s} l h k =
     by-test (eqb s 0) (λ e. rw e tt)
     (λ d.
     let z : s ≡ 0 → ⊥ = eqb-false s 0 d in
     let e : ℕ = edgesTaken g s l in
     let few : e ≤ s = edgesTaken-le g l (omega (arith, z)) in
-    rw d (group-polygon s l (omega (arith, z)) h k, group-polygons n g (s - e) (drop e l) (omega (arith, few, length-drop e l)) (around-drop g e l k)))
+    rw d (group-polygon s l (omega (arith, z)) h k, group-polygons n g (drop e l) (omega (arith, few, length-drop e l)) (around-drop g e l k)))
 
 sector-polygons : (ss : List ℕ) (g : Pt) (l : List Pt) → sumℕ ss < length l → Around g l → All Polygon (sectors ss g l)
 unfolding sectors sumℕ
 sector-polygons [] g l h k = tt
 sector-polygons (s ∷ ss) g l h k =
     all-append Polygon (groupParts s g s l) (sectors ss g (drop s l)) .1
-    (group-polygons s g s l (omega (arith, h)) k, sector-polygons ss g (drop s l) (omega (arith, h, length-drop s l)) (around-drop g s l k))
+    (group-polygons s g l (omega (arith, h)) k, sector-polygons ss g (drop s l) (omega (arith, h, length-drop s l)) (around-drop g s l k))
 
 -- ---- round the contour
 
@@ -148,6 +148,6 @@ around-contour g {c} (a ∷ b ∷ l) p h = (
 pub centroid-polygons : {m : ℕ} (g : Pt) {c : Pt} {l : List Pt} → 3 ≤ m → Polygon (c ∷ l) → leftOfAll g (neighbours (c ∷ l)) ≡ true → All Polygon (centroidParts m g c (c ∷ l))
 centroid-polygons {m} g {c} {l} h p t =
     let k : ℕ = ceilDiv (suc (length l)) (m - 2) in
-    let all : sumℕ (shares (suc (length l)) k) ≡ suc (length l) = sum-shares (suc (length l)) (ceil-pos (suc (length l)) (m - 2) (omega arith) (omega arith)) in
+    let all : sumℕ (shares (suc (length l)) k) ≡ suc (length l) = sum-shares (suc (length l)) (ceil-pos (omega arith) (omega arith)) in
     let size : length (c ∷ l ++ (c ∷ [])) ≡ suc (length l) + 1 = length-append (c ∷ l) (c ∷ []) in
     sector-polygons (shares (suc (length l)) k) g (c ∷ l ++ (c ∷ [])) (omega (arith, all, size)) (around-contour g l p t)

@@ -22,8 +22,8 @@ use Rattle.split.proofs.Sizes.{ceil-pos, shares-bound}
 -- all
 pub triangle-shares : {n m : ℕ} → 3 ≤ n → 3 ≤ m → All (λ s. 0 < s) (triangleShares n m) × (sumℕ (triangleShares n m) + 2 ≡ n)
 triangle-shares {n} {m} h k = (
-  all-map (triangleShares n m) (λ s b. omega (arith, b .0)) (shares-bound (n - 2) (m - 2) (omega arith) (omega arith)),
-  omega (arith, sum-shares (n - 2) (ceil-pos (n - 2) (m - 2) (omega arith) (omega arith))),
+  all-map (triangleShares n m) (λ s b. omega (arith, b .0)) (shares-bound (omega arith) (omega arith)),
+  omega (arith, sum-shares (n - 2) (ceil-pos {n = n - 2} {b = m - 2} (omega arith) (omega arith))),
 )
 
 -- ---- ear clipping

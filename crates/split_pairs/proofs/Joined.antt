@@ -82,8 +82,8 @@ parts-summable mesh h =
     let ok : Accepted mesh = accepted mesh h in
     let ps : List (List Pt) = parts mesh in
     let polygons : All Polygon ps = parts-polygons mesh h in
-    let fit : All (λ l. contourArea l ≤ℤ pos 9223372036854775807) ps = areas-fit ps polygons (subst (λ z. z ≤ℤ pos 9223372036854775807) (sym (parts-area mesh ok)) (ok .fits)) in
-    let grid : All (All (λ p. onGrid p ≡ true)) ps = parts-vertices (λ p. onGrid p ≡ true) mesh ok (λ k i l. ok .on-grid k i l) in
+    let fit : All (λ l. contourArea l ≤ℤ pos 9223372036854775807) ps = areas-fit ps polygons (subst (λ z. z ≤ℤ pos 9223372036854775807) (sym (parts-area ok)) (ok .fits)) in
+    let grid : All (All (λ p. onGrid p ≡ true)) ps = parts-vertices (λ p. onGrid p ≡ true) ok (λ k i l. ok .on-grid k i l) in
     let shapes : All (λ l. Polygon l × All (λ p. onGrid p ≡ true) l) ps = all-map2 ps (λ l p g. (p, g)) polygons grid in
-    let sizes : All (λ l. (length l ≤ maxContour) × (contourArea l ≤ℤ pos 9223372036854775807)) ps = all-map2 ps (λ l s f. (s, f)) (parts-short mesh ok) fit in
+    let sizes : All (λ l. (length l ≤ maxContour) × (contourArea l ≤ℤ pos 9223372036854775807)) ps = all-map2 ps (λ l s f. (s, f)) (parts-short ok) fit in
     all-map2 ps (λ l a b. summable (a .0) (a .1) (b .0) (b .1)) shapes sizes

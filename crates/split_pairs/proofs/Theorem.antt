@@ -49,9 +49,9 @@ by-polygons Centroid {m} {l = c ∷ l} h p =
     by-test (centreServes (centreOf c (c ∷ l)) (c ∷ l))
     (λ e. rw e (centroid-polygons (centreOf c (c ∷ l)) h p (serves-left (centreOf c (c ∷ l)) (c ∷ l) e))) (λ e. rw e (fan-polygons h p))
 
-contour-polygons : (how : ConvexSplitStrategy) (m : ℕ) {l : List Pt} → 3 ≤ m → Polygon l → All Polygon (splitContour how m l)
+contour-polygons : (how : ConvexSplitStrategy) {m : ℕ} {l : List Pt} → 3 ≤ m → Polygon l → All Polygon (splitContour how m l)
 unfolding splitContour
-contour-polygons how m {l} h p = by-test (leb (length l) m) (λ e. rw e (p, tt)) (λ e. rw e (by-polygons how h p))
+contour-polygons how {m} {l} h p = by-test (leb (length l) m) (λ e. rw e (p, tt)) (λ e. rw e (by-polygons how h p))
 
 -- ---- all
 
@@ -62,7 +62,7 @@ all-split Q how m mesh f h =
     all-flatten Q (map (splitContour how (raised m)) (parts mesh)) .1 (all-image (All Q) (splitContour how (raised m)) (parts mesh) .1 (all-map (parts mesh) f h))
 
 pub split-polygons : (how : ConvexSplitStrategy) (m : ℕ) (mesh : Mesh) → firstFault (meshKinds mesh) ≡ 0 → All Polygon (splitParts how m mesh)
-split-polygons how m mesh h = all-split Polygon how m mesh (λ l p. contour-polygons how (raised m) (omega arith) p) (parts-polygons mesh h)
+split-polygons how m mesh h = all-split Polygon how m mesh (λ l p. contour-polygons how (omega arith) p) (parts-polygons mesh h)
 
 pub split-meets-premise : SplitMeetsPremise
 split-meets-premise how m mesh h =

@@ -16,7 +16,7 @@ use Rattle.split.specs.declared.ConvexSplitStrategy.{ConvexSplitStrategy}
 use Rattle.split.specs.Splitting.{raised, splitContour, splitParts, splitFault, SplitAnswered}
 use Rattle.split.proofs.Sizes.{split-whole}
 
-module _ (how : ConvexSplitStrategy) (limit : ℕ) (m : Mesh) (s : List ℕ) (c : List ℤ) {r : Counts} {s′ : List ℕ} {c′ : List ℤ} where
+module _ (how : ConvexSplitStrategy) (limit : ℕ) (m : Mesh) {s : List ℕ} {c : List ℤ} {r : Counts} {s′ : List ℕ} {c′ : List ℤ} where
   pub left-whole : firstFault (meshKinds m) ≡ 0 → length m + 2 ≤ raised limit → PartsAnswered m s c r s′ c′ → SplitAnswered how limit m s c r s′ c′
   unfolding partsFault splitFault
   left-whole a h = subst (λ ps. Answered (firstFault (meshKinds m ++ roomKinds ps (length s) (length c))) ps s c r s′ c′) (sym (split-whole how limit (accepted m a) h))

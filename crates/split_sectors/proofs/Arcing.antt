@@ -24,13 +24,13 @@ module _ (contour : List (List ℤ)) where
   pub closed-near : {i : ℕ} → i < length contour → getD (closedOf contour) i O ≡ cornerIn contour i
   closed-near {i} h = List·getD-append (cornersIn contour) (cornerIn contour 0 ∷ []) O i (omega (arith, length-in)) ∙ corner-in contour i
 
-  pub closed-last : (i : ℕ) → i ≡ length contour → getD (closedOf contour) i O ≡ cornerIn contour 0
-  closed-last i e = getD-at (cornersIn contour) (cornerIn contour 0) [] O i (length-in ∙ sym e)
+  pub closed-last : {i : ℕ} → i ≡ length contour → getD (closedOf contour) i O ≡ cornerIn contour 0
+  closed-last {i} e = getD-at (cornersIn contour) (cornerIn contour 0) [] O i (length-in ∙ sym e)
 
   pub length-arc : (i n : ℕ) → i + n ≤ length contour + 1 → length (arcOf contour i n) ≡ n
   length-arc i n h = length-take-le n (drop i (closedOf contour)) (omega (arith, length-drop i (closedOf contour), length-closed))
 
-  module _ (i n : ℕ) (h : i < length contour) where
+  module _ {i : ℕ} (n : ℕ) (h : i < length contour) where
     past : drop i (closedOf contour) ≡ drop i (cornersIn contour) ++ (cornerIn contour 0 ∷ [])
     past = drop-append-le i (cornersIn contour) (cornerIn contour 0 ∷ []) (omega (arith, length-in))
 
@@ -43,7 +43,7 @@ module _ (contour : List (List ℤ)) where
         ap (λ l. l ++ (cornerIn contour 0 ∷ [])) (take-all (length contour - i) (drop i (cornersIn contour)) (omega (arith, length-drop i (cornersIn contour), length-in)))
         ∙ sym (ap (take n) past ∙ take-all n (drop i (cornersIn contour) ++ (cornerIn contour 0 ∷ [])) (omega (arith, length-append (drop i (cornersIn contour)) (cornerIn contour 0 ∷ []), length-drop i (cornersIn contour), length-in)))
 
-    module _ (points : List (List ℤ)) (count : ℕ) {points″ : List (List ℤ)} {total : ℕ} where
+    module _ {points : List (List ℤ)} {count : ℕ} {points″ : List (List ℤ)} {total : ℕ} where
       pub near-appended : n ≤ length contour - i → Appended (runOf contour i n) points count points″ total → Appended (arcOf contour i n) points count points″ total
       near-appended k = subst (λ l. Appended l points count points″ total) (arc-near k)
 

@@ -64,13 +64,13 @@ module _ (g : Pt) (l : List Pt) (target : ℕ) where
 -- ---- the parts of a group
 
 -- a group's first part, and those of the edges that it leaves
-group-next : (g : Pt) (s : ℕ) (l : List Pt) → 0 < s → groupParts s g s l ≡ (g ∷ take (edgesTaken g s l + 1) l) ∷ groupParts (s - edgesTaken g s l) g (s - edgesTaken g s l) (drop (edgesTaken g s l) l)
+group-next : (g : Pt) {s : ℕ} (l : List Pt) → 0 < s → groupParts s g s l ≡ (g ∷ take (edgesTaken g s l + 1) l) ∷ groupParts (s - edgesTaken g s l) g (s - edgesTaken g s l) (drop (edgesTaken g s l) l)
 unfolding groupParts
-group-next g s l h =
+group-next g {s} l h =
     let n : s ≡ suc (s - 1) = omega arith in
     ap (λ m. groupParts m g s l) n
     ∙ ap (λ t. cond t [] ((g ∷ take (edgesTaken g s l + 1) l) ∷ groupParts (s - 1) g (s - edgesTaken g s l) (drop (edgesTaken g s l) l))) (ne-eqb s 0 (λ q. omega (arith, q)))
-    ∙ ap (λ t. (g ∷ take (edgesTaken g s l + 1) l) ∷ t) (groupParts-enough (s - 1) (s - edgesTaken g s l) g (s - edgesTaken g s l) (drop (edgesTaken g s l) l) (omega arith) (omega arith))
+    ∙ ap (λ t. (g ∷ take (edgesTaken g s l + 1) l) ∷ t) (groupParts-enough (s - 1) (s - edgesTaken g s l) g (drop (edgesTaken g s l) l) (omega arith) (omega arith))
 
 -- of the edges from corner at to the target
 abbrev pub groupFrom : List (List ℤ) → Pt → ℕ → ℕ → List (List Pt)
@@ -93,7 +93,7 @@ module _ (contour : List (List ℤ)) (g : Pt) (target at : ℕ) where
         let n : edgesTaken g (target - at) (drop at (closedOf contour)) ≡ end - at = omega (arith, e) in
         let r : target - at - (end - at) ≡ target - end = omega (arith, e, sector-within) in
         let f : at + (end - at) ≡ end = omega (arith, e) in
-        group-next g (target - at) (drop at (closedOf contour)) (omega arith)
+        group-next g (drop at (closedOf contour)) (omega arith)
         ∙ ap (λ k. (g ∷ take (k + 1) (drop at (closedOf contour))) ∷ groupParts (target - at - k) g (target - at - k) (drop k (drop at (closedOf contour)))) n
         ∙ ap₂ (λ k m. (g ∷ arcOf contour at (end - at + 1)) ∷ groupParts k g k m) r (drop-drop (end - at) at (closedOf contour) ∙ ap (λ k. drop k (closedOf contour)) f)
 
@@ -112,12 +112,12 @@ module _ (contour : List (List ℤ)) (g : Pt) (s₀ : List ℕ) (p₀ : List (Li
   pub sectoring-start : (limit : ℕ) {k : ℕ} → 0 < k → k ≡ ceilDiv (length contour) (limit - 2) → Sectoring contour g (centroidParts limit g (cornerIn contour 0) (cornersIn contour)) (length contour) k 0 0 s₀ p₀ t₀ s₀ p₀ t₀
   sectoring-start limit {k} some e = record {
     size = omega (arith, ap sumℕ (shares-all (length contour) k), sum-shares (length contour) some);
-    partway = partway-start (centroidParts limit g (cornerIn contour 0) (cornersIn contour)) s₀ p₀ t₀
+    partway = partway-start s₀ p₀ t₀
         (ap (λ ss. sectors ss g (closedOf contour))
         (shares-all (length contour) k ∙ ap (shares (length contour)) e ∙ ap (λ n. shares n (ceilDiv n (limit - 2))) (sym (length-map contour cornerOf))));
   }
 
-  module _ (qs : List (List Pt)) (n k i start : ℕ) {s : List ℕ} {p : List (List ℤ)} {t : Tally} (f : Sectoring contour g qs n k i start s₀ p₀ t₀ s p t) where
+  module _ {qs : List (List Pt)} {n k i start : ℕ} {s : List ℕ} {p : List (List ℤ)} {t : Tally} (f : Sectoring contour g qs n k i start s₀ p₀ t₀ s p t) where
     module _ (h : i < k) {m : ℕ} (e : m ≡ n / k + cond (ltb i (n % k)) 1 0) where
       next : sectorsFrom contour g n k i start ≡ groupFrom contour g (start + m) start ++ sectorsFrom contour g n k (i + 1) (start + m)
       unfolding sectors
@@ -130,14 +130,14 @@ module _ (contour : List (List ℤ)) (g : Pt) (s₀ : List ℕ) (p₀ : List (Li
       sectoring-within = omega (arith, f .size, sum-next n h, e)
 
       pub sectoring-room : RoomFor s₀ p₀ t₀ qs → RoomFor s p t (groupFrom contour g (start + m) start)
-      sectoring-room r = partway-room qs s₀ p₀ t₀ (groupFrom contour g (start + m) start) (sectorsFrom contour g n k (i + 1) (start + m)) r (f .partway) next
+      sectoring-room r = partway-room s₀ p₀ t₀ (groupFrom contour g (start + m) start) (sectorsFrom contour g n k (i + 1) (start + m)) r (f .partway) next
 
       pub sectoring-turn : {s′ : List ℕ} {p′ : List (List ℤ)} {t′ : Tally} → PartsAppended (groupFrom contour g (start + m) start) s p t s′ p′ t′ → Sectoring contour g qs n k (i + 1) (start + m) s₀ p₀ t₀ s′ p′ t′
       sectoring-turn a = record {
         size = omega (arith, f .size, sum-next n h, e);
-        partway = partway-turn qs s₀ p₀ t₀ (f .partway) next a;
+        partway = partway-turn s₀ p₀ t₀ (f .partway) next a;
       }
 
     pub sectoring-end : k ≤ i → PartsAppended qs s₀ p₀ t₀ s p t
     unfolding sectors
-    sectoring-end h = partway-end qs s₀ p₀ t₀ (f .partway) (ap (λ ss. sectors ss g (drop start (closedOf contour))) (shares-none n h))
+    sectoring-end h = partway-end s₀ p₀ t₀ (f .partway) (ap (λ ss. sectors ss g (drop start (closedOf contour))) (shares-none n h))

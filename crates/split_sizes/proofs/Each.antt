@@ -45,7 +45,7 @@ at-part how m {s = s} {s′ = s′} {p = p} {p′ = p′} {t = t} {t′ = t′} 
 
 -- ---- the first k of some contours
 
-module _ (how : ConvexSplitStrategy) (m : ℕ) (ps : List (List Pt)) (k : ℕ) (h : k < length ps) where
+module _ (how : ConvexSplitStrategy) (m : ℕ) (ps : List (List Pt)) {k : ℕ} (h : k < length ps) where
   each-append : (a b : List (List Pt)) → splitEach how m (a ++ b) ≡ splitEach how m a ++ splitEach how m b
   each-append a b = ap flatten (map-append (splitContour how m) a b) ∙ flatten-append (map (splitContour how m) a) (map (splitContour how m) b)
 
@@ -59,7 +59,7 @@ module _ (how : ConvexSplitStrategy) (m : ℕ) (ps : List (List Pt)) (k : ℕ) (
   unfolding flatten
   each-whole = ap (splitEach how m) (sym (take-append-drop k ps)) ∙ each-append (take k ps) (drop k ps) ∙ ap (λ l. splitEach how m (take k ps) ++ splitEach how m l) (drop-cons ps k [] h)
 
-  module _ (s₀ : List ℕ) (p₀ : List (List ℤ)) (t₀ : Tally) {s : List ℕ} {p : List (List ℤ)} {t : Tally} (a : PartsAppended (splitEach how m (take k ps)) s₀ p₀ t₀ s p t) where
+  module _ {s₀ : List ℕ} {p₀ : List (List ℤ)} {t₀ : Tally} {s : List ℕ} {p : List (List ℤ)} {t : Tally} (a : PartsAppended (splitEach how m (take k ps)) s₀ p₀ t₀ s p t) where
     -- there is room for contour k's parts after those before it
     pub room-at : RoomFor s₀ p₀ t₀ (splitEach how m ps) → RoomFor s p t (splitContour how m (getD ps k []))
     room-at r =
@@ -86,7 +86,7 @@ pub parts-in : {s : List ℕ} {p : List (List ℤ)} {t : Tally} {ps : List (List
 parts-in {ps} g = (λ i. partsOf (g .begins i) (g .gathered i)) ∙ parts-starts ps
 
 -- joined part k: where it lies in the buffers, and that its sums fit
-module _ (s : List ℕ) (p : List (List ℤ)) (t : Tally) (k : ℕ) (j : Splittable s p t) (h : k < t .parts) where
+module _ {s : List ℕ} {p : List (List ℤ)} {t : Tally} {k : ℕ} (j : Splittable s p t) (h : k < t .parts) where
   pub starts-enough : k + 1 < length s
   starts-enough = omega (arith, h, enough-starts s p t (partsIn s p t) (j .gathered))
 
@@ -114,7 +114,7 @@ module _ (s : List ℕ) (p : List (List ℤ)) (t : Tally) (rows : List (List ℤ
     few-in =
         let ok = accepted (rowsMesh rows) e in
         let f = split-parts-few how m ok in
-        let c = parts-corners (rowsMesh rows) ok in
+        let c = parts-corners ok in
         let n = length-rows rows in
         (omega (arith, ap length split-in, f .some, c, n), omega (arith, ap (λ qs. length (flatten qs)) split-in, f .corners, c, n))
 

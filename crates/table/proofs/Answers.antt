@@ -17,14 +17,14 @@ use Rattle.corners.proofs.Corners.{length-numbers}
 use Rattle.table.proofs.Parts.{length-starts}
 use Rattle.table.proofs.Rules.{parts-table}
 
-module _ (f : ℕ) (h : f ≡ 0 → ⊥) where
+module _ {f : ℕ} (h : f ≡ 0 → ⊥) where
   pub refused-counts : (ps : List (List Pt)) → countsOf f ps ≡ record { fault = f; parts = 0; corners = 0 }
   refused-counts ps = rw (ne-eqb f 0 h)
 
   pub refused-buffer : {A : Type 0} (answer old : List A) → written f answer old ≡ old
   refused-buffer answer old = rw (ne-eqb f 0 h)
 
-module _ (f : ℕ) (e : f ≡ 0) where
+module _ {f : ℕ} (e : f ≡ 0) where
   pub accepted-counts : (ps : List (List Pt)) → countsOf f ps ≡ record { fault = 0; parts = length ps; corners = length (flatten ps) }
   accepted-counts ps = rw (eq-eqb f 0 e)
 
@@ -53,14 +53,14 @@ module _ (ps : List (List Pt)) (s : List ℕ) (c : List ℤ) where
       ap (λ m. take m (overlay (cornersOf ps) c)) (ap (λ m. 2 * m) last ∙ size) ∙ take-overlay (cornersOf ps) c
 
 -- what an accepted call wrote of each, and that both read back as the contours
-module _ (ps : List (List Pt)) (n f : ℕ) (s : List ℕ) (c : List ℤ) (e : n ≡ length ps) (h : f ≡ 0) where
+module _ (ps : List (List Pt)) {n f : ℕ} (s : List ℕ) (c : List ℤ) (e : n ≡ length ps) (h : f ≡ 0) where
   pub starts-left : take (n + 1) (written f (startsOf ps) s) ≡ startsOf ps
-  starts-left = ap₂ (λ m t. take (m + 1) t) e (accepted-buffer f h (startsOf ps) s) ∙ starts-back ps s c
+  starts-left = ap₂ (λ m t. take (m + 1) t) e (accepted-buffer h (startsOf ps) s) ∙ starts-back ps s c
 
   pub corners-left : take (2 * getD (written f (startsOf ps) s) n 0) (written f (cornersOf ps) c) ≡ cornersOf ps
   corners-left =
-      ap₂ (λ t d. take (2 * getD t n 0) d) (accepted-buffer f h (startsOf ps) s) (accepted-buffer f h (cornersOf ps) c)
+      ap₂ (λ t d. take (2 * getD t n 0) d) (accepted-buffer h (startsOf ps) s) (accepted-buffer h (cornersOf ps) c)
       ∙ ap (λ m. take (2 * getD (overlay (startsOf ps) s) m 0) (overlay (cornersOf ps) c)) e ∙ corners-back ps s c
 
 pub contours-left : (ps : List (List Pt)) {n f : ℕ} (s : List ℕ) (c : List ℤ) → n ≡ length ps → f ≡ 0 → firstContours n (written f (startsOf ps) s) (written f (cornersOf ps) c) ≡ ps
-contours-left ps {n} {f} s c e h = ap₂ tableParts (starts-left ps n f s c e h) (corners-left ps n f s c e h) ∙ parts-table ps
+contours-left ps {n} {f} s c e h = ap₂ tableParts (starts-left ps s c e h) (corners-left ps s c e h) ∙ parts-table ps

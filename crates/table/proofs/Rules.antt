@@ -86,7 +86,7 @@ steps-begin m n [] h e = absurd (h refl)
 steps-begin m n (a ∷ s) h e = rw (eq-eqb a 0 e, e)
 
 -- start i is b and comes after a; r is whether it may not
-module _ (m n a b : ℕ) (s : List ℕ) (i : ℕ) (h : i < length s) (p : b ≡ getD s i 0) {r : Bool} (e : r ≡ cond (ltb b a) true (ltb (a + m) b)) where
+module _ (m n a : ℕ) {b : ℕ} (s : List ℕ) {i : ℕ} (h : i < length s) (p : b ≡ getD s i 0) {r : Bool} (e : r ≡ cond (ltb b a) true (ltb (a + m) b)) where
   pub step-broken : r ≡ true → stepsBroken m n a (drop i s) ≡ true
   unfolding stepsBroken
   step-broken k = rw (drop-cons s i 0, ← p) (or-true (ltb b a) (ltb (a + m) b) _ (sym e ∙ k))

@@ -35,7 +35,7 @@ module _ (ls : List ℕ) (lc : List ℤ) (rs : List ℕ) (rc : List ℤ) (right 
   right-broken e f = first-next 7 _ e ∙ first-this 7 _ f
 
   -- of the starts of the operand that is asked for
-  module _ (starts : List ℕ) (p : cond right rs ls ≡ starts) (e : tableBroken ls lc ≡ false) (f : tableBroken rs rc ≡ false) where
+  module _ {starts : List ℕ} (p : cond right rs ls ≡ starts) (e : tableBroken ls lc ≡ false) (f : tableBroken rs rc ≡ false) where
     pub past : partCount starts ≤ k → shownFault ls lc rs rc right k ≡ 12
     unfolding shownFault
     past h = first-next 7 _ e ∙ first-next 7 _ f ∙ first-this 12 [] (ap (λ s. leb (partCount s) k) p ∙ le-leb _ k h)

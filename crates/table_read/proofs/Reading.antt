@@ -95,19 +95,19 @@ module _ (bytes : List ℕ) (e : lengthBroken bytes ≡ false) (count : ℕ) whe
   starts-at-0 p h = steps-begin maxContour count (storedStarts bytes) (λ z. omega (arith, many)) (sym (p ∙ start-at bytes {i = 0} (omega arith)) ∙ h)
 
   -- start i comes after `last`; r is whether it may not
-  module _ (last next i : ℕ) (h : i < wordAt bytes 0 + 1) (p : next ≡ wordAt bytes (i + 2)) {r : Bool} (f : r ≡ cond (ltb next last) true (ltb (last + maxContour) next)) where
+  module _ (last : ℕ) {next i : ℕ} (h : i < wordAt bytes 0 + 1) (p : next ≡ wordAt bytes (i + 2)) {r : Bool} (f : r ≡ cond (ltb next last) true (ltb (last + maxContour) next)) where
     pub next-broken : r ≡ true → stepsBroken maxContour count last (drop i (storedStarts bytes)) ≡ true
-    next-broken k = step-broken maxContour count last next (storedStarts bytes) i (omega (arith, many)) (p ∙ start-at bytes h) f k
+    next-broken k = step-broken maxContour count last (storedStarts bytes) (omega (arith, many)) (p ∙ start-at bytes h) f k
 
     pub next-passed : r ≡ false → stepsBroken maxContour count last (drop i (storedStarts bytes)) ≡ stepsBroken maxContour count next (drop (i + 1) (storedStarts bytes))
-    next-passed k = step-passed maxContour count last next (storedStarts bytes) i (omega (arith, many)) (p ∙ start-at bytes h) f k
+    next-passed k = step-passed maxContour count last (storedStarts bytes) (omega (arith, many)) (p ∙ start-at bytes h) f k
 
   pub last-start : (last i : ℕ) → wordAt bytes 0 + 1 ≤ i → stepsBroken maxContour count last (drop i (storedStarts bytes)) ≡ not (eqb last count)
   last-start last i h = steps-end maxContour count last (storedStarts bytes) {i = i} (omega (arith, many))
 
 -- ---- number i, judged
 
-module _ (bytes : List ℕ) (i : ℕ) (h : i < length bytes / 4) {r : Bool} {u : ℤ} (p : u ≡ signed (wordAt bytes i)) (e : r ≡ inRange u) where
+module _ (bytes : List ℕ) {i : ℕ} (h : i < length bytes / 4) {r : Bool} {u : ℤ} (p : u ≡ signed (wordAt bytes i)) (e : r ≡ inRange u) where
   number : map signed (drop i (wordsOf bytes)) ≡ u ∷ map signed (drop (i + 1) (wordsOf bytes))
   number =
       rw (add-one, p)
@@ -175,9 +175,9 @@ module _ (bytes os : List ℕ) (oc : List ℤ) {f : ℕ} (e : f ≡ faultRead by
   pub refused-read : (f ≡ 0 → ⊥) → (record { fault = f; parts = 0; corners = 0 } ≡ countsRead bytes os oc) × (os ≡ startsRead bytes os oc) × (oc ≡ cornersRead bytes os oc)
   refused-read h =
       let n : faultRead bytes os oc ≡ 0 → ⊥ = λ z. h (e ∙ z) in (
-        (λ i. record { fault = e i; parts = 0; corners = 0 }) ∙ sym (refused-counts _ n (storedParts bytes)),
-        sym (refused-buffer _ n (storedStarts bytes) os),
-        sym (refused-buffer _ n (storedCorners bytes) oc),
+        (λ i. record { fault = e i; parts = 0; corners = 0 }) ∙ sym (refused-counts n (storedParts bytes)),
+        sym (refused-buffer n (storedStarts bytes) os),
+        sym (refused-buffer n (storedCorners bytes) oc),
       )
 
   pub accepted-read : f ≡ 0 → {p c : ℕ} {s : List ℕ} {z : List ℤ} → p ≡ wordAt bytes 0 → c ≡ wordAt bytes 1 → s ≡ overlay (take (p + 1) (drop 2 (wordsOf bytes))) os
@@ -188,8 +188,8 @@ module _ (bytes os : List ℕ) (oc : List ℤ) {f : ℕ} (e : f ≡ faultRead by
       let a = accepted bytes (length os) (length oc) n in
       let k = u ∙ sym (stored-parts bytes (a .sized-right) (a .whole)) in
       let l = v ∙ sym (stored-corners bytes (a .sized-right) (a .whole)) in (
-        (λ i. record { fault = h i; parts = k i; corners = l i }) ∙ sym (accepted-counts _ n (storedParts bytes)),
-        q ∙ ap (λ m. overlay (take (m + 1) (drop 2 (wordsOf bytes))) os) u ∙ sym (accepted-buffer _ n (storedStarts bytes) os),
+        (λ i. record { fault = h i; parts = k i; corners = l i }) ∙ sym (accepted-counts n (storedParts bytes)),
+        q ∙ ap (λ m. overlay (take (m + 1) (drop 2 (wordsOf bytes))) os) u ∙ sym (accepted-buffer n (storedStarts bytes) os),
         r ∙ (λ i. overlay (map signed (take (2 * v i) (drop (u i + 3) (wordsOf bytes)))) oc) ∙ ap (λ m. overlay m oc) (numbers-all bytes (sized bytes (a .sized-right)))
-            ∙ sym (accepted-buffer _ n (storedCorners bytes) oc),
+            ∙ sym (accepted-buffer n (storedCorners bytes) oc),
       )

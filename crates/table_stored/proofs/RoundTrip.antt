@@ -39,7 +39,7 @@ module _ (s : List ℕ) (c : List ℤ) (old : List ℕ) (e : faultWritten s c ol
   length-told = rw (eq-eqb _ 0 e)
 
   bytes-left : bytesWritten s c old ≡ overlay (storedOf s c) old
-  bytes-left = accepted-buffer _ e (storedOf s c) old
+  bytes-left = accepted-buffer e (storedOf s c) old
 
   pub bytes-told : bytesTold s c old ≡ storedOf s c
   bytes-told = (λ i. take (length-told i) (bytes-left i)) ∙ take-overlay (storedOf s c) old
@@ -68,9 +68,9 @@ read-back s c old os oc e hs hc =
     let k = ap length p ∙ count-parts s c (w .whole) in
     let l = ap (λ q. length (flatten q)) p ∙ count-corners s c (w .whole) in
     record {
-      counts = accepted-counts _ n (storedParts (bytesTold s c old)) ∙ (λ i. record { fault = 0; parts = k i; corners = l i });
-      starts = accepted-buffer _ n (storedStarts (bytesTold s c old)) os ∙ ap (λ r. overlay r os) (ap storedStarts b ∙ starts-of-stored s c (w .whole) (w .ranged));
-      corners = accepted-buffer _ n (storedCorners (bytesTold s c old)) oc ∙ ap (λ r. overlay r oc) (ap storedCorners b ∙ corners-of-stored s c (w .whole) (w .ranged));
+      counts = accepted-counts n (storedParts (bytesTold s c old)) ∙ (λ i. record { fault = 0; parts = k i; corners = l i });
+      starts = accepted-buffer n (storedStarts (bytesTold s c old)) os ∙ ap (λ r. overlay r os) (ap storedStarts b ∙ starts-of-stored s c (w .whole) (w .ranged));
+      corners = accepted-buffer n (storedCorners (bytesTold s c old)) oc ∙ ap (λ r. overlay r oc) (ap storedCorners b ∙ corners-of-stored s c (w .whole) (w .ranged));
       past = past-told s c old f;
     }
 
@@ -86,20 +86,20 @@ module _ (bytes os : List ℕ) (oc : List ℤ) (e : faultRead bytes os oc ≡ 0)
   parts-many : countsRead bytes os oc .parts + 1 ≡ length (storedStarts bytes)
   parts-many =
       let a = accepted bytes (length os) (length oc) e in
-      let k = ap (λ r. r .parts) (accepted-counts _ e (storedParts bytes)) ∙ stored-parts bytes (a .sized-right) (a .whole) in
+      let k = ap (λ r. r .parts) (accepted-counts e (storedParts bytes)) ∙ stored-parts bytes (a .sized-right) (a .whole) in
       omega (arith, k, count-starts bytes (sized bytes (a .sized-right)))
 
   corners-many : 2 * countsRead bytes os oc .corners ≡ length (storedCorners bytes)
   corners-many =
       let a = accepted bytes (length os) (length oc) e in
-      let k = ap (λ r. r .corners) (accepted-counts _ e (storedParts bytes)) ∙ stored-corners bytes (a .sized-right) (a .whole) in
+      let k = ap (λ r. r .corners) (accepted-counts e (storedParts bytes)) ∙ stored-corners bytes (a .sized-right) (a .whole) in
       omega (arith, k, count-numbers bytes (sized bytes (a .sized-right)))
 
   starts-left : startsRead bytes os oc ≡ overlay (storedStarts bytes) os
-  starts-left = accepted-buffer _ e (storedStarts bytes) os
+  starts-left = accepted-buffer e (storedStarts bytes) os
 
   corners-left : cornersRead bytes os oc ≡ overlay (storedCorners bytes) oc
-  corners-left = accepted-buffer _ e (storedCorners bytes) oc
+  corners-left = accepted-buffer e (storedCorners bytes) oc
 
   starts-told : startsTold bytes os oc ≡ storedStarts bytes
   starts-told = (λ i. take (parts-many i) (starts-left i)) ∙ take-overlay (storedStarts bytes) os
@@ -119,7 +119,7 @@ written-again {bytes} {os} {oc} {buf} h e room =
     (omega (arith, length-stored (storedStarts bytes) (storedCorners bytes), ap length same)) in
     record {
       answer = (λ i. answerWritten (s i) (c i) buf) ∙ rw (eq-eqb _ 0 n) (λ i. record { fault = 0; length = length (same i) });
-      bytes-same = (λ i. bytesWritten (s i) (c i) buf) ∙ accepted-buffer _ n _ buf ∙ ap (λ b. overlay b buf) same;
+      bytes-same = (λ i. bytesWritten (s i) (c i) buf) ∙ accepted-buffer n _ buf ∙ ap (λ b. overlay b buf) same;
       past-starts = (λ i. drop (parts-many bytes os oc f i) (starts-left bytes os oc f i)) ∙ drop-overlay (storedStarts bytes) os ∙ ap (λ k. drop k os) (sym (parts-many bytes os oc f));
       past-corners = (λ i. drop (corners-many bytes os oc f i) (corners-left bytes os oc f i)) ∙ drop-overlay (storedCorners bytes) oc ∙ ap (λ k. drop k oc) (sym (corners-many bytes os oc f));
     }

@@ -27,9 +27,9 @@ use Rattle.table_write.specs.Written.{faultWritten, answerWritten, bytes
 
 -- ---- a word more
 
-pub put-more : (k : ℕ) (ws old : List ℕ) {buf after : List ℕ} (i : ℕ) {n w : ℕ} → i < length ws → 4 * (k + length ws) ≤ length old → buf ≡ putWords k (take i ws) old
+pub put-more : (k : ℕ) (ws old : List ℕ) {buf after : List ℕ} {i : ℕ} {n w : ℕ} → i < length ws → 4 * (k + length ws) ≤ length old → buf ≡ putWords k (take i ws) old
     → n ≡ k + i → w ≡ getD ws i 0 → after ≡ putWords n (w ∷ []) buf → after ≡ putWords k (take (i + 1) ws) old
-put-more k ws old i {n} {w} h room p e q r =
+put-more k ws old {i} {n} {w} h room p e q r =
     let l : length (take i ws) ≡ i = length-take-le i ws (le-of-lt h) in
     let m : n ≡ k + length (take i ws) = e ∙ ap (λ j. k + j) (sym l) in
     r ∙ (λ j. putWords (m j) (q j ∷ []) (p j)) ∙ put-put k (take i ws) old (omega arith) (getD ws i 0 ∷ [])
@@ -100,10 +100,10 @@ module _ (s : List ℕ) (c : List ℤ) (old : List ℕ) {f : ℕ} (e : f ≡ fau
   pub refused-write : (f ≡ 0 → ⊥) → (record { fault = f; length = 0 } ≡ answerWritten s c old) × (old ≡ bytesWritten s c old)
   refused-write h =
       let n : faultWritten s c old ≡ 0 → ⊥ = λ z. h (e ∙ z) in
-      (rw (ne-eqb (faultWritten s c old) 0 n) (λ i. record { fault = e i; length = 0 }), sym (refused-buffer _ n (storedOf s c) old))
+      (rw (ne-eqb (faultWritten s c old) 0 n) (λ i. record { fault = e i; length = 0 }), sym (refused-buffer n (storedOf s c) old))
 
   pub accepted-write : f ≡ 0 → {b : List ℕ} → b ≡ overlay (storedOf s c) old
       → (record { fault = f; length = 8 + 4 * length s + 4 * length c } ≡ answerWritten s c old) × (b ≡ bytesWritten s c old)
   accepted-write h q =
       let n : faultWritten s c old ≡ 0 = sym e ∙ h in
-      (rw (eq-eqb (faultWritten s c old) 0 n) (λ i. record { fault = h i; length = sym (length-stored s c) i }), q ∙ sym (accepted-buffer _ n (storedOf s c) old))
+      (rw (eq-eqb (faultWritten s c old) 0 n) (λ i. record { fault = h i; length = sym (length-stored s c) i }), q ∙ sym (accepted-buffer n (storedOf s c) old))

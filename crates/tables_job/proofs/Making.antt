@@ -157,12 +157,12 @@ module _ (bytes old : List ℕ) where
   pub refused-job : {f : ℕ} → f ≡ tablesFault bytes → (f ≡ 0 → ⊥) → (record { fault = f; size = 0 } ≡ madeOf bytes) × ((old ≡ bytesMade bytes old) × Counts 0 old)
   refused-job e d =
       let n : tablesFault bytes ≡ 0 → ⊥ = λ z. d (e ∙ z) in
-      (rw (ne-eqb (tablesFault bytes) 0 n) (λ k. record { fault = e k; size = 0 }), (sym (refused-buffer _ n (jobOf bytes) old), counts old (omega arith)))
+      (rw (ne-eqb (tablesFault bytes) 0 n) (λ k. record { fault = e k; size = 0 }), (sym (refused-buffer n (jobOf bytes) old), counts old (omega arith)))
 
   pub made-job : tablesFault bytes ≡ 0 → 147516 ≤ length old → {n : ℕ} {b : List ℕ} → (n ≡ length (jobOf bytes)) × (b ≡ overlay (jobOf bytes) old)
       → (record { fault = 0; size = n } ≡ madeOf bytes) × ((b ≡ bytesMade bytes old) × Counts n b)
   made-job z h {n} {b} w =
       let m = length-job bytes (good bytes z) in (
         rw (eq-eqb (tablesFault bytes) 0 z) (λ k. record { fault = sym z k; size = w .0 k }),
-        (w .1 ∙ sym (accepted-buffer _ z (jobOf bytes) old), counts b (omega (arith, w .0, m, h, ap length (w .1), length-overlay (jobOf bytes) old (omega (arith, m, h))))),
+        (w .1 ∙ sym (accepted-buffer z (jobOf bytes) old), counts b (omega (arith, w .0, m, h, ap length (w .1), length-overlay (jobOf bytes) old (omega (arith, m, h))))),
       )

@@ -22,7 +22,7 @@ use Rattle.tables_job.specs.Tables.{boundsWords, operandBytes, brokenAt,
 pub four-put : (k : ℕ) {a b c d p q r s : ℕ} (old : List ℕ) {buf : List ℕ} → a ≡ p → b ≡ q → c ≡ r → d ≡ s → buf ≡ putWords k (a ∷ b ∷ c ∷ d ∷ []) old → buf ≡ putWords k (p ∷ q ∷ r ∷ s ∷ []) old
 four-put k old e f g h t = t ∙ (λ i. putWords k (e i ∷ f i ∷ g i ∷ h i ∷ []) old)
 
-module _ (bytes : List ℕ) (k at : ℕ) {out o₁ o₂ : List ℕ} {p n r : ℕ} (w : Writable bytes k out at) (e : p ≡ wordAt bytes k) (d : n ≡ wordAt bytes (k + 1)) where
+module _ {bytes : List ℕ} {k at : ℕ} {out o₁ o₂ : List ℕ} {p n r : ℕ} (w : Writable bytes k out at) (e : p ≡ wordAt bytes k) (d : n ≡ wordAt bytes (k + 1)) where
   pub operand-put : o₁ ≡ putWords at (boundsWords bytes (k + 3 + p) n) out
       → PutText (take (4 * (k + 3 + p + 2 * n) - 4 * k) (drop (4 * k) bytes)) (4 * (at + 4)) o₁ o₂ r → PutText (operandBytes bytes k) (4 * at) out o₂ r
   unfolding operandBytes

@@ -52,8 +52,8 @@ module _ (P : List ℕ) (m : ℕ) (e : length P ≡ 4 * m) where
     length-table : length T ≡ 4 * N
     length-table = length-take-le (4 * N) (drop (4 * k) bytes) (omega (arith, length-drop (4 * k) bytes))
 
-    word-behind : (j : ℕ) → j < N → wordAt (P ++ (T ++ R)) (m + j) ≡ wordAt bytes (k + j)
-    word-behind j q =
+    word-behind : {j : ℕ} → j < N → wordAt (P ++ (T ++ R)) (m + j) ≡ wordAt bytes (k + j)
+    word-behind {j} q =
         words-behind (T ++ R) j ∙ ap (λ ws. getD ws j 0) (words-append T R (omega (arith, length-table)))
         ∙ List·getD-append (wordsOf T) (wordsOf R) 0 j (omega (arith, length-words T, length-table, q))
         ∙ ap (λ ws. getD ws j 0) (words-take N (drop (4 * k) bytes) ∙ ap (take N) (words-drop k bytes)) ∙ getD-take N (drop k (wordsOf bytes)) j 0 q ∙ getD-drop k (wordsOf bytes) j 0
@@ -62,7 +62,7 @@ module _ (P : List ℕ) (m : ℕ) (e : length P ≡ 4 * m) where
     size-behind =
         let u : m ≡ m + 0 = omega arith in
         let v : k + 0 ≡ k = omega arith in
-        ap₂ (λ p q. 3 + p + 2 * q) (ap (wordAt (P ++ (T ++ R))) u ∙ word-behind 0 (omega arith) ∙ ap (wordAt bytes) v) (word-behind 1 (omega arith))
+        ap₂ (λ p q. 3 + p + 2 * q) (ap (wordAt (P ++ (T ++ R))) u ∙ word-behind (omega arith) ∙ ap (wordAt bytes) v) (word-behind (omega arith))
 
     bytes-behind : tableBytes (P ++ (T ++ R)) m ≡ T
     bytes-behind =
@@ -181,7 +181,7 @@ good bytes z =
       right = either-false (countsBroken bytes (rightTable bytes)) _ (f .0) .1;
     }
 
-module _ (bytes : List ℕ) (small : All (λ b. b < 256) bytes) (g : Good bytes) where
+module _ {bytes : List ℕ} (small : All (λ b. b < 256) bytes) (g : Good bytes) where
   abbrev X : List ℕ
   X = operandBytes bytes 1
 
@@ -252,8 +252,8 @@ pub job-read-back : JobReadBack
 job-read-back bytes small z =
     let g = good bytes z in
     record {
-      operation = ap (λ w. eqb w 1) (operation-read bytes small g);
-      left = left-read bytes small g;
-      right = right-read bytes small g;
-      fault = fault-read bytes small g;
+      operation = ap (λ w. eqb w 1) (operation-read small g);
+      left = left-read small g;
+      right = right-read small g;
+      fault = fault-read small g;
     }

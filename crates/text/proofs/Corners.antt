@@ -32,7 +32,7 @@ corners-append (p ∷ a) b =
     corners-more p (a ++ b) ∙ ap (λ t. cornerText p ++ t) (corners-append a b) ∙ sym (append-assoc (cornerText p) (cornersText a) (cornersText b))
     ∙ sym (ap (λ t. t ++ cornersText b) (corners-more p a))
 
-module _ (l : List Pt) (k : ℕ) (h : k < length l) {p : IntPoint} (q : point p ≡ getD l k O) where
+module _ (l : List Pt) {k : ℕ} (h : k < length l) {p : IntPoint} (q : point p ≡ getD l k O) where
   -- the first k + 1
   corner-next : cornersText (take (k + 1) l) ≡ cornersText (take k l) ++ cornerText (point p)
   corner-next =
@@ -56,7 +56,7 @@ module _ (l : List Pt) (k : ℕ) (h : k < length l) {p : IntPoint} (q : point p 
 
 -- none is put yet, and all are
 pub corners-start : (l : List Pt) {at : ℕ} (o : List ℕ) → at ≤ length o → PutText (cornersText (take 0 l)) at o o at
-corners-start l {at} o h = put-as (sym corners-none) (put-none at o h)
+corners-start l {at} o h = put-as (sym corners-none) (put-none o h)
 
 pub corners-all : (l : List Pt) {k : ℕ} {at r : ℕ} {o o′ : List ℕ} → length l ≤ k → PutText (cornersText (take k l)) at o o′ r → PutText (cornersText l) at o o′ r
 corners-all l {k} h s = put-as (ap cornersText (take-all k l h)) s

@@ -24,9 +24,9 @@ module _ (from old : List ℕ) (at : ℕ) where
       let e : length (take at old) ≡ at = length-take-le at old h in
       sym (ap (λ l. l ++ drop (length l) old) (append-nil (take at old)) ∙ ap (λ n. take at old ++ drop n old) e ∙ take-append-drop at old)
 
-  pub put-turn : {buf : List ℕ} (i : ℕ) → i < length from → at + i < length old → buf ≡ putAt at (take i from) old → set buf (at + i) (getD from i 0) ≡ putAt at (take (i + 1) from) old
+  pub put-turn : {buf : List ℕ} {i : ℕ} → i < length from → at + i < length old → buf ≡ putAt at (take i from) old → set buf (at + i) (getD from i 0) ≡ putAt at (take (i + 1) from) old
   unfolding putAt
-  put-turn i h k p = copy-turn-past (take at old) from old 0 (omega (arith, length-take-le at old (omega arith))) h k p refl
+  put-turn {i} h k p = copy-turn-past (take at old) from old 0 (omega (arith, length-take-le at old (omega arith))) h k p refl
 
   pub put-end : {buf : List ℕ} (i : ℕ) → length from ≤ i → buf ≡ putAt at (take i from) old → PutText from at old buf (at + length from)
   put-end i h p = record { after = refl; bytes = p ∙ ap (λ t. putAt at t old) (take-all i from h) }
@@ -52,8 +52,8 @@ module _ {t : List ℕ} {at : ℕ} {out out′ : List ℕ} {r : ℕ} where
   pub put-room : (k : ℕ) → PutText t at out out′ r → at + (length t + k) ≤ length out → r + k ≤ length out′
   put-room k p h = omega (arith, p .after, put-length p (omega arith))
 
-pub put-none : (at : ℕ) (out : List ℕ) → at ≤ length out → PutText [] at out out at
-put-none at out h = record { after = omega arith; bytes = put-start [] out at h }
+pub put-none : {at : ℕ} (out : List ℕ) → at ≤ length out → PutText [] at out out at
+put-none {at} out h = record { after = omega arith; bytes = put-start [] out at h }
 
 pub put-whole : {t out out′ : List ℕ} {r : ℕ} → PutText t 0 out out′ r → (r ≡ length t) × (out′ ≡ overlay t out)
 unfolding putAt

@@ -82,7 +82,7 @@ module _ {M : Type 1} (𝓤 : URA M) (H : Heap 𝓤) (En : Env 𝓤 H) where
   abbrev pub Back : Post 𝓤 H → (Val → SProp 𝓤) → Type 2
   Back Q Kf = post 𝓤 H Q returnsᴼ ≡ atReturn 𝓤 H En Kf returnsᴼ
 
-module _ {M : Type 1} (𝓤 : URA M) (H : Heap 𝓤) (A : Atoms 𝓤) (W : Given 𝓤 H A) (𝓣 : Tables 𝓤 H) (En : Env 𝓤 H) where
+module _ {M : Type 1} {𝓤 : URA M} {H : Heap 𝓤} {A : Atoms 𝓤} {W : Given 𝓤 H A} (𝓣 : Tables 𝓤 H) {En : Env 𝓤 H} where
   pub tests : (size : ℕ) {n i j : ℕ} {Γ : List (Item 𝓤)} {bound : Operand} {few more : Body} {Kf : Val → SProp 𝓤}
       → Lies 𝓤 H En i (tyInt w64) → Lies 𝓤 H En j tyBool → ((Δ : List (Item 𝓤)) → Opd (Go {0}) W Δ En bound (vint w64 size))
       → (n ≤ size → (Q : Post 𝓤 H) → Back 𝓤 H En Q Kf → Sq W (room 𝓤 H En j tyBool ∷ holds 𝓤 H En i (tyInt w64) (vint w64 n) ∷ Γ) (runs (𝓣 .C) (𝓣 .Λ) En few Q))
@@ -107,7 +107,7 @@ module _ {M : Type 1} (𝓤 : URA M) (H : Heap 𝓤) (A : Atoms 𝓤) (W : Given
       split ! $ move ! (1 ∷ []) $ use1 W (raw (fact 𝓤 (AreRead (s .now) z))) (rows-said 𝓤 H A κ q s size z) $ heard ! (AreRead (s .now) z) (λ ez. split ! $ move ! (1 ∷ []) $
       -- [what the rows own; the token; what mesh owns; the array; mesh; …]
       peeks ! (Big size) (Is (Big size)) (shows 𝓤 H A (Big size)) z (u ∷ []) (λ is.
-      land ! (lies ! at-rows (stop !)) (init ! 3 refl (big-lawful 𝓤 H A W size .typed z _ is .0)) $ k z u ez))))
+      land ! (lies ! at-rows (stop !)) (init ! 3 refl (big-lawful W size .typed z _ is .0)) $ k z u ez))))
 
   pub lends : {X : Type 0} (x : RefT (List X)) {τ : Ty} {ℓ : Lifetime} {i a b : ℕ} {Γ : List (Item 𝓤)} {rest : Body} {Q : Post 𝓤 H} → length (x .now) < 2 ^ 64
       → Lies 𝓤 H En i (sliceTy (tyRef ℓ mut τ)) → Lies 𝓤 H En a (tyRef erased mut τ) → Lies 𝓤 H En b (sliceTy (tyRef erased mut τ))
@@ -119,7 +119,7 @@ module _ {M : Type 1} (𝓤 : URA M) (H : Heap 𝓤) (A : Atoms 𝓤) (W : Given
       assigns ! (agg ! (and-then ! (load ! (lies ! at-ref (stop !)) (look ! 1 refl)) (and-then ! (load ! (lies ! at-x (fld ! refl (stop !))) (look-in ! 2 (sub ! 1 refl (whole !)))) (no-more !)))) (lies ! at-slice (stop !))
       (init ! 0 refl (tt, (tt, (record { fits = fits }, tt)))) $ k
 
-module _ {M : Type 1} (𝓤 : URA M) (H : Heap 𝓤) (A : Atoms 𝓤) (W : Given 𝓤 H A) (ℓ : Lifetime) (κ : Lft) (R : RattleType) (x : RefT (List (R .Denot))) where
+module _ {M : Type 1} {𝓤 : URA M} {H : Heap 𝓤} {A : Atoms 𝓤} (W : Given 𝓤 H A) (ℓ : Lifetime) (κ : Lft) (R : RattleType) (x : RefT (List (R .Denot))) where
   abbrev Held : Fml
   Held = MutSlice ℓ κ R .own x (held x ∷ [])
 

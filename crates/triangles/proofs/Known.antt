@@ -24,7 +24,7 @@ use Rattle.triangles.proofs.rows_large.Symbol as large-def
 use Rattle.triangles.proofs.rows_large.Symbol.{name as #rows-large}
 use Rattle.triangles.proofs.rows_large.Met as large-thm
 
-module _ {M : Type 1} (𝓤 : URA M) (H : Heap 𝓤) (𝓜 : Model 𝓤 H) (𝓖 : GhostRules 𝓤 H) (𝓡 : Running 𝓤 H 𝓜) (γ : Env) (Rest : ℕ → Contract 𝓤) (#tiny #small #large : Name) where
+module _ {M : Type 1} {𝓤 : URA M} {H : Heap 𝓤} (𝓜 : Model 𝓤 H) (𝓖 : GhostRules 𝓤 H) (𝓡 : Running 𝓤 H 𝓜) (γ : Env) {Rest : ℕ → Contract 𝓤} {#tiny #small #large : Name} where
   pub known-in : γ #rows-tiny ≡ tiny-def.routine → γ #rows-small ≡ small-def.routine → γ #rows-large ≡ large-def.routine → {t s l : Routine} → γ #tiny ≡ t → γ #small ≡ s → γ #large ≡ l
       → Triple 𝓤 (𝓡 .run t) (Rest tiny) → Triple 𝓤 (𝓡 .run s) (Rest small) → Triple 𝓤 (𝓡 .run l) (Rest maxTriangles) → Known 𝓤 H (𝓖 .A) (tablesOf 𝓤 H 𝓜 (tables 𝓤 H 𝓜 𝓡 γ)) Rest #tiny #small #large
   unfolding tablesOf

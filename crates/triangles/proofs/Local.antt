@@ -27,7 +27,7 @@ abbrev hd : List Val → Val
 hd [] = vunit
 hd (v ∷ vs) = v
 
-module _ {M : Type 1} (𝓤 : URA M) (H : Heap 𝓤) (A : Atoms 𝓤) (W : Given 𝓤 H A) (R : RattleType) (n : ℕ) (l : ℕ) where
+module _ {M : Type 1} {𝓤 : URA M} {H : Heap 𝓤} {A : Atoms 𝓤} (W : Given 𝓤 H A) (R : RattleType) (n : ℕ) (l : ℕ) where
   abbrev pub Cell : Val → Fml
   Cell v = fat fullShare (tyArray (lone (R .mir)) n) l 0 v
 

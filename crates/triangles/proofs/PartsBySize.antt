@@ -207,16 +207,16 @@ module _ {M : Type 1} (𝓤 : URA M) (H : Heap 𝓤) (A : Atoms 𝓤) (W : Given
         → (size < n → Sq W (Before l (rooms 𝓤 H En l₂ ++ (rooms 𝓤 H En l₃ ++ Γ₀))) (runs (𝓣 .C) (𝓣 .Λ) En more (atRet En Kf)))
         → Sq W (Before l (rooms 𝓤 H En l₂ ++ (rooms 𝓤 H En l₃ ++ Γ₀))) (runs (𝓣 .C) (𝓣 .Λ) En (sized 𝓤 H En o l #rows #rest (c .args (l .rows) (l .starts) (l .corners)) bound more) (atRet En Kf))
     at-size {size} l l₂ l₃ read rest bound ends above =
-        move ! (10 ∷ 11 ∷ []) $ tests 𝓤 H A W 𝓣 En size (o .at-count) (o .at-test) bound
+        move ! (10 ∷ 11 ∷ []) $ tests 𝓣 size (o .at-count) (o .at-test) bound
         (λ few Q back. move ! (2 ∷ 3 ∷ 11 ∷ 14 ∷ []) $
         -- [mesh's token; what mesh owns; the array; mesh; the test; its length; the others' tokens;
         -- what starts and corners own; …]
-        reads-rows 𝓤 H A W 𝓣 En s (o .at-mesh) (l .at-rows) read few (λ z u ez.
+        reads-rows 𝓣 s (o .at-mesh) (l .at-rows) read few (λ z u ez.
         -- [what the rows own; the token; what mesh owns; the array; mesh; the test; its length; the
         -- others' tokens; what starts and corners own; corners' two; starts' two; corners; starts;
         -- …]
-        move ! (12 ∷ 13 ∷ 15 ∷ []) $ lends 𝓤 H A W 𝓣 En x fits-x (o .at-starts) (l .at-to-starts) (l .at-starts) (
-        move ! (13 ∷ 14 ∷ 15 ∷ []) $ lends 𝓤 H A W 𝓣 En y fits-y (o .at-corners) (l .at-to-corners) (l .at-corners) (
+        move ! (12 ∷ 13 ∷ 15 ∷ []) $ lends 𝓣 x fits-x (o .at-starts) (l .at-to-starts) (l .at-starts) (
+        move ! (13 ∷ 14 ∷ 15 ∷ []) $ lends 𝓣 y fits-y (o .at-corners) (l .at-to-corners) (l .at-corners) (
         -- [corners lent on, and by what; corners; starts the same; what the rows own; the token;
         -- what mesh owns; the array; mesh; the test; its length; the others' tokens; what starts
         -- and corners own; …]
@@ -233,10 +233,10 @@ module _ {M : Type 1} (𝓤 : URA M) (H : Heap 𝓤) (A : Atoms 𝓤) (W : Given
     past : {size : ℕ} (l : OfSize 𝓤 H En size) {Γ : List (Item 𝓤)} → Triple 𝓤 (𝓣 .C #refuse) (Refuse 𝓤 H A mem run) → ((r : Counts) → r ≡ refusedCounts 1 → Answers (trianglesMesh (s .now)) r (x .now) (y .now))
         → Ends l Γ → Sq W (Before l Γ) (runs (𝓣 .C) (𝓣 .Λ) En refusing (atRet En Kf))
     past l known refused ends =
-        refuses 𝓤 H A W mem run 1 tt 𝓣 known (λ r u er.
+        refuses W mem run 1 tt 𝓣 known (λ r u er.
         -- [what the answer owns; mesh's token; what mesh owns; the others' tokens; what starts
         -- owns; what corners owns; …]
-        move ! (4 ∷ []) $ use1 W (‵ (finally u32 (x .name) (x .now))) (unwritten 𝓤 H A W (named 1) κ₁ u32 x) $ move ! (5 ∷ []) $ use1 W (‵ (finally i32 (y .name) (y .now))) (unwritten 𝓤 H A W (named 2) κ₂ i32 y) $
+        move ! (4 ∷ []) $ use1 W (‵ (finally u32 (x .name) (x .now))) (unwritten W (named 1) κ₁ u32 x) $ move ! (5 ∷ []) $ use1 W (‵ (finally i32 (y .name) (y .now))) (unwritten W (named 2) κ₂ i32 y) $
         move ! (3 ∷ []) $ split ! $ move ! (0 ∷ 6 ∷ []) $ join ! $ move ! (1 ∷ []) $ forgo ! $ move ! (3 ∷ 0 ∷ 4 ∷ 2 ∷ 1 ∷ []) $ ends r u (x .now) (y .now) refl refl (refused r er) _ refl)
 
     pub by-size : (l₁ : OfSize 𝓤 H En tiny) (l₂ : OfSize 𝓤 H En small) (l₃ : OfSize 𝓤 H En maxTriangles) {#tiny #small #large : Name}

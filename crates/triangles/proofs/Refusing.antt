@@ -41,7 +41,7 @@ module _ {M : Type 1} (𝓤 : URA M) (H : Heap 𝓤) (A : Atoms 𝓤) (mem : Mem
   abbrev pub Refuse : Contract 𝓤
   Refuse = tripleOf 𝓤 H A refuse.signature (refuse.spec 𝓤 H A mem run)
 
-module _ {M : Type 1} (𝓤 : URA M) (H : Heap 𝓤) (A : Atoms 𝓤) (W : Given 𝓤 H A) (mem : Memory → SProp 𝓤) (run : Routine → Fun 𝓤) (fault : ℕ) (fits : T (ltb fault (2 ^ bits w32))) where
+module _ {M : Type 1} {𝓤 : URA M} {H : Heap 𝓤} {A : Atoms 𝓤} (W : Given 𝓤 H A) (mem : Memory → SProp 𝓤) (run : Routine → Fun 𝓤) (fault : ℕ) (fits : T (ltb fault (2 ^ bits w32))) where
   abbrev to-refuse : Refuse 𝓤 H A mem run .Ghost
   to-refuse = ((tt, tt, tt, (fault, tt), (vint w32 fault ∷ [], tt)), tt)
 

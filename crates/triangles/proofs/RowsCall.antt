@@ -71,7 +71,7 @@ module _ {M : Type 1} (𝓤 : URA M) where
   abbrev pub Rows : Heap 𝓤 → Atoms 𝓤 → ℕ → Contract 𝓤
   Rows H A size = tripleOf 𝓤 H A (ended size .signature) (closing 𝓤 H A (ended size) (clauses size))
 
-module _ {M : Type 1} (𝓤 : URA M) (H : Heap 𝓤) (A : Atoms 𝓤) (W : Given 𝓤 H A) (size : ℕ) where
+module _ {M : Type 1} {𝓤 : URA M} {H : Heap 𝓤} {A : Atoms 𝓤} (W : Given 𝓤 H A) (size : ℕ) where
   pub big-lawful : Lawful 𝓤 H A (Big size)
   big-lawful = array-lawful 𝓤 H A W R (array-lawful 𝓤 H A W i32 (sint-lawful 𝓤 H A W w32) rowWidth) size
 

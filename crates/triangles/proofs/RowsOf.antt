@@ -135,7 +135,7 @@ module _ (size : ℕ) (#blank : Name) where
     abbrev pub Step : Contract 𝓤
     Step = tripleOf 𝓤 H A step.signature (step.spec 𝓤 H A mem run)
 
-  module _ {M : Type 1} (𝓤 : URA M) (H : Heap 𝓤) (A : Atoms 𝓤) (W : Given 𝓤 H A) (mem : Memory → SProp 𝓤) (run : Routine → Fun 𝓤) (κ : Lft) (q : Share) (s : RefT (List IntTriangle)) (few : length (s .now) ≤ size)
+  module _ {M : Type 1} {𝓤 : URA M} {H : Heap 𝓤} {A : Atoms 𝓤} (W : Given 𝓤 H A) (mem : Memory → SProp 𝓤) (run : Routine → Fun 𝓤) (κ : Lft) (q : Share) (s : RefT (List IntTriangle)) (few : length (s .now) ≤ size)
       (p : Is (ShrSlice (named 0) κ T.the-row) s (sliceVal (s .ptr) (length (s .now)) ∷ [])) where
     abbrev ys : List IntTriangle
     ys = s .now
@@ -165,7 +165,7 @@ module _ (size : ℕ) (#blank : Name) where
     R-lawful = array-lawful 𝓤 H A W i32 (sint-lawful 𝓤 H A W w32) rowWidth
 
     Big-lawful : Lawful 𝓤 H A Array′
-    Big-lawful = big-lawful 𝓤 H A W size
+    Big-lawful = big-lawful W size
 
     -- the call of `blank`
     abbrev to-blank : Blank 𝓤 H A mem run .Ghost
@@ -271,7 +271,7 @@ module _ (size : ℕ) (#blank : Name) where
           assigns ! (bin ! (load ! (from ! (stop !)) (look ! 17 refl)) (load ! (from ! (stop !)) (look ! 11 refl)) tt) (from ! (stop !)) (init ! 9 refl (tt, tt)) $
           rewrite ! 9 (λ (t : Bool). ‵ (fat fullShare tyBool l₇ 0 (vbool t))) e refl $ leaves-loop ! (load ! (from ! (stop !)) (look ! 9 refl)) $ exec ! C Λ En rest (atRet En Post) $
           move ! (2 ∷ []) $ feqI ! ℕ (length (a .rows)) size (a .long) $ fjoin ! $
-          use1 W (some (λ (w : Val). ‵ (fat fullShare array l₂ 0 w) ⊛ ‵ (Array′ .own (a .rows) (w ∷ [])))) (gathered 𝓤 H A W R size l₂ tells (a .rows)) $ pick ! (λ w. split ! $ move ! (1 ∷ []) $
+          use1 W (some (λ (w : Val). ‵ (fat fullShare array l₂ 0 w) ⊛ ‵ (Array′ .own (a .rows) (w ∷ [])))) (gathered W R size l₂ tells (a .rows)) $ pick ! (λ w. split ! $ move ! (1 ∷ []) $
           -- [what the rows own; _2; the token; what mesh owns; _10; …]
           peeks ! Array′ (Is Array′) (shows 𝓤 H A Array′) (a .rows) (w ∷ []) (λ is.
           assigns ! (of-opd ! (load ! (from ! (stop !)) (look ! 1 refl))) (from ! (stop !)) (init ! 23 refl (Big-lawful .typed (a .rows) _ is .0)) $
@@ -298,17 +298,17 @@ module _ (size : ℕ) (#blank : Name) where
         land ! (from ! (stop !)) (init ! 11 refl (Big-lawful .typed z _ is .0)) $
         assigns ! (of-opd ! (load ! (from ! (stop !)) (look ! 11 refl))) (from ! (stop !)) (init ! 17 refl (Big-lawful .typed z _ is .0)) $
         assigns ! (of-opd ! (lit ! tt)) (from ! (stop !)) (init ! 15 refl (tt, record { fits = lit< tt })) $ forget ! 11 refl $
-        move ! (17 ∷ 0 ∷ []) $ use2 W (‵ (Row′ l₂ z)) (apart 𝓤 H A W R size l₂ tt z u) $ fsplit ! $ feqL ! (λ long.
+        move ! (17 ∷ 0 ∷ []) $ use2 W (‵ (Row′ l₂ z)) (apart W R size l₂ tt z u) $ fsplit ! $ feqL ! (λ long.
         -- [the rows; _10; …; _3; …; _2's end; _1; …; _0; …; the token; what mesh owns]
         move ! (23 ∷ []) $ fsplit ! $ keep ! (24 ∷ 0 ∷ 2 ∷ 3 ∷ 4 ∷ 5 ∷ 6 ∷ 7 ∷ 8 ∷ 9 ∷ 10 ∷ 11 ∷ 12 ∷ 13 ∷ 14 ∷ 15 ∷ 16 ∷ 17 ∷ 18 ∷ 19 ∷ 20 ∷ 21 ∷ 22 ∷ 23 ∷ []) $ first ! $ blocks ! $
         loops ! 𝓣 Nearer Nearer-wf (At 𝓣 known-get known-step l₀ l₁ l₂ l₃ l₄ l₅ l₆ l₇ l₈ l₉ l₁₀) (turns 𝓣 known-get known-step l₀ l₁ l₂ l₃ l₄ l₅ l₆ l₇ l₈ l₉ l₁₀)
         (record { i = 0; rows = z; within = omega arith; long = long; so = none-read ys z }))))))))))))))))
 
-  module _ {M : Type 1} (𝓤 : URA M) (H : Heap 𝓤) (A : Atoms 𝓤) (W : Given 𝓤 H A) (mem : Memory → SProp 𝓤) (run : Routine → Fun 𝓤) (𝓣 : Tables 𝓤 H)
+  module _ {M : Type 1} {𝓤 : URA M} {H : Heap 𝓤} {A : Atoms 𝓤} (W : Given 𝓤 H A) (mem : Memory → SProp 𝓤) (run : Routine → Fun 𝓤) (𝓣 : Tables 𝓤 H)
       (known-blank : Triple 𝓤 (𝓣 .C #blank) (Blank 𝓤 H A mem run)) (known-get : Triple 𝓤 (𝓣 .C #get) (Get 𝓤 H A mem run)) (known-step : Triple 𝓤 (𝓣 .C #step) (Step 𝓤 H A mem run)) where
     walks : Walks 𝓤 H A (ended size) stayed (WpFn 𝓤 H (𝓣 .C) (𝓣 .Λ) function) (clauses 𝓤 size)
     walks = walked 𝓤 H A (ended size) stayed (clauses 𝓤 size) (WpFn 𝓤 H (𝓣 .C) (𝓣 .Λ) function) (λ κs. (slice-vals, tt)) (λ κs. (shr-slice-tells (named 0) (κs .0) T.the-row, tt))
-        (λ κs qs bounds a g are. needs 𝓤 (length (a .0 .now) ≤ size) _ (λ few. walk 𝓤 H A W mem run (κs .0) (qs .0) (a .0) few (are .0) 𝓣 known-blank known-get known-step))
+        (λ κs qs bounds a g are. needs 𝓤 (length (a .0 .now) ≤ size) _ (λ few. walk W mem run (κs .0) (qs .0) (a .0) few (are .0) 𝓣 known-blank known-get known-step))
 
     pub meets : Meets 𝓤 H A (ended size .signature) (WpFn 𝓤 H (𝓣 .C) (𝓣 .Λ) function) (closing 𝓤 H A (ended size) (clauses 𝓤 size))
     meets = walk-meets 𝓤 H A (ended size) stayed W (goes-none-slice 𝓤 H A W 1 (0 ∷ []) tt (plain (λ _. T.the-row)) yes, tt) (clauses 𝓤 size) (WpFn 𝓤 H (𝓣 .C) (𝓣 .Λ) function) (WpFn-mono 𝓤 H (W .laws) 𝓣 function) walks

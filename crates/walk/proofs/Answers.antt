@@ -46,9 +46,9 @@ pub refuses : {A : Type 0} {f : ℕ} (good bad : A) → (f ≡ 0 → ⊥) → ba
 refuses {f = f} good bad e = rw (ne-eqb f 0 e)
 
 -- which of the two an answer is
-pub by-answer : {A X : Type 0} (f : ℕ) (good bad : A) {x : A} → cond (eqb f 0) good bad ≡ x → (f ≡ 0 → good ≡ x → X) → ((f ≡ 0 → ⊥) → bad ≡ x → X) → X
-by-answer zero good bad e g b = g refl e
-by-answer (suc f) good bad e g b = let n : suc f ≡ 0 → ⊥ = λ z. absurd (omega arith) in b n (refuses good bad n ∙ e)
+pub by-answer : {A X : Type 0} (f : ℕ) {good bad : A} {x : A} → cond (eqb f 0) good bad ≡ x → (f ≡ 0 → good ≡ x → X) → ((f ≡ 0 → ⊥) → bad ≡ x → X) → X
+by-answer zero {good} {bad} e g b = g refl e
+by-answer (suc f) {good} {bad} e g b = let n : suc f ≡ 0 → ⊥ = λ z. absurd (omega arith) in b n (refuses good bad n ∙ e)
 
 pub begun-number : (l : List ℤ) (reflected : Bool) → begunNumber (begunOf l reflected) ≡ beginFault l reflected
 unfolding begunOf

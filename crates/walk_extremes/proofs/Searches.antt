@@ -21,7 +21,7 @@ unfolding greatestAt greatestFrom
 greatest-begins [] = refl
 greatest-begins (p ∷ l) = refl
 
-module _ (l : List Pt) (b i : ℕ) where
+module _ (l : List Pt) (b : ℕ) {i : ℕ} where
   pub least-turn : {r : ℕ} → i < length l → r ≡ cond (below (cornerAt l i) (cornerAt l b)) i b → leastFrom b (cornerAt l b) i (drop i l) ≡ leastFrom r (cornerAt l r) (i + 1) (drop (i + 1) l)
   unfolding leastFrom
   least-turn h e = rw (add-one, drop-cons l i O) (by (below (cornerAt l i) (cornerAt l b)) ∙ ap (λ k. leastFrom k (cornerAt l k) (suc i) (drop (suc i) l)) (sym e))
@@ -47,9 +47,9 @@ module _ (l : List Pt) (b i : ℕ) where
   greatest-ends h = rw (drop-of-length-le l {i = i} h)
 
 -- the better of two places is one of them
-pub better-inside : {r m : ℕ} (t : Bool) (j k : ℕ) → r ≡ cond t j k → j < m → k < m → r < m
-better-inside true j k e h g = rw e h
-better-inside false j k e h g = rw e g
+pub better-inside : {r m : ℕ} (t : Bool) {j k : ℕ} → r ≡ cond t j k → j < m → k < m → r < m
+better-inside true {j} {k} e h g = rw e h
+better-inside false {j} {k} e h g = rw e g
 
 -- the place that a test chooses
 pub chosen : {t u : Bool} {r : ℕ} (j k : ℕ) → t ≡ u → r ≡ cond u j k → r ≡ cond t j k

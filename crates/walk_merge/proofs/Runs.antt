@@ -25,7 +25,7 @@ use Rattle.walk_merge.specs.Merging.{headingBy, headingOf, stopOf, final
 
 -- ---- which edges belong
 
-module _ (set : Bool) (v : IntVector) (e : Pt) where
+module _ {set : Bool} (v : IntVector) (e : Pt) where
   pub fresh-belongs : set ≡ false → true ≡ belongs (headingBy set v) e
   unfolding belongs
   fresh-belongs h = rw h
@@ -69,15 +69,15 @@ module _ (A B : List Pt) (h : Heading) (s : ConvexSum) where
   run-none (suc n) p = rw (sym p, run)
 
   -- with the first walk's edge e, after which both stand at t
-  pub run-first : (e : Pt) → first e ≡ nextStep A B s → run (stepsLeft s) A B h s ≡ cond (belongs h e) (run (stepsLeft (stepFirst A s)) A B (headed h e) (stepFirst A s)) here
+  pub run-first : {e : Pt} → first e ≡ nextStep A B s → run (stepsLeft s) A B h s ≡ cond (belongs h e) (run (stepsLeft (stepFirst A s)) A B (headed h e) (stepFirst A s)) here
   unfolding run advance
-  run-first e p =
+  run-first {e} p =
       let k : stepsLeft s ≡ suc (stepsLeft (stepFirst A s)) = omega (arith, first-left A B s p .0) in
       ap (λ n. run n A B h s) k ∙ rw (sym p, run)
 
-  pub run-second : (e : Pt) → second e ≡ nextStep A B s → run (stepsLeft s) A B h s ≡ cond (belongs h e) (run (stepsLeft (stepSecond B s)) A B (headed h e) (stepSecond B s)) here
+  pub run-second : {e : Pt} → second e ≡ nextStep A B s → run (stepsLeft s) A B h s ≡ cond (belongs h e) (run (stepsLeft (stepSecond B s)) A B (headed h e) (stepSecond B s)) here
   unfolding run advance
-  run-second e p =
+  run-second {e} p =
       let k : stepsLeft s ≡ suc (stepsLeft (stepSecond B s)) = omega (arith, second-left A B s p .0) in
       ap (λ n. run n A B h s) k ∙ rw (sym p, run)
 
@@ -157,22 +157,22 @@ module _ (l r : List ℤ) (g : Going) (on : g .on ≡ true) (ready : MayStep l r
   unfolding advance
   took-first {e} p b {t} {h} u k =
       went-on k (subst (Judged l r) (sym u) (first-judged (ready .judged))) (omega (arith, first-left A B (g .at) p .0) ∙ ap (λ z. suc (stepsLeft z)) (sym u))
-      (run-first A B (headingOf g) (g .at) e p ∙ ap (λ z. cond z (run (stepsLeft (stepFirst A (g .at))) A B (headed (headingOf g) e) (stepFirst A (g .at))) (stopOf g)) b ∙ ap (λ z. run (stepsLeft z) A B (headed (headingOf g) e) z) (sym u))
+      (run-first A B (headingOf g) (g .at) p ∙ ap (λ z. cond z (run (stepsLeft (stepFirst A (g .at))) A B (headed (headingOf g) e) (stepFirst A (g .at))) (stopOf g)) b ∙ ap (λ z. run (stepsLeft z) A B (headed (headingOf g) e) z) (sym u))
 
   pub took-second : {e : Pt} → second e ≡ nextStep A B (g .at) → belongs (headingOf g) e ≡ true → {t : ConvexSum} {h : Going} → t ≡ stepSecond B (g .at) → Took g e t h → SteppedOn l r g h
   unfolding advance
   took-second {e} p b {t} {h} u k =
       went-on k (subst (Judged l r) (sym u) (second-judged (ready .judged))) (omega (arith, second-left A B (g .at) p .0) ∙ ap (λ z. suc (stepsLeft z)) (sym u))
-      (run-second A B (headingOf g) (g .at) e p ∙ ap (λ z. cond z (run (stepsLeft (stepSecond B (g .at))) A B (headed (headingOf g) e) (stepSecond B (g .at))) (stopOf g)) b ∙ ap (λ z. run (stepsLeft z) A B (headed (headingOf g) e) z) (sym u))
+      (run-second A B (headingOf g) (g .at) p ∙ ap (λ z. cond z (run (stepsLeft (stepSecond B (g .at))) A B (headed (headingOf g) e) (stepSecond B (g .at))) (stopOf g)) b ∙ ap (λ z. run (stepsLeft z) A B (headed (headingOf g) e) z) (sym u))
 
   -- one that does not is left
   pub left-first : {e : Pt} → first e ≡ nextStep A B (g .at) → belongs (headingOf g) e ≡ false → {h : Going} → h ≡ stopped → SteppedOn l r g h
   left-first {e} p b u =
-      stopped-on u (run-first A B (headingOf g) (g .at) e p ∙ ap (λ z. cond z (run (stepsLeft (stepFirst A (g .at))) A B (headed (headingOf g) e) (stepFirst A (g .at))) (stopOf g)) b)
+      stopped-on u (run-first A B (headingOf g) (g .at) p ∙ ap (λ z. cond z (run (stepsLeft (stepFirst A (g .at))) A B (headed (headingOf g) e) (stepFirst A (g .at))) (stopOf g)) b)
 
   pub left-second : {e : Pt} → second e ≡ nextStep A B (g .at) → belongs (headingOf g) e ≡ false → {h : Going} → h ≡ stopped → SteppedOn l r g h
   left-second {e} p b u =
-      stopped-on u (run-second A B (headingOf g) (g .at) e p ∙ ap (λ z. cond z (run (stepsLeft (stepSecond B (g .at))) A B (headed (headingOf g) e) (stepSecond B (g .at))) (stopOf g)) b)
+      stopped-on u (run-second A B (headingOf g) (g .at) p ∙ ap (λ z. cond z (run (stepsLeft (stepSecond B (g .at))) A B (headed (headingOf g) e) (stepSecond B (g .at))) (stopOf g)) b)
 
 -- ---- the loop's first and last
 

@@ -28,8 +28,8 @@ module _ (l r : List ℤ) where
     pub judged : Judged l r t
     pub fewer : stepsLeft t < stepsLeft s
 
-  pub gave : {s : ConvexSum} → Judged l r s → (p : Pt) {t : ConvexSum} → pairStep (pointsOf l) (pointsOf r) s ≡ corner p t → Gave s t
-  gave {s} j p {t} h =
+  pub gave : {s : ConvexSum} → Judged l r s → {p : Pt} {t : ConvexSum} → pairStep (pointsOf l) (pointsOf r) s ≡ corner p t → Gave s t
+  gave {s} j {p} {t} h =
       let n = next-by l r s in
       let e : pairSteppedOf l r s ≡ next.Corner (intPoint p) t = answered j ∙ ap nextOf h in
       let at : nextPlaces (pairSteppedOf l r s) ≡ t = ap nextPlaces e in

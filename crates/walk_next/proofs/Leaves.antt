@@ -75,8 +75,8 @@ pub record BothOut (A B : List Pt) (s t : ConvexSum) : Type 0 where
   pub right : RunOut B (s .b) (t .b)
 
 -- an edge begun is never unset again
-differs : (d : Pt) → along d ≡ unset → ⊥
-differs d e = let z : _≡_ {A = ℕ} 0 1 = cc in omega (arith, z)
+differs : {d : Pt} → along d ≡ unset → ⊥
+differs {d} e = let z : _≡_ {A = ℕ} 0 1 = cc in omega (arith, z)
 
 -- the direction after the edge e where none was begun
 abbrev begunBy : Pt → Heading
@@ -90,12 +90,12 @@ module _ (A B : List Pt) (n : ℕ) (s : ConvexSum) where
   first-out : 0 < s .a .remaining → stepsLeft (stepFirst A s) ≤ n → OutFrom unset (stepFirst A s) (stepFirst A s) → OutFrom (begunBy (edgeOf A (s .a))) (stepFirst A s) s
   first-out q f ih = by-test (isZero (edgeOf A (s .a)))
       (λ z. subst (λ b. OutFrom (cond b unset (along (edgeOf A (s .a)))) (stepFirst A s) s) (sym z) (λ u. let o = ih u in record { left = out-step q z (o .left); right = o .right }))
-      (λ z. subst (λ b. OutFrom (cond b unset (along (edgeOf A (s .a)))) (stepFirst A s) s) (sym z) (λ u. absurd (differs (edgeOf A (s .a)) (sym (run-along A B n (edgeOf A (s .a)) (stepFirst A s) f .heads) ∙ u))))
+      (λ z. subst (λ b. OutFrom (cond b unset (along (edgeOf A (s .a)))) (stepFirst A s) s) (sym z) (λ u. absurd (differs (sym (run-along A B n (edgeOf A (s .a)) (stepFirst A s) f .heads) ∙ u))))
 
   second-out : 0 < s .b .remaining → stepsLeft (stepSecond B s) ≤ n → OutFrom unset (stepSecond B s) (stepSecond B s) → OutFrom (begunBy (edgeOf B (s .b))) (stepSecond B s) s
   second-out q f ih = by-test (isZero (edgeOf B (s .b)))
       (λ z. subst (λ b. OutFrom (cond b unset (along (edgeOf B (s .b)))) (stepSecond B s) s) (sym z) (λ u. let o = ih u in record { left = o .left; right = out-step q z (o .right) }))
-      (λ z. subst (λ b. OutFrom (cond b unset (along (edgeOf B (s .b)))) (stepSecond B s) s) (sym z) (λ u. absurd (differs (edgeOf B (s .b)) (sym (run-along A B n (edgeOf B (s .b)) (stepSecond B s) f .heads) ∙ u))))
+      (λ z. subst (λ b. OutFrom (cond b unset (along (edgeOf B (s .b)))) (stepSecond B s) s) (sym z) (λ u. absurd (differs (sym (run-along A B n (edgeOf B (s .b)) (stepSecond B s) f .heads) ∙ u))))
 
   after-out : stepsLeft s ≤ suc n → ((t : ConvexSum) → stepsLeft t ≤ n → OutFrom unset t t) → {k : Pick} → Picked A B s k → after A B n unset s k .heading ≡ unset → BothOut A B s (after A B n unset s k .at)
   unfolding belongs headed advance

@@ -174,7 +174,7 @@ next-by l r s = record {
 
     -- a fault, or none
     by-fault : {X : Type 0} → (pairStepFault l r s ≡ 0 → X) → (pairSteppedOf l r s ≡ next.Refused (pairStepFault l r s) s → X) → X
-    by-fault f g = by-answer (pairStepFault l r s) (nextOf (pairStep (pointsOf l) (pointsOf r) s)) (next.Refused (pairStepFault l r s) s) refl (λ z e. f z) (λ n e. g (sym e))
+    by-fault f g = by-answer (pairStepFault l r s) refl (λ z e. f z) (λ n e. g (sym e))
 
     stays : pairStepFault l r s ≡ 0 → Placed (pointsOf l) (pointsOf r) (nextPlaces (pairSteppedOf l r s))
     stays h =

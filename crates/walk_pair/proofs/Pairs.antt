@@ -27,13 +27,13 @@ use Rattle.walk_pair.specs.Pairing.{firstOf}
 begun-place : (l : List ℤ) (reflected : Bool) {w : Place} → begunOf l reflected ≡ begun.At w → (beginFault l reflected ≡ 0) × (w ≡ begin reflected (pointsOf l))
 unfolding begunOf
 begun-place l reflected h =
-    by-answer (beginFault l reflected) (begun.At (begin reflected (pointsOf l))) (begun.Refused (beginFault l reflected)) h (λ z q. (z, (cc)))
+    by-answer (beginFault l reflected) h (λ z q. (z, (cc)))
     (λ n q. absurd (let k : _≡_ {A = ℕ} 0 1 = cc in omega (arith, k)))
 
 begun-fault : (l : List ℤ) (reflected : Bool) {f : ℕ} → begunOf l reflected ≡ begun.Refused f → (f ≡ beginFault l reflected) × (f ≡ 0 → ⊥)
 unfolding begunOf
 begun-fault l reflected {f} h =
-    by-answer (beginFault l reflected) (begun.At (begin reflected (pointsOf l))) (begun.Refused (beginFault l reflected)) h
+    by-answer (beginFault l reflected) h
     (λ z q. absurd (let k : _≡_ {A = ℕ} 0 1 = cc in omega (arith, k)))
     (λ n q. let same : f ≡ beginFault l reflected = cc in (same, λ z. n (sym same ∙ z)))
 

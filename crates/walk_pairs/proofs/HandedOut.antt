@@ -38,7 +38,7 @@ module _ (l r : List ℤ) where
 
   -- the calls from s hand out K, where they do so from each t with fewer steps
   from-step : (n : ℕ) {s : ConvexSum} → Judged l r s → ((t : ConvexSum) → Gave l r s t → HandsOut l r t (emit n A B t)) → (e : Emitted) → pairStep A B s ≡ e → HandsOut l r s (elim e [ corner p t ↦ p ∷ emit n A B t | end t ↦ [] ])
-  from-step n {s} j ih (corner p t) h = hands s t (intPoint p) (emit n A B t) (answered l r j ∙ ap nextOf h) (ih t (gave l r j p h))
+  from-step n {s} j ih (corner p t) h = hands s t (intPoint p) (emit n A B t) (answered l r j ∙ ap nextOf h) (ih t (gave l r j h))
   from-step n {s} j ih (end t) h = ends s t (answered l r j ∙ ap nextOf h)
 
   hands-emit : (n : ℕ) {s : ConvexSum} → Judged l r s → stepsLeft s ≤ n → HandsOut l r s (emit (suc n) A B s)
@@ -64,7 +64,7 @@ module _ (l r : List ℤ) where
 pub begun-at : (reflected : Bool) (l r : List ℤ) {s : ConvexSum} → pairedOf reflected l r ≡ paired.At s → (pairBeginFault reflected l r ≡ 0) × (s ≡ startOf reflected (pointsOf l) (pointsOf r))
 unfolding pairedOf
 begun-at reflected l r h =
-    by-answer (pairBeginFault reflected l r) (paired.At (startOf reflected (pointsOf l) (pointsOf r))) (paired.Refused (pairBeginFault reflected l r)) h (λ z q. (z, (cc)))
+    by-answer (pairBeginFault reflected l r) h (λ z q. (z, (cc)))
     (λ n q. absurd (let k : _≡_ {A = ℕ} 0 1 = cc in omega (arith, k)))
 
 -- neither contour is empty, and both walks are judged
@@ -117,7 +117,7 @@ all-handed-out reflected l r s h = record { contour = contour; only = only; fart
     same : emit (suc (stepsLeft first)) (pointsOf l) (pointsOf r) first ≡ pairContour reflected (pointsOf l) (pointsOf r)
     same =
         let b = begun-judged reflected l r (begun-at reflected l r h .0) in
-        emit-enough (pointsOf l) (pointsOf r) (suc (stepsLeft first)) (stepsLeft first) first (omega arith) (omega arith) ∙ sym (begun-contour reflected (pointsOf l) (pointsOf r) (b .left) (b .right))
+        emit-enough (pointsOf l) (pointsOf r) first (omega arith) (omega arith) ∙ sym (begun-contour reflected (pointsOf l) (pointsOf r) (b .left) (b .right))
 
     contour : HandsOut l r s (pairContour reflected (pointsOf l) (pointsOf r))
     contour =

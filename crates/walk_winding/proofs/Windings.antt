@@ -94,7 +94,7 @@ added-leaves z h =
     (λ e. e)
 
 -- term k is x
-module _ (ts : List ℤ) (k : ℕ) (t : ℤ) {x : ℤ} (e : x ≡ getD ts k (pos 0)) where
+module _ (ts : List ℤ) {k : ℕ} (t : ℤ) {x : ℤ} (e : x ≡ getD ts k (pos 0)) where
   pub wound-turn : {n : ℤ} → k < length ts → addedOf (t +ℤ x) ≡ Total n → windingOf t (drop k ts) ≡ windingOf n (drop (k + 1) ts)
   unfolding windingOf
   wound-turn {n} h a =

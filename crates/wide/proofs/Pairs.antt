@@ -16,7 +16,7 @@ use Rattle.wide.specs.Words.{twoWords}
 same-order : (a b m n : ℕ) → (a < b → m < n) → (b ≤ a → n ≤ m) → ltb a b ≡ ltb m n
 same-order a b m n f g = by-test (ltb a b) (λ t. t ∙ sym (lt-ltb m n (f (ltb-true a b t)))) (λ t. t ∙ sym (le-ltb m n (g (ltb-false a b t))))
 
-module _ (ah al bh bl : ℕ) where
+module _ {ah : ℕ} (al : ℕ) {bh : ℕ} (bl : ℕ) where
   pub less-low : ah ≡ bh → ltb al bl ≡ ltb (twoWords ah al) (twoWords bh bl)
   less-low e = same-order al bl (twoWords ah al) (twoWords bh bl) (λ h. omega arith) (λ h. omega arith)
 
@@ -29,7 +29,7 @@ module _ (ah al bh bl : ℕ) where
 pub lent-fits : {al bl : ℕ} → al < bl → bl < 2 ^ 64 → Fits w64 (al + (18446744073709551615 - bl) + 1)
 lent-fits l f = omega arith
 
-module _ (ah al bh bl : ℕ) (h : twoWords bh bl ≤ twoWords ah al) (fa : al < 2 ^ 64) where
+module _ (ah : ℕ) {al : ℕ} (bh bl : ℕ) (h : twoWords bh bl ≤ twoWords ah al) (fa : al < 2 ^ 64) where
   pub high-less : bh ≤ ah
   high-less = omega arith
 

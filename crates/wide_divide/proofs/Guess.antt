@@ -26,7 +26,7 @@ module _ (u x v : ℕ) (hv : 2 ^ 63 ≤ v) (hu : u < v) (hx : x < 2 ^ 32) where
       start : (q : ℕ) {r : ℕ} → r < v / H → r * H + x < q * (v % H) + v
       start q m = omega arith
 
-  module _ (q rest : ℕ) (g : Guess u x v q rest) where
+  module _ {q rest : ℕ} (g : Guess u x v q rest) where
     -- q v₁ ≤ u < v < (2^32 + 2) v₁, so q v₀ ≤ (2^32 + 1) (2^32 - 1)
     pub product-fits : v < 2 ^ 64 → q * (v % H) < 2 ^ 64
     product-fits f =

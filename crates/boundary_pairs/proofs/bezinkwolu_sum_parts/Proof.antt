@@ -31,7 +31,7 @@ returns c =
     let b = t .before .rect .ensures in
     let s = t .before .before .before .before .before .args in
     let e = d .sum-parts .ensures in
-    as-told false (s .left-starts .now) (s .left-corners .now) (s .left-bounds) (s .right-starts .now) (s .right-corners .now) (s .right-bounds) (s .starts .now) (s .corners .now)
+    as-told false (s .left-starts .now) (s .left-corners .now) (s .right-starts .now) (s .right-corners .now) (s .starts .now) (s .corners .now)
     b (t .rect2 .ensures) (c .told .ensures) (e .0) (e .1) (e .2)
 
 pub bezinkwolu-sum-parts-spec : {M : Type 1} → statement M

@@ -9,7 +9,7 @@ use Rattle.boundary_split.proofs.bezinkwolu_to_convex_polygons_with_max
 returns : tie.Need-returns
 returns c =
     let s = c .before .before in
-    no-split (s .args .split) (s .args .limit) (rowsMesh (s .args .mesh .now)) (s .args .starts .now) (s .args .corners .now) (c .if1 .taken)
+    no-split (s .args .limit) (rowsMesh (s .args .mesh .now)) (s .args .starts .now) (s .args .corners .now) (c .if1 .taken)
 
 strategy-requires : tie.Need-strategy-requires
 strategy-requires c κs = search needs
@@ -29,7 +29,7 @@ returns-2 c =
     let d = c .before .before .before in
     let t = d .before .before .before in
     let s = t .before .before .before in
-    by-split (s .args .split) (s .args .limit) (rowsMesh (s .args .mesh .now)) (s .args .starts .now) (s .args .corners .now) (t .before .if1 .left) (t .strategy .ensures) (d .to-convex-polygons-with-max-vertices .ensures)
+    by-split (s .args .limit) (rowsMesh (s .args .mesh .now)) (s .args .starts .now) (s .args .corners .now) (t .before .if1 .left) (t .strategy .ensures) (d .to-convex-polygons-with-max-vertices .ensures)
 
 pub bezinkwolu-to-convex-polygons-with-max-vertices-spec : {M : Type 1} → statement M
 bezinkwolu-to-convex-polygons-with-max-vertices-spec =

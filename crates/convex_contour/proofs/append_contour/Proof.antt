@@ -16,7 +16,7 @@ point-at-requires : tie.Need-point-at-requires
 point-at-requires c κs =
     let s = c .before .before in
     let g = s .args in
-    (omega (arith, before-below (g .corners .now) (g .p) (s .pre .0) (c .place-before .ensures)), s .pre .0 .grid)
+    (omega (arith, before-below (s .pre .0) (c .place-before .ensures)), s .pre .0 .grid)
 
 point-at-requires-2 : tie.Need-point-at-requires-2
 point-at-requires-2 c κs = search needs
@@ -37,7 +37,7 @@ append-run-requires-2 c κs =
       ordered = omega (arith, w .placed);
       within = omega (arith, w .ended);
       grid = w .grid;
-      room = omega (arith, near-room (g .corners .now) (g .p) w (near .append-run .ensures) (s .pre .1));
+      room = omega (arith, near-room w (near .append-run .ensures) (s .pre .1));
       corner-on = near .append-run .ensures .corner-on;
       way-short = near .append-run .ensures .way-short;
     }
@@ -54,7 +54,7 @@ returns c =
     let a = b .before in
     let s = a .before .before .before in
     let g = s .args in
-    ran-whole (g .corners .now) (g .p) (s .pre .0) (near .append-run .ensures) (a .point-at .result) (a .before .place-before .ensures) (a .point-at .ensures .0) (b .point-at2 .ensures .0) (way .subtract .ensures .0) (far .append-run2 .ensures)
+    ran-whole (s .pre .0) (near .append-run .ensures) (a .before .place-before .ensures) (a .point-at .ensures .0) (b .point-at2 .ensures .0) (way .subtract .ensures .0) (far .append-run2 .ensures)
 
 pub append-contour-spec : {M : Type 1} → statement M
 append-contour-spec =

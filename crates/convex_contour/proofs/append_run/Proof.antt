@@ -34,7 +34,7 @@ append-corner-requires c κs =
     let l = turn .before in
     let s = l .before in
     let g = s .args in
-    (ran-room (g .corners .now) (g .from) (l .loop .i) (s .pre) (l .loop .inv .1) (turn .loop-test .taken) (l .loop .inv .0), search needs, search needs)
+    (ran-room (g .corners .now) (g .from) (s .pre) (l .loop .inv .1) (turn .loop-test .taken) (l .loop .inv .0), search needs, search needs)
 
 add-i : tie.Need-add-i Inv-loop μ-loop
 add-i c = omega (arith, c .before .before .before .before .before .loop-test .taken)
@@ -53,7 +53,7 @@ loop-again c =
     let g = s .args in
     let t = turn .loop-test .taken in
     let next = read .point-at .result in
-    (ran-next (g .corners .now) (g .from) (l .loop .i) (s .pre) (l .loop .inv .1) t (l .loop .inv .0) next (read .point-at .ensures .0) (ran-one (read .point-at .ensures .1) (way .subtract .ensures) (put .append-corner .ensures)), omega (arith, l .loop .inv .1), omega (arith, t))
+    (ran-next (g .corners .now) (g .from) (s .pre) (l .loop .inv .1) t (l .loop .inv .0) (read .point-at .ensures .0) (ran-one (read .point-at .ensures .1) (way .subtract .ensures) (put .append-corner .ensures)), omega (arith, l .loop .inv .1), omega (arith, t))
 
 same-length : tie.Need-same-length Inv-loop μ-loop
 same-length c = omega (arith, c .before .loop .inv .0 .appended .size)

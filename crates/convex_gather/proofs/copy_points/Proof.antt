@@ -40,7 +40,7 @@ loop-again c =
     let s = c .before .before .before .before .before in
     let h = c .before .before .before .loop-test .taken in
     let e = c .before .put-point .ensures in
-    (omega (arith, h), ap length e ∙ simp length-set (l .loop .inv .1), points-turn (s .args .points .now) (s .args .to .now) (l .loop .i) (omega (arith, h, s .pre .0)) (omega (arith, h, s .pre .1)) (l .loop .inv .2) e)
+    (omega (arith, h), ap length e ∙ simp length-set (l .loop .inv .1), points-turn (s .args .points .now) (s .args .to .now) (omega (arith, h, s .pre .0)) (omega (arith, h, s .pre .1)) (l .loop .inv .2) e)
 
 same-length : tie.Need-same-length Inv-loop μ-loop
 same-length c = c .before .loop .inv .1

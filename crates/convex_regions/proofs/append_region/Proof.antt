@@ -15,7 +15,7 @@ append-contour-requires c κs =
     let s = c .before .before .before .before .before .before .before .before .before .before .before .before in
     let g = s .args in
     let e = c .before .before .before .before .before .before .grow .ensures in
-    (contour-whole (length (g .corners .now)) (rowsMesh (g .mesh .now)) (g .k) (g .taken .now) (g .starts .now) (g .points .now) (g .t) (s .pre .3) e, contour-room (length (g .corners .now)) (rowsMesh (g .mesh .now)) (g .k) (g .taken .now) (g .starts .now) (g .points .now) (g .t) (s .pre .3) e)
+    (contour-whole (s .pre .3) e, contour-room (s .pre .3) e)
 
 add-parts : tie.Need-add-parts
 add-parts c = search needs
@@ -25,7 +25,7 @@ put-start-requires c κs =
     let s = c .before .before .before .before .before .before .before .before .before .before .before .before .before .before .before .before in
     let g = s .args in
     let e = c .before .before .before .before .before .before .before .before .before .before .grow .ensures in
-    (start-room (length (g .corners .now)) (rowsMesh (g .mesh .now)) (g .k) (g .taken .now) (g .starts .now) (g .points .now) (g .t) (s .pre .3) e, omega (arith, corners-few (length (g .corners .now)) (rowsMesh (g .mesh .now)) (g .k) (g .taken .now) (g .starts .now) (g .points .now) (g .t) (s .pre .3) e (c .before .before .before .append-contour .ensures)))
+    (start-room (s .pre .3) e, omega (arith, corners-few (s .pre .3) e (c .before .before .before .append-contour .ensures)))
 
 same-length : tie.Need-same-length
 same-length c = search needs
@@ -49,7 +49,7 @@ returns c =
     let p1 = p2 .before .before .before .before .before .before .before in
     let s = p1 .before .before .before .before .before .before in
     let g = s .args in
-    joined (length (g .corners .now)) (rowsMesh (g .mesh .now)) (g .k) (g .taken .now) (g .starts .now) (g .points .now) (g .t) (s .pre .3)
+    joined (s .pre .3)
     (p1 .grow .ensures) (p2 .append-contour .ensures) (p3 .put-start .ensures)
 
 pub append-region-spec : {M : Type 1} → statement M

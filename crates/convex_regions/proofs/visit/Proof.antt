@@ -27,7 +27,7 @@ returns : tie.Need-returns
 returns c =
     let s = c .before .before .before .before in
     let g = s .args in
-    visited-skip (length (g .corners .now)) (rowsMesh (g .mesh .now)) (g .k) (g .taken .now) (g .starts .now) (g .points .now) (g .t) (in-flags (g .mesh .now) (g .taken .now) (s .pre .0 .marks) (s .pre .1)) (s .pre .0) (s .pre .2) (c .if1 .taken)
+    visited-skip (in-flags (g .mesh .now) (g .taken .now) (s .pre .0 .marks) (s .pre .1)) (s .pre .0) (s .pre .2) (c .if1 .taken)
 
 append-region-requires : tie.Need-append-region-requires
 append-region-requires c κs = search needs
@@ -51,7 +51,7 @@ returns-2 : tie.Need-returns-2
 returns-2 c =
     let s = c .before .before .before .before .before .before .before .before .before .before .before .before .before .before .before .before .before in
     let g = s .args in
-    visited-join (length (g .corners .now)) (rowsMesh (g .mesh .now)) (g .k) (g .taken .now) (g .starts .now) (g .points .now) (g .t) (in-flags (g .mesh .now) (g .taken .now) (s .pre .0 .marks) (s .pre .1)) (c .before .before .before .before .before .before .before .before .before .before .before .before .before .if1 .left) (c .before .before .before .before .before .before .before .append-region .ensures)
+    visited-join (in-flags (g .mesh .now) (g .taken .now) (s .pre .0 .marks) (s .pre .1)) (c .before .before .before .before .before .before .before .before .before .before .before .before .before .if1 .left) (c .before .before .before .before .before .before .before .append-region .ensures)
 
 pub visit-spec : {M : Type 1} → statement M
 visit-spec =

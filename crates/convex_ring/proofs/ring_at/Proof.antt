@@ -17,7 +17,7 @@ point-at-requires c κs = search needs
 returns : tie.Need-returns
 returns c =
     let s = c .before .before in
-    (c .point-at .ensures .0 ∙ sym (around-near (s .args .corners .now) (s .args .pending) (s .args .done) (s .pre .0) (s .args .i) (c .before .if1 .taken)), c .point-at .ensures .1)
+    (c .point-at .ensures .0 ∙ sym (around-near (s .pre .0) (s .args .i) (c .before .if1 .taken)), c .point-at .ensures .1)
 
 add-point-at-2 : tie.Need-add-point-at-2
 add-point-at-2 c = search needs
@@ -31,7 +31,7 @@ point-at-requires-2 c κs = search needs
 returns-2 : tie.Need-returns-2
 returns-2 c =
     let s = c .before .before in
-    (c .point-at2 .ensures .0 ∙ sym (around-far (s .args .corners .now) (s .args .pending) (s .args .done) (s .pre .0) (s .pre .1) (c .before .if1 .left)), c .point-at2 .ensures .1)
+    (c .point-at2 .ensures .0 ∙ sym (around-far (s .pre .0) (s .pre .1) (c .before .if1 .left)), c .point-at2 .ensures .1)
 
 pub ring-at-spec : {M : Type 1} → statement M
 ring-at-spec =

@@ -14,7 +14,7 @@ point-at-requires c κs = search needs
 returns : tie.Need-returns
 returns c =
     let s = c .before .before in
-    (c .point-at .ensures .0 ∙ sym (around-below (s .args .corners .now) (s .args .pending) (s .args .done) (s .pre) (c .before .if1 .taken)), c .point-at .ensures .1)
+    (c .point-at .ensures .0 ∙ sym (around-below (s .pre) (c .before .if1 .taken)), c .point-at .ensures .1)
 
 sub-point-at-2 : tie.Need-sub-point-at-2
 sub-point-at-2 c = search needs
@@ -25,7 +25,7 @@ point-at-requires-2 c κs = search needs
 returns-2 : tie.Need-returns-2
 returns-2 c =
     let s = c .before .before in
-    (c .point-at2 .ensures .0 ∙ sym (around-back (s .args .corners .now) (s .args .pending) (s .args .done) (s .pre) (c .before .if1 .left)), c .point-at2 .ensures .1)
+    (c .point-at2 .ensures .0 ∙ sym (around-back (s .pre) (c .before .if1 .left)), c .point-at2 .ensures .1)
 
 pub ring-end-spec : {M : Type 1} → statement M
 ring-end-spec =

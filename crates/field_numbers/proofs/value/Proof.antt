@@ -22,7 +22,7 @@ loop-holds : tie.Need-loop-holds Inv-loop μ-loop
 loop-holds c = (omega arith, omega arith, refl)
 
 mul-v : tie.Need-mul-v Inv-loop μ-loop
-mul-v c = omega (arith, nine-digits (c .before .loop .i) (c .before .loop .inv .1) (omega arith))
+mul-v c = omega (arith, nine-digits (c .before .loop .inv .1) (omega arith))
 
 shared-slice-read-digit : tie.Need-shared-slice-read-digit Inv-loop μ-loop
 shared-slice-read-digit c = search needs
@@ -31,7 +31,7 @@ digit-requires : tie.Need-digit-requires Inv-loop μ-loop
 digit-requires c κs = run-whole isDigit _ (c .before .before .before .before .pre .1) (c .before .before .loop .i) (omega arith)
 
 add-v : tie.Need-add-v Inv-loop μ-loop
-add-v c = omega (arith, nine-digits (c .before .before .before .loop .i) (c .before .before .before .loop .inv .1) (omega arith))
+add-v c = omega (arith, nine-digits (c .before .before .before .loop .inv .1) (omega arith))
 
 add-i : tie.Need-add-i Inv-loop μ-loop
 add-i c = search needs
@@ -46,7 +46,7 @@ loop-again c =
     let v = l .loop .v in
     let i = l .loop .i in
     let d = c .digit .result in
-    (omega arith, larger i (l .loop .inv .1) (c .digit .ensures .1), l .loop .inv .2 ∙ value-more v digits i (omega arith) (c .digit .ensures .0))
+    (omega arith, larger i (l .loop .inv .1) (c .digit .ensures .1), l .loop .inv .2 ∙ value-more v digits (omega arith) (c .digit .ensures .0))
 
 returns : tie.Need-returns Inv-loop μ-loop
 returns c =

@@ -41,7 +41,7 @@ returns : tie.Need-returns
 returns c =
     let t = c .before .before .before in
     let s = c .before .before .before .before .before .before .before .before .before .before .before .before .before .before .before in
-    sound-left (s .args .bytes .now) (s .args .rows .now) (s .args .starts .now) (s .args .corners .now) (s .pre) (c .before .before .before .before .before .before .before .strategy .ensures) (c .before .before .before .before .before .before .before .before .corner-limit .ensures) _ (c .before .before .before .before .before .before .before .before .before .before .read-rows .ensures) (t .to-convex-polygons-with-max-vertices .ensures)
+    sound-left (s .pre) (c .before .before .before .before .before .before .before .strategy .ensures) (c .before .before .before .before .before .before .before .before .corner-limit .ensures) _ (c .before .before .before .before .before .before .before .before .before .before .read-rows .ensures) (t .to-convex-polygons-with-max-vertices .ensures)
 
 pub split-sound-spec : {M : Type 1} → statement M
 split-sound-spec =

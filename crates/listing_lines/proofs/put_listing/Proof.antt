@@ -44,7 +44,7 @@ put-line-requires c κs =
       listable = s .pre .0;
       inside = omega (arith, c .before .loop-test .taken);
       sum = l .before .before .before .before .before .total-area .ensures;
-      room = putting-room (lines-next _ ps _ (l .loop .inv .1) (omega (arith, c .before .loop-test .taken, count-parts _ _ (s .pre .0 .whole))));
+      room = putting-room (lines-next _ ps (l .loop .inv .1) (omega (arith, c .before .loop-test .taken, count-parts _ _ (s .pre .0 .whole))));
     }
 
 add-k : tie.Need-add-k Inv-loop μ-loop
@@ -59,7 +59,7 @@ loop-again c =
     let s = l .before .before .before .before .before .before .before .before in
     let ps = tableParts (s .args .starts .now) (s .args .corners .now) in (
       omega (arith, c .before .before .before .before .loop-test .taken),
-      putting-step (lines-next _ ps _ (l .loop .inv .1) (omega (arith, c .before .before .before .before .loop-test .taken, count-parts _ _ (s .pre .0 .whole)))) (c .before .before .put-line .ensures),
+      putting-step (lines-next _ ps (l .loop .inv .1) (omega (arith, c .before .before .before .before .loop-test .taken, count-parts _ _ (s .pre .0 .whole)))) (c .before .before .put-line .ensures),
     )
 
 same-length : tie.Need-same-length Inv-loop μ-loop
@@ -73,7 +73,7 @@ returns c =
     let l = c .before in
     let s = l .before .before .before .before .before .before .before .before in
     let ps = tableParts (s .args .starts .now) (s .args .corners .now) in
-    listing-put ps (s .args .out .now) (l .before .before .before .before .before .total-area .ensures) (s .pre .1) (l .before .before .before .put-head .ensures) (lines-done _ ps _ (l .loop .inv .1) (omega (arith, c .loop-test .left, count-parts _ _ (s .pre .0 .whole))))
+    listing-put ps (s .args .out .now) (l .before .before .before .before .before .total-area .ensures) (s .pre .1) (l .before .before .before .put-head .ensures) (lines-done _ ps (l .loop .inv .1) (omega (arith, c .loop-test .left, count-parts _ _ (s .pre .0 .whole))))
 
 pub put-listing-spec : {M : Type 1} → statement M
 put-listing-spec =

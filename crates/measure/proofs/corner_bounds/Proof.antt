@@ -53,7 +53,7 @@ loop-again c =
     let l = c .before .before .before in
     let n = l .before .before .before .before in
     let p = pointsOf (n .before .args .corners .now) in
-    sym (bounds-more p (l .loop .b) (l .loop .k) (omega (arith, c .before .before .loop-test .taken, n .corner-count .ensures)) (c .before .corner-at2 .ensures) (c .with-point .ensures)) ∙ l .loop .inv
+    sym (bounds-more p (l .loop .b) (omega (arith, c .before .before .loop-test .taken, n .corner-count .ensures)) (c .before .corner-at2 .ensures) (c .with-point .ensures)) ∙ l .loop .inv
 
 returns-2 : tie.Need-returns-2 Inv-loop μ-loop
 returns-2 c =

@@ -30,7 +30,7 @@ refused-requires-2 c κs = search needs
 returns-3 : tie.Need-returns-3
 returns-3 c =
     let t = c .before .before .before .before .before .before .before .args .total in
-    c .refused2 .ensures ∙ above-refused (t .words .low) (omega (arith, c .before .if3 .taken)) ∙ ap areaTold (sym (value-above (c .before .before .before .before .if1 .left) (c .before .before .before .if2 .left)))
+    c .refused2 .ensures ∙ above-refused (omega (arith, c .before .if3 .taken)) ∙ ap areaTold (sym (value-above (c .before .before .before .before .if1 .left) (c .before .before .before .if2 .left)))
 
 cast-t4 : tie.Need-cast-t4
 cast-t4 c = search needs

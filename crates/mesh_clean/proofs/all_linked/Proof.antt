@@ -27,7 +27,7 @@ returns : tie.Need-returns Inv-loop μ-loop
 returns c =
     let r = c .before .before in
     let l = r .before .before in
-    linking-row (l .before .args .mesh .now) (l .loop .k) (omega arith) (l .loop .inv .1) (r .count-row .ensures) (not-true _ (c .if1 .taken))
+    linking-row (l .before .args .mesh .now) (omega arith) (l .loop .inv .1) (r .count-row .ensures) (not-true _ (c .if1 .taken))
 
 add-k : tie.Need-add-k Inv-loop μ-loop
 add-k c = omega arith
@@ -39,7 +39,7 @@ loop-again : tie.Need-loop-again Inv-loop μ-loop
 loop-again c =
     let r = c .before .before in
     let l = r .before .before in
-    (omega arith, linking-next (l .before .args .mesh .now) (l .loop .k) (omega arith) (l .loop .inv .1) (r .count-row .ensures) (not-false _ (c .if1 .left)))
+    (omega arith, linking-next (l .before .args .mesh .now) (omega arith) (l .loop .inv .1) (r .count-row .ensures) (not-false _ (c .if1 .left)))
 
 returns-2 : tie.Need-returns-2 Inv-loop μ-loop
 returns-2 c = let l = c .before .before in linking-end (l .before .args .mesh .now) (omega arith) (l .loop .inv .1)

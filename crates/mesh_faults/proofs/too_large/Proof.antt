@@ -52,7 +52,7 @@ returns c =
     let l = d .before .before .before .before in
     let rows = l .before .args .mesh .now in
     let a = got w64 (d .before .area-of .result) (d .before .area-of .ok) ∙ d .before .area-of .ensures .0 in
-    sum-past rows (l .before .pre .1) (l .loop .k) (omega arith) (l .loop .inv .1) (past-of (ap (λ z. addedOf (toZ w64 (l .loop .total) +ℤ z)) (sym a) ∙ sym (d .add-area .ensures) ∙ c .enum-told .given .1))
+    sum-past rows (l .before .pre .1) (omega arith) (l .loop .inv .1) (past-of (ap (λ z. addedOf (toZ w64 (l .loop .total) +ℤ z)) (sym a) ∙ sym (d .add-area .ensures) ∙ c .enum-told .given .1))
 
 add-k : tie.Need-add-k Inv-loop μ-loop
 add-k c = omega arith
@@ -67,7 +67,7 @@ loop-again c =
     let rows = l .before .args .mesh .now in
     let a = got w64 (d .before .area-of .result) (d .before .area-of .ok) ∙ d .before .area-of .ensures .0 in
     let q = total-of (c .before .sum .given .0 .0) (ap (λ z. addedOf (toZ w64 (l .loop .total) +ℤ z)) (sym a) ∙ sym (d .add-area .ensures) ∙ c .before .sum .given .1) in
-    (omega arith, subst (Sum rows (l .loop .k + 1)) (sym (kept (search needs) ∙ q .0)) (sum-next rows (l .before .pre .1) (l .loop .k) (omega arith) (l .loop .inv .1) (q .1)))
+    (omega arith, subst (Sum rows (l .loop .k + 1)) (sym (kept (search needs) ∙ q .0)) (sum-next rows (l .before .pre .1) (omega arith) (l .loop .inv .1) (q .1)))
 
 returns-2 : tie.Need-returns-2 Inv-loop μ-loop
 returns-2 c = sum-end (c .before .before .args .mesh .now) (omega arith) (c .before .loop .inv .1)

@@ -42,7 +42,7 @@ loop-again c =
     let s = l .before .before .args in (
       omega arith,
       simp length-set (l .loop .inv .1),
-      row-more (wordsOf (s .bytes .now)) (l .loop .rows) (l .loop .k) (omega arith) (l .loop .inv .2) _ (c .row-at .ensures),
+      row-more (wordsOf (s .bytes .now)) (l .loop .rows) (omega arith) (l .loop .inv .2) _ (c .row-at .ensures),
     )
 
 same-length : tie.Need-same-length Inv-loop μ-loop

@@ -23,14 +23,14 @@ neighbor-of-requires-3 c κs = search needs
 returns : tie.Need-returns
 returns c =
     let s = c .before .before .before .before .before .before in
-    first-second (s .args .mesh .now) (s .args .n) (s .args .k) (s .pre) (point (s .args .a)) (point (s .args .b)) (c .before .before .before .before .neighbor-of .ensures) (c .before .before .before .neighbor-of2 .ensures) (c .before .before .neighbor-of3 .ensures) (c .before .if1 .taken) (c .if2 .taken)
+    first-second (s .args .mesh .now) (s .args .k) (s .pre) (point (s .args .a)) (point (s .args .b)) (c .before .before .before .before .neighbor-of .ensures) (c .before .before .before .neighbor-of2 .ensures) (c .before .before .neighbor-of3 .ensures) (c .before .if1 .taken) (c .if2 .taken)
 
 returns-2 : tie.Need-returns-2
 returns-2 c =
     let p2 = c .before .before in
     let p1 = p2 .before .before in
     let s = p1 .before .before .before in
-    first-third (s .args .mesh .now) (s .args .n) (s .args .k) (s .pre) (point (s .args .a)) (point (s .args .b)) (p1 .before .neighbor-of .ensures)
+    first-third (s .args .mesh .now) (s .args .k) (s .pre) (point (s .args .a)) (point (s .args .b)) (p1 .before .neighbor-of .ensures)
     (p1 .neighbor-of2 .ensures) (p2 .before .neighbor-of3 .ensures) (p2 .if1 .taken) (c .before .if2 .left) (c .if3 .taken)
 
 vertex-of-requires : tie.Need-vertex-of-requires
@@ -49,7 +49,7 @@ returns-3 c =
     let p2 = p3 .before .before in
     let p1 = p2 .before .before in
     let s = p1 .before .before in
-    first-alone (s .args .mesh .now) (s .args .n) (s .args .k) (s .pre) (point (s .args .a)) (point (s .args .b)) (p1 .neighbor-of .ensures)
+    first-alone (s .args .mesh .now) (s .args .k) (s .pre) (point (s .args .a)) (point (s .args .b)) (p1 .neighbor-of .ensures)
     (p2 .before .neighbor-of2 .ensures) (p2 .neighbor-of3 .ensures) (p3 .before .if1 .taken) (p3 .if2 .left) (p4 .before .if3 .left)
     (p4 .vertex-of .ensures) (c .before .vertex-of2 .ensures) (c .edge-fault .ensures)
 
@@ -58,7 +58,7 @@ returns-4 c =
     let p2 = c .before .before in
     let p1 = p2 .before .before in
     let s = p1 .before .before .before in
-    second-third (s .args .mesh .now) (s .args .n) (s .args .k) (s .pre) (point (s .args .a)) (point (s .args .b)) (p1 .before .neighbor-of .ensures)
+    second-third (s .args .mesh .now) (s .args .k) (s .pre) (point (s .args .a)) (point (s .args .b)) (p1 .before .neighbor-of .ensures)
     (p1 .neighbor-of2 .ensures) (p2 .before .neighbor-of3 .ensures) (p2 .if1 .left) (c .before .if4 .taken) (c .if5 .taken)
 
 vertex-of-requires-3 : tie.Need-vertex-of-requires-3
@@ -77,7 +77,7 @@ returns-5 c =
     let p2 = p3 .before .before in
     let p1 = p2 .before .before in
     let s = p1 .before .before in
-    second-alone (s .args .mesh .now) (s .args .n) (s .args .k) (s .pre) (point (s .args .a)) (point (s .args .b)) (p1 .neighbor-of .ensures)
+    second-alone (s .args .mesh .now) (s .args .k) (s .pre) (point (s .args .a)) (point (s .args .b)) (p1 .neighbor-of .ensures)
     (p2 .before .neighbor-of2 .ensures) (p2 .neighbor-of3 .ensures) (p3 .before .if1 .left) (p3 .if4 .taken) (p4 .before .if5 .left)
     (p4 .vertex-of3 .ensures) (c .before .vertex-of4 .ensures) (c .edge-fault2 .ensures)
 
@@ -97,7 +97,7 @@ returns-6 c =
     let p2 = p3 .before .before in
     let p1 = p2 .before .before in
     let s = p1 .before .before in
-    third-alone (s .args .mesh .now) (s .args .n) (s .args .k) (s .pre) (point (s .args .a)) (point (s .args .b)) (p1 .neighbor-of .ensures)
+    third-alone (s .args .mesh .now) (s .args .k) (s .pre) (point (s .args .a)) (point (s .args .b)) (p1 .neighbor-of .ensures)
     (p2 .before .neighbor-of2 .ensures) (p2 .neighbor-of3 .ensures) (p3 .before .if1 .left) (p3 .if4 .left) (p4 .before .if6 .taken)
     (p4 .vertex-of5 .ensures) (c .before .vertex-of6 .ensures) (c .edge-fault3 .ensures)
 
@@ -106,7 +106,7 @@ returns-7 c =
     let p2 = c .before .before in
     let p1 = p2 .before .before in
     let s = p1 .before .before .before in
-    no-side (s .args .mesh .now) (s .args .n) (s .args .k) (s .pre) (point (s .args .a)) (point (s .args .b)) (p1 .before .neighbor-of .ensures)
+    no-side (s .args .mesh .now) (s .args .k) (s .pre) (point (s .args .a)) (point (s .args .b)) (p1 .before .neighbor-of .ensures)
     (p1 .neighbor-of2 .ensures) (p2 .before .neighbor-of3 .ensures) (p2 .if1 .left) (c .before .if4 .left) (c .if6 .left)
 
 pub back-fault-spec : {M : Type 1} → statement M

@@ -11,7 +11,7 @@ split-file-requires : tie.Need-split-file-requires
 split-file-requires c κs = search needs
 
 returns : tie.Need-returns
-returns c = taken-refused (c .before .before .before .before .before .before .args .bytes .now) _ _ (c .before .before .split-file .ensures) (c .if1 .taken)
+returns c = taken-refused _ _ (c .before .before .split-file .ensures) (c .if1 .taken)
 
 cast-t9 : tie.Need-cast-t9
 cast-t9 c = search needs
@@ -23,7 +23,7 @@ file-bounds-requires : tie.Need-file-bounds-requires
 file-bounds-requires c κs = sym (fault-is (c .before .before .before .before .before .before .before .before .args .bytes .now) _ _ (c .before .before .before .before .split-file .ensures)) ∙ c .before .before .if1 .left
 
 returns-2 : tie.Need-returns-2
-returns-2 c = taken-held (c .before .before .before .before .before .before .before .before .before .args .bytes .now) _ _ (c .before .before .before .before .before .split-file .ensures) (c .before .before .before .if1 .left) (c .file-bounds .ensures)
+returns-2 c = taken-held _ _ (c .before .before .before .before .before .split-file .ensures) (c .before .before .before .if1 .left) (c .file-bounds .ensures)
 
 pub take-operand-spec : {M : Type 1} → statement M
 take-operand-spec =

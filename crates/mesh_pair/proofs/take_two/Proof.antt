@@ -19,7 +19,7 @@ take-operand-requires c κs = search needs
 returns : tie.Need-returns
 returns c =
     let s = c .before .before .before .before .before .before .before .before in
-    left-refused (s .args .bytes .now) (taken-as (c .before .before .before .before .before .before .left-end .ensures .left) (c .before .before .take-operand .ensures)) (c .if1 .taken) _ _
+    left-refused (taken-as (c .before .before .before .before .before .before .left-end .ensures .left) (c .before .before .take-operand .ensures)) (c .if1 .taken) _ _
 
 sub-take-operand : tie.Need-sub-take-operand
 sub-take-operand c = search needs
@@ -37,7 +37,7 @@ returns-2 : tie.Need-returns-2
 returns-2 c =
     let s = c .before .before .before .before .before .before .before .before .before .before .before .before in
     let k = c .before .before .before .before .before .before .before .before .before .before .left-end in
-    both-taken (s .args .bytes .now) (taken-as (k .ensures .left) (c .before .before .before .before .before .before .take-operand .ensures)) (c .before .before .before .before .if1 .left)
+    both-taken (taken-as (k .ensures .left) (c .before .before .before .before .before .before .take-operand .ensures)) (c .before .before .before .before .if1 .left)
     (taken-as (rest-of (s .args .bytes .now) (k .result) ∙ k .ensures .right) (c .take-operand2 .ensures))
 
 pub take-two-spec : {M : Type 1} → statement M

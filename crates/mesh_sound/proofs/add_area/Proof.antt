@@ -20,7 +20,7 @@ abbrev top : ℤ
 top = pos 9223372036854775807
 
 -- u and v are t and a read back
-module _ (t a : ℤ) (ft : SFits w64 t) (fa : SFits w64 a) (ht : pos 0 ≤ℤ t) (ha : pos 0 ≤ℤ a) {u v : ℤ} (eu : u ≡ t) (ev : v ≡ a) where
+module _ {t a : ℤ} (ft : SFits w64 t) (fa : SFits w64 a) (ht : pos 0 ≤ℤ t) (ha : pos 0 ≤ℤ a) {u v : ℤ} (eu : u ≡ t) (ev : v ≡ a) where
   left-fits : SFits w64 (top -ℤ v)
   left-fits = rw ev (omega (zarith, sub-parts top a, mag-parts (top -ℤ a), mag-parts a))
 
@@ -46,16 +46,16 @@ module _ (t a : ℤ) (ft : SFits w64 t) (fa : SFits w64 a) (ht : pos 0 ≤ℤ t)
   sum-is h = ap Total (kept (sum-fits h) ∙ (λ i. eu i +ℤ ev i)) ∙ rw (≤-ltZ {x = top} {y = t +ℤ a} (within h))
 
 sub-if1 : tie.Need-sub-if1
-sub-if1 c = left-fits (c .args .total) (c .args .area) (c .fits .total) (c .fits .area) (c .pre .0) (c .pre .1) refl (kept (c .fits .area))
+sub-if1 c = left-fits (c .fits .total) (c .fits .area) (c .pre .0) (c .pre .1) refl (kept (c .fits .area))
 
 returns : tie.Need-returns
-returns c = let s = c .before in past (s .args .total) (s .args .area) (s .fits .total) (s .fits .area) (s .pre .0) (s .pre .1) (kept (s .fits .total)) (kept (s .fits .area)) (c .if1 .taken)
+returns c = let s = c .before in past (s .fits .total) (s .fits .area) (s .pre .0) (s .pre .1) (kept (s .fits .total)) (kept (s .fits .area)) (c .if1 .taken)
 
 add-t3 : tie.Need-add-t3
-add-t3 c = let s = c .before in sum-fits (s .args .total) (s .args .area) (s .fits .total) (s .fits .area) (s .pre .0) (s .pre .1) (kept (s .fits .total)) (kept (s .fits .area)) (c .if1 .left)
+add-t3 c = let s = c .before in sum-fits (s .fits .total) (s .fits .area) (s .pre .0) (s .pre .1) (kept (s .fits .total)) (kept (s .fits .area)) (c .if1 .left)
 
 returns-2 : tie.Need-returns-2
-returns-2 c = let s = c .before in sum-is (s .args .total) (s .args .area) (s .fits .total) (s .fits .area) (s .pre .0) (s .pre .1) (kept (s .fits .total)) (kept (s .fits .area)) (c .if1 .left)
+returns-2 c = let s = c .before in sum-is (s .fits .total) (s .fits .area) (s .pre .0) (s .pre .1) (kept (s .fits .total)) (kept (s .fits .area)) (c .if1 .left)
 
 pub add-area-spec : {M : Type 1} → statement M
 add-area-spec = tie.close (tie.spec sub-if1 returns add-t3 returns-2)

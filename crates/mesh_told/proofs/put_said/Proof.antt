@@ -18,7 +18,7 @@ same-length : tie.Need-same-length
 same-length c = search needs
 
 returns : tie.Need-returns
-returns c = put-many (c .before .before .before .before .before .before .before .before .args .count) (c .before .before .before .before .before .before .before .before .args .line .now) (c .before .before .before .before .before .if1 .taken) (c .before .before .put-bytes .ensures)
+returns c = put-many (c .before .before .before .before .before .before .before .before .args .line .now) (c .before .before .before .before .before .if1 .taken) (c .before .before .put-bytes .ensures)
 
 wrong-field-requires : tie.Need-wrong-field-requires
 wrong-field-requires c κs = search needs
@@ -42,7 +42,7 @@ returns-2 : tie.Need-returns-2
 returns-2 c =
     let g = c .before .before .before .before .before .before .before .before .before .before .before .before .before .before .args in
     let room : g .at + saidRoom ≤ length (g .out .now) = omega arith in
-    put-pieces (g .count) (g .line .now) (c .before .before .before .before .before .before .before .before .before .before .before .if1 .left) (c .before .before .before .before .before .before .before .before .before .before .wrong-field .ensures) (c .before .before .before .before .before .before .before .before .before .field .ensures) (c .before .before .before .before .wanted-at .ensures) room
+    put-pieces (g .line .now) (c .before .before .before .before .before .before .before .before .before .before .before .if1 .left) (c .before .before .before .before .before .before .before .before .before .before .wrong-field .ensures) (c .before .before .before .before .before .before .before .before .before .field .ensures) (c .before .before .before .before .wanted-at .ensures) room
     (c .before .before .before .before .before .before .before .put-standing .ensures) (c .before .before .put-should .ensures)
 
 pub put-said-spec : {M : Type 1} → statement M

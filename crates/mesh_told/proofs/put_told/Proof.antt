@@ -33,13 +33,13 @@ returns-2 : tie.Need-returns-2
 returns-2 c =
     let g = c .before .before .before .before .before .before .args in
     let room : toldRoom ≤ length (g .out .now) = omega arith in
-    told-wrong (g .told) (g .text .now) room (c .before .before .before .told2 .given .1) (c .put-wrong .ensures)
+    told-wrong (g .text .now) room (c .before .before .before .told2 .given .1) (c .put-wrong .ensures)
 
 returns-3 : tie.Need-returns-3
 returns-3 c =
     let g = c .before .before .before .before .before .before .args in
     let room : toldRoom ≤ length (g .out .now) = omega arith in
-    told-long (g .told) (g .text .now) room (c .before .before .before .enum-told .given .1) (c .put-bytes .ensures)
+    told-long (g .text .now) room (c .before .before .before .enum-told .given .1) (c .put-bytes .ensures)
 
 pub put-told-spec : {M : Type 1} → statement M
 put-told-spec =

@@ -40,7 +40,7 @@ same-length c = search needs
 returns : tie.Need-returns
 returns c =
     let g = c .before .before .before .before .before .before .before .before .before .before .before .before .before .before .before .before .before .before .before .args in
-    line-told (g .text .now) (g .number) (c .before .before .before .before .before .before .find .ensures) (c .before .before .before .before .before .before .before .before .before .before .before .before .before .before .put-word-decimal .ensures) (c .before .before .before .before .before .before .before .before .before .put-bytes .ensures) (c .before .before .before .before .before .if1 .taken)
+    line-told (c .before .before .before .before .before .before .find .ensures) (c .before .before .before .before .before .before .before .before .before .before .before .before .before .before .put-word-decimal .ensures) (c .before .before .before .before .before .before .before .before .before .put-bytes .ensures) (c .before .before .before .before .before .if1 .taken)
     (c .before .before .put-said .ensures)
 
 slice-aggregate-put-bytes-2 : tie.Need-slice-aggregate-put-bytes-2
@@ -56,7 +56,7 @@ same-length-2 c = search needs
 returns-2 : tie.Need-returns-2
 returns-2 c =
     let g = c .before .before .before .before .before .before .before .before .before .before .before .before .before .before .before .before .before .before .before .args in
-    end-told (g .text .now) (g .number) (c .before .before .before .before .before .before .find .ensures) (c .before .before .before .before .before .before .before .before .before .before .before .before .before .before .put-word-decimal .ensures) (c .before .before .before .before .before .before .before .before .before .put-bytes .ensures) (c .before .before .before .before .before .if1 .left)
+    end-told (c .before .before .before .before .before .before .find .ensures) (c .before .before .before .before .before .before .before .before .before .before .before .before .before .before .put-word-decimal .ensures) (c .before .before .before .before .before .before .before .before .before .put-bytes .ensures) (c .before .before .before .before .before .if1 .left)
     (c .before .before .put-bytes2 .ensures)
 
 pub put-wrong-spec : {M : Type 1} → statement M

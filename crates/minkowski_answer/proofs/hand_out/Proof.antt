@@ -53,7 +53,7 @@ append-all-requires c κs =
     let s = c .before .before .before .before .before .before .before .before .before in
     let g = s .args in
     let ps = contoursIn (g .firsts .now) (g .points .now) (g .left) (g .right) in
-    (s .pre .walks, room-for (s .pre) (g .starts .now) (g .corners .now) (c .before .before .before .before .before .before .if1 .left) (omega (arith, no-more (length (flatten ps)) (c .before .before .before .no-room .ensures) (c .before .before .if2 .left), c .before .before .before .before .corner-count .ensures, length-points (g .corners .now))))
+    (s .pre .walks, room-for (s .pre) (c .before .before .before .before .before .before .if1 .left) (omega (arith, no-more (length (flatten ps)) (c .before .before .before .no-room .ensures) (c .before .before .if2 .left), c .before .before .before .before .corner-count .ensures, length-points (g .corners .now))))
 
 cast-t21 : tie.Need-cast-t21
 cast-t21 c = search needs

@@ -14,7 +14,7 @@ copy-corners-requires : tie.Need-copy-corners-requires
 copy-corners-requires c κs =
     let s = c .before .before in
     let g = s .args in
-    (s .pre .0, omega (arith, first-room (workCorners (g .count) (g .work .now)) [] (s .pre .1), corners-count (g .count) (g .work .now) (s .pre .0)))
+    (s .pre .0, omega (arith, first-room (s .pre .1), corners-count (g .count) (g .work .now) (s .pre .0)))
 
 add-k : tie.Need-add-k
 add-k c = search needs
@@ -26,7 +26,7 @@ put-start-requires : tie.Need-put-start-requires
 put-start-requires c κs =
     let s = c .before .before .before .before .before in
     let g = s .args in
-    (first-starts (workCorners (g .count) (g .work .now)) [] (s .pre .1), first-small (workCorners (g .count) (g .work .now)) [] (s .pre .1) (copied-end (g .count) (s .pre .0) (c .before .before .copy-corners .ensures)))
+    (first-starts (s .pre .1), first-small (s .pre .1) (copied-end (g .count) (s .pre .0) (c .before .before .copy-corners .ensures)))
 
 same-length : tie.Need-same-length
 same-length c = search needs
@@ -38,7 +38,7 @@ returns : tie.Need-returns
 returns c =
     let s = c .before .before .before .before .before .before .before .before in
     let g = s .args in
-    pairs-one (g .starts .now) (g .n) (first-starts (workCorners (g .count) (g .work .now)) [] (s .pre .1)) (copied-end (g .count) (s .pre .0) (c .before .before .before .before .before .copy-corners .ensures)) (c .before .before .put-start .ensures)
+    pairs-one (g .starts .now) (g .n) (first-starts (s .pre .1)) (copied-end (g .count) (s .pre .0) (c .before .before .before .before .before .copy-corners .ensures)) (c .before .before .put-start .ensures)
 
 pub append-copied-spec : {M : Type 1} → statement M
 append-copied-spec =

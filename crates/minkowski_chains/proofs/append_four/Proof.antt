@@ -39,7 +39,7 @@ merge-four-requires c κs =
     let c3 = getD all (n + 3) [] in (
       s .pre .0 .buffers,
       record {
-        first = as-fits (f .first) (first-room c0 (c1 ∷ c2 ∷ c3 ∷ []) (s .pre .3));
+        first = as-fits (f .first) (first-room (s .pre .3));
         second = as-fits (f .second) (as-work (f .second) (g .wb .now) (s .pre .2 .second));
         third = as-fits (f .third) (as-work (f .third) (g .wc .now) (s .pre .2 .third));
         fourth = as-fits (f .fourth) (as-work (f .fourth) (g .wd .now) (s .pre .2 .fourth));
@@ -61,7 +61,7 @@ put-start-requires c κs =
     let c2 = getD all (n + 2) [] in
     let c3 = getD all (n + 3) [] in
     let m = c .before .before .before .before .before .merge-four .ensures in
-    (omega (arith, s .pre .3 .for-starts), first-small c0 (c1 ∷ c2 ∷ c3 ∷ []) (s .pre .3) (as-put (f .first) (m .0)))
+    (omega (arith, s .pre .3 .for-starts), first-small (s .pre .3) (as-put (f .first) (m .0)))
 
 add-append-copied : tie.Need-add-append-copied
 add-append-copied c = omega (arith, c .before .before .before .before .before .before .before .before .before .before .before .before .before .before .before .before .before .before .before .before .before .pre .1 .some, c .before .before .before .before .before .before .before .before .before .before .before .before .before .before .before .before .before .before .before .before .before .pre .1 .few)
@@ -79,7 +79,7 @@ append-copied-requires c κs =
     let c3 = getD all (n + 3) [] in
     let m = c .before .before .before .before .before .before .before .before .before .before .before .merge-four .ensures in
     let p1 = pairs-one (g .starts .now) n (omega (arith, s .pre .3 .for-starts)) (as-put (f .first) (m .0)) (c .before .before .before .before .before .put-start .ensures) in
-    (work-size (as-put (f .second) (m .1)) (as-work (f .second) (g .wb .now) (s .pre .2 .second)), copied-room c1 (as-put (f .second) (m .1)) (room-next (c1 ∷ []) (c2 ∷ c3 ∷ []) (s .pre .3) p1))
+    (work-size (as-put (f .second) (m .1)) (as-work (f .second) (g .wb .now) (s .pre .2 .second)), copied-room (as-put (f .second) (m .1)) (room-next (c1 ∷ []) (c2 ∷ c3 ∷ []) (s .pre .3) p1))
 
 add-append-copied-2 : tie.Need-add-append-copied-2
 add-append-copied-2 c = omega (arith, c .before .before .before .before .before .before .before .before .before .before .before .before .before .before .before .before .before .before .before .before .before .before .before .before .before .before .before .before .pre .1 .some, c .before .before .before .before .before .before .before .before .before .before .before .before .before .before .before .before .before .before .before .before .before .before .before .before .before .before .before .before .pre .1 .few)
@@ -97,8 +97,8 @@ append-copied-requires-2 c κs =
     let c3 = getD all (n + 3) [] in
     let m = c .before .before .before .before .before .before .before .before .before .before .before .before .before .before .before .before .before .before .merge-four .ensures in
     let p1 = pairs-one (g .starts .now) n (omega (arith, s .pre .3 .for-starts)) (as-put (f .first) (m .0)) (c .before .before .before .before .before .before .before .before .before .before .before .before .put-start .ensures) in
-    let p2 = pairs-then p1 (copied-put c1 (as-put (f .second) (m .1)) (c .before .before .before .before .before .before .append-copied .ensures) (two n)) in
-    (work-size (as-put (f .third) (m .2)) (as-work (f .third) (g .wc .now) (s .pre .2 .third)), copied-room c2 (as-put (f .third) (m .2)) (room-next (c2 ∷ []) (c3 ∷ []) (s .pre .3) p2))
+    let p2 = pairs-then p1 (copied-put (as-put (f .second) (m .1)) (c .before .before .before .before .before .before .append-copied .ensures) (two n)) in
+    (work-size (as-put (f .third) (m .2)) (as-work (f .third) (g .wc .now) (s .pre .2 .third)), copied-room (as-put (f .third) (m .2)) (room-next (c2 ∷ []) (c3 ∷ []) (s .pre .3) p2))
 
 add-append-copied-3 : tie.Need-add-append-copied-3
 add-append-copied-3 c = omega (arith, c .before .before .before .before .before .before .before .before .before .before .before .before .before .before .before .before .before .before .before .before .before .before .before .before .before .before .before .before .before .before .before .before .before .before .before .pre .1 .some, c .before .before .before .before .before .before .before .before .before .before .before .before .before .before .before .before .before .before .before .before .before .before .before .before .before .before .before .before .before .before .before .before .before .before .before .pre .1 .few)
@@ -116,9 +116,9 @@ append-copied-requires-3 c κs =
     let c3 = getD all (n + 3) [] in
     let m = c .before .before .before .before .before .before .before .before .before .before .before .before .before .before .before .before .before .before .before .before .before .before .before .before .before .merge-four .ensures in
     let p1 = pairs-one (g .starts .now) n (omega (arith, s .pre .3 .for-starts)) (as-put (f .first) (m .0)) (c .before .before .before .before .before .before .before .before .before .before .before .before .before .before .before .before .before .before .before .put-start .ensures) in
-    let p2 = pairs-then p1 (copied-put c1 (as-put (f .second) (m .1)) (c .before .before .before .before .before .before .before .before .before .before .before .before .before .append-copied .ensures) (two n)) in
-    let p3 = pairs-then p2 (copied-put c2 (as-put (f .third) (m .2)) (c .before .before .before .before .before .before .append-copied2 .ensures) (three n)) in
-    (work-size (as-put (f .fourth) (m .3)) (as-work (f .fourth) (g .wd .now) (s .pre .2 .fourth)), copied-room c3 (as-put (f .fourth) (m .3)) (room-next (c3 ∷ []) ([]) (s .pre .3) p3))
+    let p2 = pairs-then p1 (copied-put (as-put (f .second) (m .1)) (c .before .before .before .before .before .before .before .before .before .before .before .before .before .append-copied .ensures) (two n)) in
+    let p3 = pairs-then p2 (copied-put (as-put (f .third) (m .2)) (c .before .before .before .before .before .before .append-copied2 .ensures) (three n)) in
+    (work-size (as-put (f .fourth) (m .3)) (as-work (f .fourth) (g .wd .now) (s .pre .2 .fourth)), copied-room (as-put (f .fourth) (m .3)) (room-next (c3 ∷ []) ([]) (s .pre .3) p3))
 
 same-length : tie.Need-same-length
 same-length c = search needs
@@ -148,9 +148,9 @@ returns c =
     let c3 = getD all (n + 3) [] in
     let m = c .before .before .before .before .before .before .before .before .before .before .before .before .before .before .before .before .before .before .before .before .before .before .before .before .before .before .before .before .before .merge-four .ensures in
     let p1 = pairs-one (g .starts .now) n (omega (arith, s .pre .3 .for-starts)) (as-put (f .first) (m .0)) (c .before .before .before .before .before .before .before .before .before .before .before .before .before .before .before .before .before .before .before .before .before .before .before .put-start .ensures) in
-    let p2 = pairs-then p1 (copied-put c1 (as-put (f .second) (m .1)) (c .before .before .before .before .before .before .before .before .before .before .before .before .before .before .before .before .before .append-copied .ensures) (two n)) in
-    let p3 = pairs-then p2 (copied-put c2 (as-put (f .third) (m .2)) (c .before .before .before .before .before .before .before .before .before .before .append-copied2 .ensures) (three n)) in
-    let p4 = pairs-then p3 (copied-put c3 (as-put (f .fourth) (m .3)) (c .before .before .before .append-copied3 .ensures) (four n)) in
+    let p2 = pairs-then p1 (copied-put (as-put (f .second) (m .1)) (c .before .before .before .before .before .before .before .before .before .before .before .before .before .before .before .before .before .append-copied .ensures) (two n)) in
+    let p3 = pairs-then p2 (copied-put (as-put (f .third) (m .2)) (c .before .before .before .before .before .before .before .before .before .before .append-copied2 .ensures) (three n)) in
+    let p4 = pairs-then p3 (copied-put (as-put (f .fourth) (m .3)) (c .before .before .before .append-copied3 .ensures) (four n)) in
     put-on (place-with (f .place)) p4
 
 pub append-four-spec : {M : Type 1} → statement M

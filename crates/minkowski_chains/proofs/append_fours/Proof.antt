@@ -21,7 +21,7 @@ mul-all : tie.Need-mul-all Inv-loop μ-loop
 mul-all c =
     let s = c .before .before .before in
     let g = s .args in
-    omega (arith, contours-length (g .firsts .now) (g .points .now) (g .numbers .now) (g .left) (g .right) (s .pre .0 .keyed), s .pre .2 .for-starts)
+    omega (arith, contours-length (s .pre .0 .keyed), s .pre .2 .for-starts)
 
 loop-holds : tie.Need-loop-holds Inv-loop μ-loop
 loop-holds c =
@@ -33,26 +33,26 @@ add-if1 : tie.Need-add-if1 Inv-loop μ-loop
 add-if1 c =
     let s = c .before .before .before .before .before in
     let l = c .before .loop in
-    omega (arith, contours-length (s .args .firsts .now) (s .args .points .now) (s .args .numbers .now) (s .args .left) (s .args .right) (s .pre .0 .keyed), s .pre .2 .for-starts, l .inv .0 .some)
+    omega (arith, contours-length (s .pre .0 .keyed), s .pre .2 .for-starts, l .inv .0 .some)
 
 append-four-requires : tie.Need-append-four-requires Inv-loop μ-loop
 append-four-requires c κs =
     let s = c .before .before .before .before .before .before .before .before .before .before .before in
     let g = s .args in
     let all = contoursIn (g .firsts .now) (g .points .now) (g .left) (g .right) in
-    let e = contours-length (g .firsts .now) (g .points .now) (g .numbers .now) (g .left) (g .right) (s .pre .0 .keyed) in
+    let e = contours-length (s .pre .0 .keyed) in
     let l = c .before .before .before .before .before .before .before .loop in
     let w : g .left * g .right < 2 ^ 64 = omega (arith, e, s .pre .2 .for-starts) in
     let h : l .s .n + 4 ≤ g .left * g .right = omega (arith, c .before .before .before .before .before .if1 .taken) in
     let p = four-piece all (l .s .n) (omega (arith, e, h)) in
-    (s .pre .0, to-more (g .left) (g .right) e w (l .s) (l .inv .0) h, rooms-same (s .pre .1) (l .inv .1) (l .inv .2) (l .inv .3), to-room (g .left) (g .right) e w (l .s) (l .inv .0) p (s .pre .2))
+    (s .pre .0, to-more e w (l .inv .0) h, rooms-same (s .pre .1) (l .inv .1) (l .inv .2) (l .inv .3), to-room e w (l .inv .0) p (s .pre .2))
 
 loop-less : tie.Need-loop-less Inv-loop μ-loop
 loop-less c =
     let s = c .before .before .before .before .before .before .before .before .before .before .before .before .before .before .before .before .before .before in
     let g = s .args in
     let all = contoursIn (g .firsts .now) (g .points .now) (g .left) (g .right) in
-    let e = contours-length (g .firsts .now) (g .points .now) (g .numbers .now) (g .left) (g .right) (s .pre .0 .keyed) in
+    let e = contours-length (s .pre .0 .keyed) in
     let l = c .before .before .before .before .before .before .before .before .before .before .before .before .before .before .loop in
     let w : g .left * g .right < 2 ^ 64 = omega (arith, e, s .pre .2 .for-starts) in
     let h : l .s .n + 4 ≤ g .left * g .right = omega (arith, c .before .before .before .before .before .before .before .before .before .before .before .before .if1 .taken) in
@@ -64,12 +64,12 @@ loop-again c =
     let s = c .before .before .before .before .before .before .before .before .before .before .before .before .before .before .before .before .before .before in
     let g = s .args in
     let all = contoursIn (g .firsts .now) (g .points .now) (g .left) (g .right) in
-    let e = contours-length (g .firsts .now) (g .points .now) (g .numbers .now) (g .left) (g .right) (s .pre .0 .keyed) in
+    let e = contours-length (s .pre .0 .keyed) in
     let l = c .before .before .before .before .before .before .before .before .before .before .before .before .before .before .loop in
     let w : g .left * g .right < 2 ^ 64 = omega (arith, e, s .pre .2 .for-starts) in
     let h : l .s .n + 4 ≤ g .left * g .right = omega (arith, c .before .before .before .before .before .before .before .before .before .before .before .before .if1 .taken) in
     let p = four-piece all (l .s .n) (omega (arith, e, h)) in
-    (to-next (g .left) (g .right) e w (l .s) (l .inv .0) p h (c .before .before .before .before .before .before .append-four .ensures), c .before .before .before .before .before .wb .given ∙ l .inv .1, c .before .before .before .before .wc .given ∙ l .inv .2, c .before .before .before .wd .given ∙ l .inv .3)
+    (to-next e w (l .inv .0) p h (c .before .before .before .before .before .before .append-four .ensures), c .before .before .before .before .before .wb .given ∙ l .inv .1, c .before .before .before .before .wc .given ∙ l .inv .2, c .before .before .before .wd .given ∙ l .inv .3)
 
 same-length : tie.Need-same-length Inv-loop μ-loop
 same-length c = c .before .before .loop .inv .1

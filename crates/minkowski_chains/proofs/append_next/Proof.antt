@@ -17,7 +17,7 @@ merge-one-requires : tie.Need-merge-one-requires
 merge-one-requires c κs =
     let s = c .before .before .before .before .before in
     let g = s .args in
-    (s .pre .0 .buffers, as-fits (c .before .pair-next .ensures) (first-room (pairContourAt (g .firsts .now) (g .points .now) (g .left) (g .right) (g .s .n)) [] (s .pre .2)))
+    (s .pre .0 .buffers, as-fits (c .before .pair-next .ensures) (first-room (s .pre .2)))
 
 add-put-start : tie.Need-add-put-start
 add-put-start c = search needs
@@ -26,7 +26,7 @@ put-start-requires : tie.Need-put-start-requires
 put-start-requires c κs =
     let s = c .before .before .before .before .before .before .before .before .before in
     let g = s .args in
-    (first-starts (pairContourAt (g .firsts .now) (g .points .now) (g .left) (g .right) (g .s .n)) [] (s .pre .2), first-small (pairContourAt (g .firsts .now) (g .points .now) (g .left) (g .right) (g .s .n)) [] (s .pre .2) (as-put (c .before .before .before .before .before .pair-next .ensures) (c .before .before .before .merge-one .ensures)))
+    (first-starts (s .pre .2), first-small (s .pre .2) (as-put (c .before .before .before .before .before .pair-next .ensures) (c .before .before .before .merge-one .ensures)))
 
 after-requires : tie.Need-after-requires
 after-requires c κs = search needs
@@ -41,7 +41,7 @@ returns : tie.Need-returns
 returns c =
     let s = c .before .before .before .before .before .before .before .before .before .before .before .before .before in
     let g = s .args in
-    put-on (c .after .ensures) (pairs-one (g .starts .now) (g .s .n) (first-starts (pairContourAt (g .firsts .now) (g .points .now) (g .left) (g .right) (g .s .n)) [] (s .pre .2)) (as-put (c .before .before .before .before .before .before .before .before .before .pair-next .ensures) (c .before .before .before .before .before .before .before .merge-one .ensures)) (c .before .before .before .put-start .ensures))
+    put-on (c .after .ensures) (pairs-one (g .starts .now) (g .s .n) (first-starts (s .pre .2)) (as-put (c .before .before .before .before .before .before .before .before .before .pair-next .ensures) (c .before .before .before .before .before .before .before .merge-one .ensures)) (c .before .before .before .put-start .ensures))
 
 pub append-next-spec : {M : Type 1} → statement M
 append-next-spec =

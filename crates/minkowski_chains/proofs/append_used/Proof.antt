@@ -21,7 +21,7 @@ put-start-requires : tie.Need-put-start-requires Inv-loop μ-loop
 put-start-requires c κs = (omega (arith, c .before .before .before .before .pre .2 .for-starts), omega arith)
 
 mul-all : tie.Need-mul-all Inv-loop μ-loop
-mul-all c = let s = c .before .before .before .before .before .before .before in omega (arith, contours-length (s .args .firsts .now) (s .args .points .now) (s .args .numbers .now) (s .args .left) (s .args .right) (s .pre .0 .keyed), s .pre .2 .for-starts)
+mul-all c = let s = c .before .before .before .before .before .before .before in omega (arith, contours-length (s .pre .0 .keyed), s .pre .2 .for-starts)
 
 append-fours-requires : tie.Need-append-fours-requires Inv-loop μ-loop
 append-fours-requires c κs =
@@ -36,14 +36,14 @@ append-next-requires c κs =
     let s = c .before .before .before .before .before .before .before .before .before .before .before .before .before .before .before .before .before .before .before .before .before .before .before .before in
     let g = s .args in
     let all = contoursIn (g .firsts .now) (g .points .now) (g .left) (g .right) in
-    let e = contours-length (g .firsts .now) (g .points .now) (g .numbers .now) (g .left) (g .right) (s .pre .0 .keyed) in
+    let e = contours-length (s .pre .0 .keyed) in
     let l = c .before .before .before .before .loop in
     let z = c .before .before .before .before .before .before .before .before .before .before .before .before .before .before .before .before .before .before .before .put-start .ensures in
     let a = l .inv .to (c .before .before .before .before .before .before .before .before .before .before .before .append-fours .ensures) in
     let w : g .left * g .right < 2 ^ 64 = omega (arith, e, s .pre .2 .for-starts) in
     let h : l .s .n + 1 ≤ g .left * g .right = omega (arith, c .before .before .if1 .taken) in
     let p = one-piece {ps = all} {n = l .s .n} (omega (arith, e, h)) in
-    (s .pre .0, to-more (g .left) (g .right) e w (l .s) a h, to-room (g .left) (g .right) e w (l .s) a p (room-started z (s .pre .2)))
+    (s .pre .0, to-more e w a h, to-room e w a p (room-started z (s .pre .2)))
 
 loop-less : tie.Need-loop-less Inv-loop μ-loop
 loop-less c =
@@ -57,11 +57,11 @@ loop-again c =
     let s = c .before .before .before .before .before .before .before .before .before .before .before .before .before .before .before .before .before .before .before .before .before .before .before .before .before .before .before .before in
     let g = s .args in
     let all = contoursIn (g .firsts .now) (g .points .now) (g .left) (g .right) in
-    let e = contours-length (g .firsts .now) (g .points .now) (g .numbers .now) (g .left) (g .right) (s .pre .0 .keyed) in
+    let e = contours-length (s .pre .0 .keyed) in
     let l = c .before .before .before .before .before .before .before .before .loop in
     let w : g .left * g .right < 2 ^ 64 = omega (arith, e, s .pre .2 .for-starts) in
     let h : l .s .n + 1 ≤ g .left * g .right = omega (arith, c .before .before .before .before .before .before .if1 .taken) in
-    record { to = λ o. to-next (g .left) (g .right) e w (l .s) (l .inv .to o) (one-piece (omega (arith, e, h))) h (c .before .before .before .append-next .ensures) }
+    record { to = λ o. to-next e w (l .inv .to o) (one-piece (omega (arith, e, h))) h (c .before .before .before .append-next .ensures) }
 
 same-length : tie.Need-same-length Inv-loop μ-loop
 same-length c = search needs
@@ -77,7 +77,7 @@ same-length-4 c =
     let s = c .before .before .before .before .before .before .before .before .before .before .before .before .before .before .before .before .before .before .before .before .before .before in
     let g = s .args in
     let all = contoursIn (g .firsts .now) (g .points .now) (g .left) (g .right) in
-    let e = contours-length (g .firsts .now) (g .points .now) (g .numbers .now) (g .left) (g .right) (s .pre .0 .keyed) in
+    let e = contours-length (s .pre .0 .keyed) in
     let l = c .before .before .loop in
     let z = c .before .before .before .before .before .before .before .before .before .before .before .before .before .before .before .before .before .put-start .ensures in
     let a = l .inv .to (c .before .before .before .before .before .before .before .before .before .append-fours .ensures) in
@@ -89,7 +89,7 @@ same-length-5 c =
     let s = c .before .before .before .before .before .before .before .before .before .before .before .before .before .before .before .before .before .before .before .before .before .before in
     let g = s .args in
     let all = contoursIn (g .firsts .now) (g .points .now) (g .left) (g .right) in
-    let e = contours-length (g .firsts .now) (g .points .now) (g .numbers .now) (g .left) (g .right) (s .pre .0 .keyed) in
+    let e = contours-length (s .pre .0 .keyed) in
     let l = c .before .before .loop in
     let z = c .before .before .before .before .before .before .before .before .before .before .before .before .before .before .before .before .before .put-start .ensures in
     let a = l .inv .to (c .before .before .before .before .before .before .before .before .before .append-fours .ensures) in
@@ -101,12 +101,12 @@ returns c =
     let s = c .before .before .before .before .before .before .before .before .before .before .before .before .before .before .before .before .before .before .before .before .before .before in
     let g = s .args in
     let all = contoursIn (g .firsts .now) (g .points .now) (g .left) (g .right) in
-    let e = contours-length (g .firsts .now) (g .points .now) (g .numbers .now) (g .left) (g .right) (s .pre .0 .keyed) in
+    let e = contours-length (s .pre .0 .keyed) in
     let l = c .before .before .loop in
     let z = c .before .before .before .before .before .before .before .before .before .before .before .before .before .before .before .before .before .put-start .ensures in
     let a = l .inv .to (c .before .before .before .before .before .before .before .before .before .append-fours .ensures) in
     let w : g .left * g .right < 2 ^ 64 = omega (arith, e, s .pre .2 .for-starts) in
-    to-end (g .left) (g .right) e w (l .s) a (omega (arith, c .if1 .left)) (omega (arith, s .pre .2 .for-starts)) z
+    to-end e w a (omega (arith, c .if1 .left)) (omega (arith, s .pre .2 .for-starts)) z
 
 pub append-used-spec : {M : Type 1} → statement M
 append-used-spec =

@@ -32,7 +32,7 @@ count-row-requires c κs =
     let t = c .before .loop-test .taken in
     let h = lefts-count (g .firsts .now) (g .points .now) (g .left) (g .right) (s .pre .0) in (
       (s .pre .0, t, omega (arith, l .inv .2)),
-      omega (arith, all-fits (leftsIn (g .firsts .now) (g .points .now) (g .left) (g .right)) (rightsIn (g .firsts .now) (g .points .now) (g .left) (g .right)) (l .p) (omega (arith, t, h)) (left-walk (g .firsts .now) (g .points .now) (g .left) (g .right) t), s .pre .1),
+      omega (arith, all-fits (leftsIn (g .firsts .now) (g .points .now) (g .left) (g .right)) (rightsIn (g .firsts .now) (g .points .now) (g .left) (g .right)) (omega (arith, t, h)) (left-walk (g .firsts .now) (g .points .now) (g .left) (g .right) t), s .pre .1),
     )
 
 add-total : tie.Need-add-total Inv-loop μ-loop
@@ -42,7 +42,7 @@ add-total c =
     let l = c .before .before .before .before .loop in
     let t = c .before .before .before .loop-test .taken in
     let h = lefts-count (g .firsts .now) (g .points .now) (g .left) (g .right) (s .pre .0) in
-    omega (arith, c .before .count-row .ensures, l .inv .1, all-fits (leftsIn (g .firsts .now) (g .points .now) (g .left) (g .right)) (rightsIn (g .firsts .now) (g .points .now) (g .left) (g .right)) (l .p) (omega (arith, t, h)) (left-walk (g .firsts .now) (g .points .now) (g .left) (g .right) t), s .pre .1)
+    omega (arith, c .before .count-row .ensures, l .inv .1, all-fits (leftsIn (g .firsts .now) (g .points .now) (g .left) (g .right)) (rightsIn (g .firsts .now) (g .points .now) (g .left) (g .right)) (omega (arith, t, h)) (left-walk (g .firsts .now) (g .points .now) (g .left) (g .right) t), s .pre .1)
 
 add-p : tie.Need-add-p Inv-loop μ-loop
 add-p c = omega (arith, c .before .before .before .loop-test .taken)
@@ -58,7 +58,7 @@ loop-again c =
     let t = c .before .before .before .loop-test .taken in
     let h = lefts-count (g .firsts .now) (g .points .now) (g .left) (g .right) (s .pre .0) in (
       omega (arith, t),
-      omega (arith, c .before .count-row .ensures, l .inv .1, all-turn (leftsIn (g .firsts .now) (g .points .now) (g .left) (g .right)) (rightsIn (g .firsts .now) (g .points .now) (g .left) (g .right)) (l .p) (omega (arith, t, h)) (left-walk (g .firsts .now) (g .points .now) (g .left) (g .right) t)),
+      omega (arith, c .before .count-row .ensures, l .inv .1, all-turn (leftsIn (g .firsts .now) (g .points .now) (g .left) (g .right)) (rightsIn (g .firsts .now) (g .points .now) (g .left) (g .right)) (omega (arith, t, h)) (left-walk (g .firsts .now) (g .points .now) (g .left) (g .right) t)),
       c .work2 .given,
     )
 

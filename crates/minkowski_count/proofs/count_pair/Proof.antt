@@ -30,7 +30,7 @@ merge-walks-requires c κs =
       omega (arith, s .pre .1),
       omega (arith, s .pre .2),
       fits-work (walkIn (g .firsts .now) (g .points .now) n (g .p)) (walkIn (g .firsts .now) (g .points .now) n (g .left + g .q)) (g .work .now)
-          (walk-short (g .firsts .now) (g .points .now) n (g .p) w (omega (arith, s .pre .1))) (walk-short (g .firsts .now) (g .points .now) n (g .left + g .q) w (omega (arith, s .pre .2))) (s .pre .3),
+          (walk-short w (omega (arith, s .pre .1))) (walk-short w (omega (arith, s .pre .2))) (s .pre .3),
     )
 
 same-length : tie.Need-same-length

@@ -32,7 +32,7 @@ add-total c =
     let g = s .args in
     let l = c .before .before .before .before .loop in
     let h = rights-count (g .firsts .now) (g .points .now) (g .left) (g .right) (s .pre .0 .0) in
-    omega (arith, c .before .count-pair .ensures .count, l .inv .2, row-fits (walkIn (g .firsts .now) (g .points .now) (g .left + g .right) (g .p)) (rightsIn (g .firsts .now) (g .points .now) (g .left) (g .right)) (l .q) (omega (arith, c .before .before .before .loop-test .taken, h)) (right-walk (g .firsts .now) (g .points .now) (g .left) (g .right) (l .q)), s .pre .1)
+    omega (arith, c .before .count-pair .ensures .count, l .inv .2, row-fits (walkIn (g .firsts .now) (g .points .now) (g .left + g .right) (g .p)) (rightsIn (g .firsts .now) (g .points .now) (g .left) (g .right)) (omega (arith, c .before .before .before .loop-test .taken, h)) (right-walk (g .firsts .now) (g .points .now) (g .left) (g .right) (l .q)), s .pre .1)
 
 add-q : tie.Need-add-q Inv-loop μ-loop
 add-q c = omega (arith, c .before .before .before .loop-test .taken)
@@ -49,7 +49,7 @@ loop-again c =
     let h = rights-count (g .firsts .now) (g .points .now) (g .left) (g .right) (s .pre .0 .0) in (
       omega (arith, t),
       c .work .given ∙ l .inv .1,
-      omega (arith, c .before .count-pair .ensures .count, l .inv .2, row-turn (walkIn (g .firsts .now) (g .points .now) (g .left + g .right) (g .p)) (rightsIn (g .firsts .now) (g .points .now) (g .left) (g .right)) (l .q) (omega (arith, t, h)) (right-walk (g .firsts .now) (g .points .now) (g .left) (g .right) (l .q))),
+      omega (arith, c .before .count-pair .ensures .count, l .inv .2, row-turn (walkIn (g .firsts .now) (g .points .now) (g .left + g .right) (g .p)) (rightsIn (g .firsts .now) (g .points .now) (g .left) (g .right)) (omega (arith, t, h)) (right-walk (g .firsts .now) (g .points .now) (g .left) (g .right) (l .q))),
     )
 
 same-length : tie.Need-same-length Inv-loop μ-loop

@@ -11,7 +11,7 @@ use Rattle.minkowski_counted.proofs.lower_four.Statement.{statement}
 use Rattle.minkowski_counted.proofs.lower_four.Tie as tie
 
 -- of at least all edges the ties can be taken off in turn, and then corners stand for edges
-module _ (k a w b x d y e z : ℕ) {A B D E : ℕ} (p : a + w ≡ A) (q : b + x ≡ B) (r : d + y ≡ D) (s : e + z ≡ E) (h : A + B + D + E ≤ k) where
+module _ {k : ℕ} (a w b x d y e z : ℕ) {A B D E : ℕ} (p : a + w ≡ A) (q : b + x ≡ B) (r : d + y ≡ D) (s : e + z ≡ E) (h : A + B + D + E ≤ k) where
   off : (a ≤ k) × (b ≤ k - a) × (d ≤ k - a - b) × (e ≤ k - a - b - d)
   off = (omega arith, omega arith, omega arith, omega arith)
 
@@ -67,7 +67,7 @@ sub-k c =
     let g = s .args in
     let u = s .pre .0 in
     let f = c .before .before .before .before .before .before .before .before .four-next .ensures in
-    off (g .s .k) (c .before .before .before .before .ties .result) (c .before .before .before .before .before .count-four .result .a) (c .before .before .before .ties2 .result) (c .before .before .before .before .before .count-four .result .b) (c .before .before .ties3 .result) (c .before .before .before .before .before .count-four .result .c) (c .before .ties4 .result) (c .before .before .before .before .before .count-four .result .d) (c .before .before .before .before .ties .ensures ∙ f .first .edges) (c .before .before .before .ties2 .ensures ∙ f .second .edges) (c .before .before .ties3 .ensures ∙ f .third .edges) (c .before .ties4 .ensures ∙ f .fourth .edges) (s .pre .2) .0
+    off (c .before .before .before .before .ties .result) (c .before .before .before .before .before .count-four .result .a) (c .before .before .before .ties2 .result) (c .before .before .before .before .before .count-four .result .b) (c .before .before .ties3 .result) (c .before .before .before .before .before .count-four .result .c) (c .before .ties4 .result) (c .before .before .before .before .before .count-four .result .d) (c .before .before .before .before .ties .ensures ∙ f .first .edges) (c .before .before .before .ties2 .ensures ∙ f .second .edges) (c .before .before .ties3 .ensures ∙ f .third .edges) (c .before .ties4 .ensures ∙ f .fourth .edges) (s .pre .2) .0
 
 sub-k-2 : tie.Need-sub-k-2
 sub-k-2 c =
@@ -75,7 +75,7 @@ sub-k-2 c =
     let g = s .args in
     let u = s .pre .0 in
     let f = c .before .before .before .before .before .before .before .before .four-next .ensures in
-    off (g .s .k) (c .before .before .before .before .ties .result) (c .before .before .before .before .before .count-four .result .a) (c .before .before .before .ties2 .result) (c .before .before .before .before .before .count-four .result .b) (c .before .before .ties3 .result) (c .before .before .before .before .before .count-four .result .c) (c .before .ties4 .result) (c .before .before .before .before .before .count-four .result .d) (c .before .before .before .before .ties .ensures ∙ f .first .edges) (c .before .before .before .ties2 .ensures ∙ f .second .edges) (c .before .before .ties3 .ensures ∙ f .third .edges) (c .before .ties4 .ensures ∙ f .fourth .edges) (s .pre .2) .1
+    off (c .before .before .before .before .ties .result) (c .before .before .before .before .before .count-four .result .a) (c .before .before .before .ties2 .result) (c .before .before .before .before .before .count-four .result .b) (c .before .before .ties3 .result) (c .before .before .before .before .before .count-four .result .c) (c .before .ties4 .result) (c .before .before .before .before .before .count-four .result .d) (c .before .before .before .before .ties .ensures ∙ f .first .edges) (c .before .before .before .ties2 .ensures ∙ f .second .edges) (c .before .before .ties3 .ensures ∙ f .third .edges) (c .before .ties4 .ensures ∙ f .fourth .edges) (s .pre .2) .1
 
 sub-k-3 : tie.Need-sub-k-3
 sub-k-3 c =
@@ -83,7 +83,7 @@ sub-k-3 c =
     let g = s .args in
     let u = s .pre .0 in
     let f = c .before .before .before .before .before .before .before .before .four-next .ensures in
-    off (g .s .k) (c .before .before .before .before .ties .result) (c .before .before .before .before .before .count-four .result .a) (c .before .before .before .ties2 .result) (c .before .before .before .before .before .count-four .result .b) (c .before .before .ties3 .result) (c .before .before .before .before .before .count-four .result .c) (c .before .ties4 .result) (c .before .before .before .before .before .count-four .result .d) (c .before .before .before .before .ties .ensures ∙ f .first .edges) (c .before .before .before .ties2 .ensures ∙ f .second .edges) (c .before .before .ties3 .ensures ∙ f .third .edges) (c .before .ties4 .ensures ∙ f .fourth .edges) (s .pre .2) .2
+    off (c .before .before .before .before .ties .result) (c .before .before .before .before .before .count-four .result .a) (c .before .before .before .ties2 .result) (c .before .before .before .before .before .count-four .result .b) (c .before .before .ties3 .result) (c .before .before .before .before .before .count-four .result .c) (c .before .ties4 .result) (c .before .before .before .before .before .count-four .result .d) (c .before .before .before .before .ties .ensures ∙ f .first .edges) (c .before .before .before .ties2 .ensures ∙ f .second .edges) (c .before .before .ties3 .ensures ∙ f .third .edges) (c .before .ties4 .ensures ∙ f .fourth .edges) (s .pre .2) .2
 
 sub-k-4 : tie.Need-sub-k-4
 sub-k-4 c =
@@ -91,7 +91,7 @@ sub-k-4 c =
     let g = s .args in
     let u = s .pre .0 in
     let f = c .before .before .before .before .before .before .before .before .four-next .ensures in
-    off (g .s .k) (c .before .before .before .before .ties .result) (c .before .before .before .before .before .count-four .result .a) (c .before .before .before .ties2 .result) (c .before .before .before .before .before .count-four .result .b) (c .before .before .ties3 .result) (c .before .before .before .before .before .count-four .result .c) (c .before .ties4 .result) (c .before .before .before .before .before .count-four .result .d) (c .before .before .before .before .ties .ensures ∙ f .first .edges) (c .before .before .before .ties2 .ensures ∙ f .second .edges) (c .before .before .ties3 .ensures ∙ f .third .edges) (c .before .ties4 .ensures ∙ f .fourth .edges) (s .pre .2) .3
+    off (c .before .before .before .before .ties .result) (c .before .before .before .before .before .count-four .result .a) (c .before .before .before .ties2 .result) (c .before .before .before .before .before .count-four .result .b) (c .before .before .ties3 .result) (c .before .before .before .before .before .count-four .result .c) (c .before .ties4 .result) (c .before .before .before .before .before .count-four .result .d) (c .before .before .before .before .ties .ensures ∙ f .first .edges) (c .before .before .before .ties2 .ensures ∙ f .second .edges) (c .before .before .ties3 .ensures ∙ f .third .edges) (c .before .ties4 .ensures ∙ f .fourth .edges) (s .pre .2) .3
 
 returns : tie.Need-returns
 returns c =
@@ -99,7 +99,7 @@ returns c =
     let g = s .args in
     let u = s .pre .0 in
     let f = c .before .before .before .before .before .before .before .before .four-next .ensures in
-    lowered (place-with (f .place)) (off-all (g .s .k) (c .before .before .before .before .ties .result) (c .before .before .before .before .before .count-four .result .a) (c .before .before .before .ties2 .result) (c .before .before .before .before .before .count-four .result .b) (c .before .before .ties3 .result) (c .before .before .before .before .before .count-four .result .c) (c .before .ties4 .result) (c .before .before .before .before .before .count-four .result .d) (c .before .before .before .before .ties .ensures ∙ f .first .edges) (c .before .before .before .ties2 .ensures ∙ f .second .edges) (c .before .before .ties3 .ensures ∙ f .third .edges) (c .before .ties4 .ensures ∙ f .fourth .edges) (s .pre .2) (ap (λ v. v .a) (c .before .before .before .before .before .count-four .ensures) ∙ as-count (f .first)) (ap (λ v. v .b) (c .before .before .before .before .before .count-four .ensures) ∙ as-count (f .second)) (ap (λ v. v .c) (c .before .before .before .before .before .count-four .ensures) ∙ as-count (f .third)) (ap (λ v. v .d) (c .before .before .before .before .before .count-four .ensures) ∙ as-count (f .fourth)))
+    lowered (place-with (f .place)) (off-all (c .before .before .before .before .ties .result) (c .before .before .before .before .before .count-four .result .a) (c .before .before .before .ties2 .result) (c .before .before .before .before .before .count-four .result .b) (c .before .before .ties3 .result) (c .before .before .before .before .before .count-four .result .c) (c .before .ties4 .result) (c .before .before .before .before .before .count-four .result .d) (c .before .before .before .before .ties .ensures ∙ f .first .edges) (c .before .before .before .ties2 .ensures ∙ f .second .edges) (c .before .before .ties3 .ensures ∙ f .third .edges) (c .before .ties4 .ensures ∙ f .fourth .edges) (s .pre .2) (ap (λ v. v .a) (c .before .before .before .before .before .count-four .ensures) ∙ as-count (f .first)) (ap (λ v. v .b) (c .before .before .before .before .before .count-four .ensures) ∙ as-count (f .second)) (ap (λ v. v .c) (c .before .before .before .before .before .count-four .ensures) ∙ as-count (f .third)) (ap (λ v. v .d) (c .before .before .before .before .before .count-four .ensures) ∙ as-count (f .fourth)))
 
 pub lower-four-spec : {M : Type 1} → statement M
 lower-four-spec =

@@ -13,21 +13,21 @@ use Rattle.minkowski_faults.proofs.Range.{held, off-in, off-out, off-la
 use Rattle.minkowski_faults.proofs.bounds_off.Statement.{statement}
 use Rattle.minkowski_faults.proofs.bounds_off.Tie as tie
 
-module _ (b : IntRect) (f₁ : SFits w32 (b .«min_x»)) (f₂ : SFits w32 (b .«max_x»)) (f₃ : SFits w32 (b .«min_y»)) (f₄ : SFits w32 (b .«max_y»)) where
+module _ {b : IntRect} (f₁ : SFits w32 (b .«min_x»)) (f₂ : SFits w32 (b .«max_x»)) (f₃ : SFits w32 (b .«min_y»)) (f₄ : SFits w32 (b .«max_y»)) where
   module _ {r₁ : Bool} (e₁ : r₁ ≡ inRange (held (b .«min_x»))) where
     first : not r₁ ≡ true → true ≡ offRange (boundsList b)
-    first h = sym (off-out _ _ f₁ e₁ (not-true _ h))
+    first h = sym (off-out _ f₁ e₁ (not-true _ h))
 
     module _ (h₁ : not r₁ ≡ false) {r₂ : Bool} (e₂ : r₂ ≡ inRange (held (b .«max_x»))) where
       second : not r₂ ≡ true → true ≡ offRange (boundsList b)
-      second h = sym (off-in _ _ f₁ e₁ (not-false _ h₁) ∙ off-out _ _ f₂ e₂ (not-true _ h))
+      second h = sym (off-in _ f₁ e₁ (not-false _ h₁) ∙ off-out _ f₂ e₂ (not-true _ h))
 
       module _ (h₂ : not r₂ ≡ false) {r₃ : Bool} (e₃ : r₃ ≡ inRange (held (b .«min_y»))) where
         third : not r₃ ≡ true → true ≡ offRange (boundsList b)
-        third h = sym (off-in _ _ f₁ e₁ (not-false _ h₁) ∙ off-in _ _ f₂ e₂ (not-false _ h₂) ∙ off-out _ _ f₃ e₃ (not-true _ h))
+        third h = sym (off-in _ f₁ e₁ (not-false _ h₁) ∙ off-in _ f₂ e₂ (not-false _ h₂) ∙ off-out _ f₃ e₃ (not-true _ h))
 
         fourth : not r₃ ≡ false → {r₄ : Bool} → r₄ ≡ inRange (held (b .«max_y»)) → not r₄ ≡ offRange (boundsList b)
-        fourth h₃ e₄ = sym (off-in _ _ f₁ e₁ (not-false _ h₁) ∙ off-in _ _ f₂ e₂ (not-false _ h₂) ∙ off-in _ _ f₃ e₃ (not-false _ h₃) ∙ off-last f₄ e₄)
+        fourth h₃ e₄ = sym (off-in _ f₁ e₁ (not-false _ h₁) ∙ off-in _ f₂ e₂ (not-false _ h₂) ∙ off-in _ f₃ e₃ (not-false _ h₃) ∙ off-last f₄ e₄)
 
 in-range-requires : tie.Need-in-range-requires
 in-range-requires c κs = search needs
@@ -35,7 +35,7 @@ in-range-requires c κs = search needs
 returns : tie.Need-returns
 returns c =
     let s = c .before .before .before in
-    first (s .args .b) (search needs) (search needs) (search needs) (search needs) (c .before .in-range .ensures) (c .if1 .taken)
+    first (search needs) (search needs) (search needs) (search needs) (c .before .in-range .ensures) (c .if1 .taken)
 
 in-range-requires-2 : tie.Need-in-range-requires-2
 in-range-requires-2 c κs = search needs
@@ -44,7 +44,7 @@ returns-2 : tie.Need-returns-2
 returns-2 c =
     let p = c .before .before .before in
     let s = p .before .before .before in
-    second (s .args .b) (search needs) (search needs) (search needs) (search needs) (p .before .in-range .ensures) (p .if1 .left) (c .before .in-range2 .ensures) (c .if2 .taken)
+    second (search needs) (search needs) (search needs) (search needs) (p .before .in-range .ensures) (p .if1 .left) (c .before .in-range2 .ensures) (c .if2 .taken)
 
 in-range-requires-3 : tie.Need-in-range-requires-3
 in-range-requires-3 c κs = search needs
@@ -54,7 +54,7 @@ returns-3 c =
     let q = c .before .before .before in
     let p = q .before .before .before in
     let s = p .before .before .before in
-    third (s .args .b) (search needs) (search needs) (search needs) (search needs) (p .before .in-range .ensures) (p .if1 .left) (q .before .in-range2 .ensures) (q .if2 .left) (c .before .in-range3 .ensures) (c .if3 .taken)
+    third (search needs) (search needs) (search needs) (search needs) (p .before .in-range .ensures) (p .if1 .left) (q .before .in-range2 .ensures) (q .if2 .left) (c .before .in-range3 .ensures) (c .if3 .taken)
 
 in-range-requires-4 : tie.Need-in-range-requires-4
 in-range-requires-4 c κs = search needs
@@ -65,7 +65,7 @@ returns-4 c =
     let q = o .before .before .before in
     let p = q .before .before .before in
     let s = p .before .before .before in
-    fourth (s .args .b) (search needs) (search needs) (search needs) (search needs) (p .before .in-range .ensures) (p .if1 .left) (q .before .in-range2 .ensures) (q .if2 .left) (o .before .in-range3 .ensures) (o .if3 .left) (c .in-range4 .ensures)
+    fourth (search needs) (search needs) (search needs) (search needs) (p .before .in-range .ensures) (p .if1 .left) (q .before .in-range2 .ensures) (q .if2 .left) (o .before .in-range3 .ensures) (o .if3 .left) (c .in-range4 .ensures)
 
 pub bounds-off-spec : {M : Type 1} → statement M
 bounds-off-spec =

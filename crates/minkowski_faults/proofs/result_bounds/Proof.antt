@@ -11,7 +11,7 @@ use Rattle.minkowski_faults.proofs.Range.{held, bounds-small, held-both
 use Rattle.minkowski_faults.proofs.result_bounds.Statement.{statement}
 use Rattle.minkowski_faults.proofs.result_bounds.Tie as tie
 
-module _ (l r : IntRect) (reflected : Bool) (a b c d : ℤ) (h : offRange (boundsList l) ≡ false) (k : offRange (boundsList r) ≡ false) where
+module _ (l r : IntRect) {reflected : Bool} {a b c d : ℤ} (h : offRange (boundsList l) ≡ false) (k : offRange (boundsList r) ≡ false) where
   difference : reflected ≡ true → a ≡ held (l .«min_x») -ℤ held (r .«max_x») → b ≡ held (l .«max_x») -ℤ held (r .«min_x») → c ≡ held (l .«min_y») -ℤ held (r .«max_y») → d ≡ held (l .«max_y») -ℤ held (r .«min_y»)
       → record { «min_x» = held a; «max_x» = held b; «min_y» = held c; «max_y» = held d } ≡ resultBounds reflected l r
   unfolding resultBounds
@@ -54,7 +54,7 @@ returns c =
     let y = z .before .before .before in
     let x = y .before .before .before in
     let t = x .before .before .before in
-    difference (t .before .args .left) (t .before .args .right) _ _ _ _ _ (t .before .pre .0) (t .before .pre .1) (t .if1 .taken) (x .subtract .ensures) (y .subtract2 .ensures) (z .subtract3 .ensures) (c .subtract4 .ensures)
+    difference (t .before .args .left) (t .before .args .right) (t .before .pre .0) (t .before .pre .1) (t .if1 .taken) (x .subtract .ensures) (y .subtract2 .ensures) (z .subtract3 .ensures) (c .subtract4 .ensures)
 
 add-requires : tie.Need-add-requires
 add-requires c κs =
@@ -82,7 +82,7 @@ returns-2 c =
     let y = z .before .before .before in
     let x = y .before .before .before in
     let t = x .before .before .before in
-    sum (t .before .args .left) (t .before .args .right) _ _ _ _ _ (t .before .pre .0) (t .before .pre .1) (t .if1 .left) (x .add .ensures) (y .add2 .ensures) (z .add3 .ensures) (c .add4 .ensures)
+    sum (t .before .args .left) (t .before .args .right) (t .before .pre .0) (t .before .pre .1) (t .if1 .left) (x .add .ensures) (y .add2 .ensures) (z .add3 .ensures) (c .add4 .ensures)
 
 pub result-bounds-spec : {M : Type 1} → statement M
 result-bounds-spec =

@@ -15,7 +15,7 @@ use Rattle.minkowski_faults.proofs.result_fault.Statement.{statement}
 use Rattle.minkowski_faults.proofs.result_fault.Tie as tie
 
 -- past the range's test t
-module _ (t : Bool) (l r : List ℕ) (e : t ≡ false) where
+module _ {t : Bool} (l r : List ℕ) (e : t ≡ false) where
   abbrev kinds : List Kind
   kinds = (10, t) ∷ (20, eqb (partCount l) 0) ∷ (20, eqb (partCount r) 0) ∷ []
 
@@ -39,21 +39,21 @@ returns-2 : tie.Need-returns-2
 returns-2 c =
     let p = c .before in
     let s = p .before .before .before .before in
-    left-empty (offRange (boundsList (s .args .bounds))) (s .args .left-starts .now) (s .args .right-starts .now) (sym (p .before .bounds-off .ensures) ∙ p .if1 .left) (c .if2 .taken)
+    left-empty (s .args .left-starts .now) (s .args .right-starts .now) (sym (p .before .bounds-off .ensures) ∙ p .if1 .left) (c .if2 .taken)
 
 returns-3 : tie.Need-returns-3
 returns-3 c =
     let q = c .before in
     let p = q .before in
     let s = p .before .before .before .before in
-    right-empty (offRange (boundsList (s .args .bounds))) (s .args .left-starts .now) (s .args .right-starts .now) (sym (p .before .bounds-off .ensures) ∙ p .if1 .left) (q .if2 .left) (c .if3 .taken)
+    right-empty (s .args .left-starts .now) (s .args .right-starts .now) (sym (p .before .bounds-off .ensures) ∙ p .if1 .left) (q .if2 .left) (c .if3 .taken)
 
 returns-4 : tie.Need-returns-4
 returns-4 c =
     let q = c .before in
     let p = q .before in
     let s = p .before .before .before .before in
-    accepted (offRange (boundsList (s .args .bounds))) (s .args .left-starts .now) (s .args .right-starts .now) (sym (p .before .bounds-off .ensures) ∙ p .if1 .left) (q .if2 .left) (c .if3 .left)
+    accepted (s .args .left-starts .now) (s .args .right-starts .now) (sym (p .before .bounds-off .ensures) ∙ p .if1 .left) (q .if2 .left) (c .if3 .left)
 
 pub result-fault-spec : {M : Type 1} → statement M
 result-fault-spec = tie.close (tie.spec bounds-off-requires returns returns-2 returns-3 returns-4)

@@ -55,7 +55,7 @@ append-keyed-requires c κs =
     let s = c .before .before .before .before .before .before .before .before .before .before in
     let g = s .args in
     let ps = contoursIn (g .firsts .now) (g .points .now) (g .left) (g .right) in
-    (s .pre .1, room-for (s .pre .0) (g .starts .now) (g .corners .now) (c .before .before .before .before .before .before .if1 .left) (omega (arith, no-more (length (flatten ps)) (c .before .before .before .no-room-keyed .ensures) (c .before .before .if2 .left), c .before .before .before .before .corner-count .ensures, length-points (g .corners .now))))
+    (s .pre .1, room-for (s .pre .0) (c .before .before .before .before .before .before .if1 .left) (omega (arith, no-more (length (flatten ps)) (c .before .before .before .no-room-keyed .ensures) (c .before .before .if2 .left), c .before .before .before .before .corner-count .ensures, length-points (g .corners .now))))
 
 cast-t23 : tie.Need-cast-t23
 cast-t23 c = search needs

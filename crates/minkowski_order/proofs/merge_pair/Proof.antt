@@ -41,7 +41,7 @@ merge-used-requires c κs =
     let s = c .before .before .before .before .before .before in
     let g = s .args in
     let e = sym (c .before .before .before .first .ensures .0) in
-    (subst (λ n. Used (g .firsts .now) (take n (g .points .now)) (take n (g .numbers .now)) (g .left) (g .right)) e (cut-used (g .firsts .now) (g .points .now) (g .numbers .now) (g .left) (g .right) (s .pre .0)), s .pre .1, s .pre .2, subst (λ n. RoomAfter (pairIn (g .firsts .now) (take n (g .points .now)) (g .left) (g .right) (g .p) (g .q)) (g .work .now) 0) e (subst (λ l. RoomAfter l (g .work .now) 0) (sym (pair-same (g .firsts .now) (g .points .now) (g .numbers .now) (g .left) (g .right) (s .pre .0) (g .p) (g .q))) (pair-room (g .firsts .now) (g .points .now) (g .numbers .now) (g .left) (g .right) (s .pre .0) (g .p) (g .q) (s .pre .1) (s .pre .2) (g .work .now) (s .pre .3))))
+    (subst (λ n. Used (g .firsts .now) (take n (g .points .now)) (take n (g .numbers .now)) (g .left) (g .right)) e (cut-used (g .firsts .now) (g .points .now) (g .numbers .now) (g .left) (g .right) (s .pre .0)), s .pre .1, s .pre .2, subst (λ n. RoomAfter (pairIn (g .firsts .now) (take n (g .points .now)) (g .left) (g .right) (g .p) (g .q)) (g .work .now) 0) e (subst (λ l. RoomAfter l (g .work .now) 0) (sym (pair-same (g .firsts .now) (g .points .now) (g .numbers .now) (g .left) (g .right) (s .pre .0) (g .p) (g .q))) (pair-room (s .pre .0) (s .pre .1) (s .pre .2) (g .work .now) (s .pre .3))))
 
 same-length : tie.Need-same-length
 same-length c = search needs

@@ -8,13 +8,13 @@ pair-at-requires : tie.Need-pair-at-requires
 pair-at-requires c κs =
     let s = c .before .before in
     let g = s .args in
-    pair-between (g .firsts .now) (g .points .now) (g .numbers .now) (g .left) (g .right) (s .pre .0 .keyed) (g .p) (g .q) (s .pre .1) (s .pre .2)
+    pair-between (s .pre .0 .keyed) (s .pre .1) (s .pre .2)
 
 merge-one-requires : tie.Need-merge-one-requires
 merge-one-requires c κs =
     let s = c .before .before .before .before in
     let g = s .args in
-    (s .pre .0 .buffers, pair-fits (g .firsts .now) (g .points .now) (g .numbers .now) (g .left) (g .right) (s .pre .0 .keyed) (g .p) (g .q) (s .pre .1) (s .pre .2) (c .before .pair-at .ensures) (s .pre .3))
+    (s .pre .0 .buffers, pair-fits (s .pre .0 .keyed) (s .pre .1) (s .pre .2) (c .before .pair-at .ensures) (s .pre .3))
 
 same-length : tie.Need-same-length
 same-length c = search needs
@@ -23,7 +23,7 @@ returns : tie.Need-returns
 returns c =
     let s = c .before .before .before .before .before .before in
     let g = s .args in
-    pair-put (g .firsts .now) (g .points .now) (g .numbers .now) (g .left) (g .right) (s .pre .0 .keyed) (g .p) (g .q) (s .pre .1) (s .pre .2) (c .before .before .before .pair-at .ensures) (c .before .merge-one .ensures)
+    pair-put (s .pre .0 .keyed) (s .pre .1) (s .pre .2) (c .before .before .before .pair-at .ensures) (c .before .merge-one .ensures)
 
 pub merge-used-spec : {M : Type 1} → statement M
 merge-used-spec =

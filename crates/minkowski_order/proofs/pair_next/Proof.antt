@@ -10,14 +10,14 @@ pair-at-requires c κs =
     let s = c .before .before in
     let g = s .args in
     let o = next-of (s .pre .1) in
-    pair-between (g .firsts .now) (g .points .now) (g .numbers .now) (g .left) (g .right) (s .pre .0 .keyed) (g .s .p) (g .s .q) (o .0) (o .1)
+    pair-between (s .pre .0 .keyed) (o .0) (o .1)
 
 returns : tie.Need-returns
 returns c =
     let s = c .before .before .before in
     let g = s .args in
     let o = next-of (s .pre .1) in
-    is-pair (g .firsts .now) (g .points .now) (g .numbers .now) (g .left) (g .right) (s .pre .0 .keyed) (g .s .p) (g .s .q) (g .s .n) (o .0) (o .1) (o .2) (c .pair-at .ensures)
+    is-pair (s .pre .0 .keyed) (o .0) (o .1) (o .2) (c .pair-at .ensures)
 
 pub pair-next-spec : {M : Type 1} → statement M
 pair-next-spec =

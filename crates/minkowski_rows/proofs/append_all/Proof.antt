@@ -36,7 +36,7 @@ append-row-requires c κs =
     let h = lefts-count (g .firsts .now) (g .points .now) (g .left) (g .right) (s .pre .0) in (
       s .pre .0,
       t,
-      all-room (leftsIn (g .firsts .now) (g .points .now) (g .left) (g .right)) (rightsIn (g .firsts .now) (g .points .now) (g .left) (g .right)) (l .p) (omega (arith, t, h)) (left-walk (g .firsts .now) (g .points .now) (g .left) (g .right) t)
+      all-room (leftsIn (g .firsts .now) (g .points .now) (g .left) (g .right)) (rightsIn (g .firsts .now) (g .points .now) (g .left) (g .right)) (omega (arith, t, h)) (left-walk (g .firsts .now) (g .points .now) (g .left) (g .right) t)
           (room-resized (c .before .before .before .before .before .before .put-start .ensures) (s .pre .1)) (l .inv .1),
     )
 
@@ -49,7 +49,7 @@ add-n c =
     let e = c .before .before .before .before .before .before .before .before .before .before .put-start .ensures in
     let h = lefts-count (g .firsts .now) (g .points .now) (g .left) (g .right) (s .pre .0) in
     let room =
-    all-room (leftsIn (g .firsts .now) (g .points .now) (g .left) (g .right)) (rightsIn (g .firsts .now) (g .points .now) (g .left) (g .right)) (l .p) (omega (arith, t, h)) (left-walk (g .firsts .now) (g .points .now) (g .left) (g .right) t)
+    all-room (leftsIn (g .firsts .now) (g .points .now) (g .left) (g .right)) (rightsIn (g .firsts .now) (g .points .now) (g .left) (g .right)) (omega (arith, t, h)) (left-walk (g .firsts .now) (g .points .now) (g .left) (g .right) t)
     (room-resized e (s .pre .1)) (l .inv .1) in
     omega (
       arith,
@@ -75,7 +75,7 @@ loop-again c =
     let t = c .before .before .before .before .before .before .loop-test .taken in
     let h = lefts-count (g .firsts .now) (g .points .now) (g .left) (g .right) (s .pre .0) in (
       omega (arith, t),
-      all-more (leftsIn (g .firsts .now) (g .points .now) (g .left) (g .right)) (rightsIn (g .firsts .now) (g .points .now) (g .left) (g .right)) (l .p) (omega (arith, t, h)) (left-walk (g .firsts .now) (g .points .now) (g .left) (g .right) t) (l .inv .1) (c .before .before .before .append-row .ensures),
+      all-more (leftsIn (g .firsts .now) (g .points .now) (g .left) (g .right)) (rightsIn (g .firsts .now) (g .points .now) (g .left) (g .right)) (omega (arith, t, h)) (left-walk (g .firsts .now) (g .points .now) (g .left) (g .right) t) (l .inv .1) (c .before .before .before .append-row .ensures),
     )
 
 same-length : tie.Need-same-length Inv-loop μ-loop

@@ -40,7 +40,7 @@ add-append-one-2 c =
     let g = s .args in
     let l = c .before .before .loop in
     let h = rights-count (g .firsts .now) (g .points .now) (g .left) (g .right) (s .pre .0) in
-    omega (arith, row-room (walkIn (g .firsts .now) (g .points .now) (g .left + g .right) (g .p)) (rightsIn (g .firsts .now) (g .points .now) (g .left) (g .right)) (l .q) (omega (arith, c .before .loop-test .taken, h)) (right-walk (g .firsts .now) (g .points .now) (g .left) (g .right) (l .q)) (s .pre .2) (l .inv .1) .for-starts, l .inv .1 .starts-size)
+    omega (arith, row-room (walkIn (g .firsts .now) (g .points .now) (g .left + g .right) (g .p)) (rightsIn (g .firsts .now) (g .points .now) (g .left) (g .right)) (omega (arith, c .before .loop-test .taken, h)) (right-walk (g .firsts .now) (g .points .now) (g .left) (g .right) (l .q)) (s .pre .2) (l .inv .1) .for-starts, l .inv .1 .starts-size)
 
 append-one-requires : tie.Need-append-one-requires Inv-loop μ-loop
 append-one-requires c κs =
@@ -52,7 +52,7 @@ append-one-requires c κs =
       s .pre .0,
       omega (arith, s .pre .1),
       omega (arith, t),
-      row-room (walkIn (g .firsts .now) (g .points .now) (g .left + g .right) (g .p)) (rightsIn (g .firsts .now) (g .points .now) (g .left) (g .right)) (l .q) (omega (arith, t, h)) (right-walk (g .firsts .now) (g .points .now) (g .left) (g .right) (l .q)) (s .pre .2) (l .inv .1),
+      row-room (walkIn (g .firsts .now) (g .points .now) (g .left + g .right) (g .p)) (rightsIn (g .firsts .now) (g .points .now) (g .left) (g .right)) (omega (arith, t, h)) (right-walk (g .firsts .now) (g .points .now) (g .left) (g .right) (l .q)) (s .pre .2) (l .inv .1),
     )
 
 add-q : tie.Need-add-q Inv-loop μ-loop
@@ -68,7 +68,7 @@ loop-again c =
     let l = c .before .before .before .before .before .before .before .loop in
     let t = c .before .before .before .before .before .before .loop-test .taken in
     let h = rights-count (g .firsts .now) (g .points .now) (g .left) (g .right) (s .pre .0) in
-    (omega (arith, t), row-more (walkIn (g .firsts .now) (g .points .now) (g .left + g .right) (g .p)) (rightsIn (g .firsts .now) (g .points .now) (g .left) (g .right)) (l .q) (omega (arith, t, h)) (right-walk (g .firsts .now) (g .points .now) (g .left) (g .right) (l .q)) (l .inv .1) (c .before .before .before .append-one .ensures) (omega arith))
+    (omega (arith, t), row-more (walkIn (g .firsts .now) (g .points .now) (g .left + g .right) (g .p)) (rightsIn (g .firsts .now) (g .points .now) (g .left) (g .right)) (omega (arith, t, h)) (right-walk (g .firsts .now) (g .points .now) (g .left) (g .right) (l .q)) (l .inv .1) (c .before .before .before .append-one .ensures) (omega arith))
 
 same-length : tie.Need-same-length Inv-loop μ-loop
 same-length c = c .before .loop .inv .1 .starts-size

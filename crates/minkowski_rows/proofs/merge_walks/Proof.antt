@@ -25,7 +25,7 @@ both : {firsts : List ℕ} {points : List (List ℤ)} {count m n : ℕ} → Walk
 both {firsts} {points} {count} {m} {n} w h k = (at h, at k)
   where
     at : {i : ℕ} → i < count → Places firsts points i
-    at {i} h = let p = walk-placed firsts points count i w h in record { enough = firsts-enough firsts points count i w h; rises = p .rises; within = p .within }
+    at {i} h = let p = walk-placed w h in record { enough = firsts-enough w h; rises = p .rises; within = p .within }
 
 mul-from : tie.Need-mul-from
 mul-from c =
@@ -157,10 +157,10 @@ append-pair-requires : tie.Need-append-pair-requires
 append-pair-requires c κs =
     let s = c .before .before .before .before .before .before .before .before in
     let g = s .args in
-    let e = walk-placed (g .firsts .now) (g .points .now) (g .count) (g .m) (s .pre .0) (s .pre .1) .corners in
-    let f = walk-placed (g .firsts .now) (g .points .now) (g .count) (g .n) (s .pre .0) (s .pre .2) .corners in (
-      walk-ready (g .firsts .now) (g .points .now) (g .count) (g .m) (s .pre .0) (s .pre .1),
-      walk-ready (g .firsts .now) (g .points .now) (g .count) (g .n) (s .pre .0) (s .pre .2),
+    let e = walk-placed (s .pre .0) (s .pre .1) .corners in
+    let f = walk-placed (s .pre .0) (s .pre .2) .corners in (
+      walk-ready (s .pre .0) (s .pre .1),
+      walk-ready (s .pre .0) (s .pre .2),
       subst (λ l. RoomAfter l (g .out .now) (g .at)) (sym (ap₂ mergedOf e f)) (s .pre .3),
     )
 
@@ -171,8 +171,8 @@ returns : tie.Need-returns
 returns c =
     let s = c .before .before .before .before .before .before .before .before .before .before in
     let g = s .args in
-    let e = walk-placed (g .firsts .now) (g .points .now) (g .count) (g .m) (s .pre .0) (s .pre .1) .corners in
-    let f = walk-placed (g .firsts .now) (g .points .now) (g .count) (g .n) (s .pre .0) (s .pre .2) .corners in
+    let e = walk-placed (s .pre .0) (s .pre .1) .corners in
+    let f = walk-placed (s .pre .0) (s .pre .2) .corners in
     put-equal (ap₂ mergedOf e f) (c .before .append-pair .ensures)
 
 pub merge-walks-spec : {M : Type 1} → statement M

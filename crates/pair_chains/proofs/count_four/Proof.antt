@@ -32,10 +32,10 @@ loop-holds c =
     let s = c .before .before .before .before .before .before .before .before .before in
     let n = s .args .numbers .now in
     let x = s .args .x in (
-      counting-start n (x .a) (s .pre .0) (c .before .before .before .start .ensures),
-      counting-start n (x .b) (s .pre .1) (c .before .before .start2 .ensures),
-      counting-start n (x .c) (s .pre .2) (c .before .start3 .ensures),
-      counting-start n (x .d) (s .pre .3) (c .start4 .ensures),
+      counting-start (s .pre .0) (c .before .before .before .start .ensures),
+      counting-start (s .pre .1) (c .before .before .start2 .ensures),
+      counting-start (s .pre .2) (c .before .start3 .ensures),
+      counting-start (s .pre .3) (c .start4 .ensures),
     )
 
 going-four-requires : tie.Need-going-four-requires Inv-loop μ-loop
@@ -44,10 +44,10 @@ going-four-requires c κs =
     let l = c .loop in
     let n = s .args .numbers .now in
     let x = s .args .x in (
-      counting-low n (x .a .end) (length (chainOf n (x .a))) (s .pre .0 .few) (count-small n (x .a) (s .pre .0)) (l .a) (l .inv .0),
-      counting-low n (x .b .end) (length (chainOf n (x .b))) (s .pre .1 .few) (count-small n (x .b) (s .pre .1)) (l .b) (l .inv .1),
-      counting-low n (x .c .end) (length (chainOf n (x .c))) (s .pre .2 .few) (count-small n (x .c) (s .pre .2)) (l .c) (l .inv .2),
-      counting-low n (x .d .end) (length (chainOf n (x .d))) (s .pre .3 .few) (count-small n (x .d) (s .pre .3)) (l .d) (l .inv .3),
+      counting-low (s .pre .0 .few) (count-small (s .pre .0)) (l .inv .0),
+      counting-low (s .pre .1 .few) (count-small (s .pre .1)) (l .inv .1),
+      counting-low (s .pre .2 .few) (count-small (s .pre .2)) (l .inv .2),
+      counting-low (s .pre .3 .few) (count-small (s .pre .3)) (l .inv .3),
     )
 
 step-on-requires : tie.Need-step-on-requires Inv-loop μ-loop
@@ -58,7 +58,7 @@ step-on-requires c κs =
     let n = s .args .numbers .now in
     let x = s .args .x in
     let h = four-going (l .a) (x .a) (l .b) (x .b) (l .c) (x .c) (l .d) (x .d) (t .before .going-four .ensures) (t .if1 .taken) in
-    counting-turn n (x .a .end) (length (chainOf n (x .a))) (s .pre .0 .few) (count-small n (x .a) (s .pre .0)) (l .a) (l .inv .0) (h .0)
+    counting-turn (s .pre .0 .few) (count-small (s .pre .0)) (l .inv .0) (h .0)
 
 step-on-requires-2 : tie.Need-step-on-requires-2 Inv-loop μ-loop
 step-on-requires-2 c κs =
@@ -68,7 +68,7 @@ step-on-requires-2 c κs =
     let n = s .args .numbers .now in
     let x = s .args .x in
     let h = four-going (l .a) (x .a) (l .b) (x .b) (l .c) (x .c) (l .d) (x .d) (t .before .going-four .ensures) (t .if1 .taken) in
-    counting-turn n (x .b .end) (length (chainOf n (x .b))) (s .pre .1 .few) (count-small n (x .b) (s .pre .1)) (l .b) (l .inv .1) (h .1)
+    counting-turn (s .pre .1 .few) (count-small (s .pre .1)) (l .inv .1) (h .1)
 
 step-on-requires-3 : tie.Need-step-on-requires-3 Inv-loop μ-loop
 step-on-requires-3 c κs =
@@ -78,7 +78,7 @@ step-on-requires-3 c κs =
     let n = s .args .numbers .now in
     let x = s .args .x in
     let h = four-going (l .a) (x .a) (l .b) (x .b) (l .c) (x .c) (l .d) (x .d) (t .before .going-four .ensures) (t .if1 .taken) in
-    counting-turn n (x .c .end) (length (chainOf n (x .c))) (s .pre .2 .few) (count-small n (x .c) (s .pre .2)) (l .c) (l .inv .2) (h .2)
+    counting-turn (s .pre .2 .few) (count-small (s .pre .2)) (l .inv .2) (h .2)
 
 step-on-requires-4 : tie.Need-step-on-requires-4 Inv-loop μ-loop
 step-on-requires-4 c κs =
@@ -88,7 +88,7 @@ step-on-requires-4 c κs =
     let n = s .args .numbers .now in
     let x = s .args .x in
     let h = four-going (l .a) (x .a) (l .b) (x .b) (l .c) (x .c) (l .d) (x .d) (t .before .going-four .ensures) (t .if1 .taken) in
-    counting-turn n (x .d .end) (length (chainOf n (x .d))) (s .pre .3 .few) (count-small n (x .d) (s .pre .3)) (l .d) (l .inv .3) (h .3)
+    counting-turn (s .pre .3 .few) (count-small (s .pre .3)) (l .inv .3) (h .3)
 
 loop-less : tie.Need-loop-less Inv-loop μ-loop
 loop-less c =
@@ -108,10 +108,10 @@ loop-again c =
     let n = s .args .numbers .now in
     let x = s .args .x in
     let h = four-going (l .a) (x .a) (l .b) (x .b) (l .c) (x .c) (l .d) (x .d) (t .before .going-four .ensures) (t .if1 .taken) in (
-      counting-next n (x .a .end) (length (chainOf n (x .a))) (s .pre .0 .few) (count-small n (x .a) (s .pre .0)) (l .a) (l .inv .0) (h .0) (c .before .before .before .step-on .ensures),
-      counting-next n (x .b .end) (length (chainOf n (x .b))) (s .pre .1 .few) (count-small n (x .b) (s .pre .1)) (l .b) (l .inv .1) (h .1) (c .before .before .step-on2 .ensures),
-      counting-next n (x .c .end) (length (chainOf n (x .c))) (s .pre .2 .few) (count-small n (x .c) (s .pre .2)) (l .c) (l .inv .2) (h .2) (c .before .step-on3 .ensures),
-      counting-next n (x .d .end) (length (chainOf n (x .d))) (s .pre .3 .few) (count-small n (x .d) (s .pre .3)) (l .d) (l .inv .3) (h .3) (c .step-on4 .ensures),
+      counting-next (s .pre .0 .few) (count-small (s .pre .0)) (l .inv .0) (h .0) (c .before .before .before .step-on .ensures),
+      counting-next (s .pre .1 .few) (count-small (s .pre .1)) (l .inv .1) (h .1) (c .before .before .step-on2 .ensures),
+      counting-next (s .pre .2 .few) (count-small (s .pre .2)) (l .inv .2) (h .2) (c .before .step-on3 .ensures),
+      counting-next (s .pre .3 .few) (count-small (s .pre .3)) (l .inv .3) (h .3) (c .step-on4 .ensures),
     )
 
 count-on-requires : tie.Need-count-on-requires Inv-loop μ-loop
@@ -121,7 +121,7 @@ count-on-requires c κs =
     let s = t .before .before .before .before .before .before .before .before .before .before .before .before in
     let n = s .args .numbers .now in
     let x = s .args .x in
-    counting-rest n (x .a .end) (length (chainOf n (x .a))) (s .pre .0 .few) (count-small n (x .a) (s .pre .0)) (l .a) (l .inv .0)
+    counting-rest (s .pre .0 .few) (count-small (s .pre .0)) (l .inv .0)
 
 count-on-requires-2 : tie.Need-count-on-requires-2 Inv-loop μ-loop
 count-on-requires-2 c κs =
@@ -130,7 +130,7 @@ count-on-requires-2 c κs =
     let s = t .before .before .before .before .before .before .before .before .before .before .before .before in
     let n = s .args .numbers .now in
     let x = s .args .x in
-    counting-rest n (x .b .end) (length (chainOf n (x .b))) (s .pre .1 .few) (count-small n (x .b) (s .pre .1)) (l .b) (l .inv .1)
+    counting-rest (s .pre .1 .few) (count-small (s .pre .1)) (l .inv .1)
 
 count-on-requires-3 : tie.Need-count-on-requires-3 Inv-loop μ-loop
 count-on-requires-3 c κs =
@@ -139,7 +139,7 @@ count-on-requires-3 c κs =
     let s = t .before .before .before .before .before .before .before .before .before .before .before .before in
     let n = s .args .numbers .now in
     let x = s .args .x in
-    counting-rest n (x .c .end) (length (chainOf n (x .c))) (s .pre .2 .few) (count-small n (x .c) (s .pre .2)) (l .c) (l .inv .2)
+    counting-rest (s .pre .2 .few) (count-small (s .pre .2)) (l .inv .2)
 
 count-on-requires-4 : tie.Need-count-on-requires-4 Inv-loop μ-loop
 count-on-requires-4 c κs =
@@ -148,7 +148,7 @@ count-on-requires-4 c κs =
     let s = t .before .before .before .before .before .before .before .before .before .before .before .before in
     let n = s .args .numbers .now in
     let x = s .args .x in
-    counting-rest n (x .d .end) (length (chainOf n (x .d))) (s .pre .3 .few) (count-small n (x .d) (s .pre .3)) (l .d) (l .inv .3)
+    counting-rest (s .pre .3 .few) (count-small (s .pre .3)) (l .inv .3)
 
 returns : tie.Need-returns Inv-loop μ-loop
 returns c =

@@ -23,7 +23,7 @@ going-requires c κs =
     let s = c .before .before in
     let n = s .args .numbers .now in
     let w = s .args .s .k + length (chain n (s .args .end) (s .args .s .i) (s .args .s .j)) in
-    counting-low n (s .args .end) w (s .pre .0) (s .pre .2) (l .a) (l .inv)
+    counting-low (s .pre .0) (s .pre .2) (l .inv)
 
 step-on-requires : tie.Need-step-on-requires Inv-loop μ-loop
 step-on-requires c κs =
@@ -31,7 +31,7 @@ step-on-requires c κs =
     let s = c .before .before .before .before in
     let n = s .args .numbers .now in
     let w = s .args .s .k + length (chain n (s .args .end) (s .args .s .i) (s .args .s .j)) in
-    counting-turn n (s .args .end) w (s .pre .0) (s .pre .2) (l .a) (l .inv) (sym (c .before .going .ensures) ∙ c .if1 .taken)
+    counting-turn (s .pre .0) (s .pre .2) (l .inv) (sym (c .before .going .ensures) ∙ c .if1 .taken)
 
 loop-less : tie.Need-loop-less Inv-loop μ-loop
 loop-less c =
@@ -47,7 +47,7 @@ loop-again c =
     let s = c .before .before .before .before .before in
     let n = s .args .numbers .now in
     let w = s .args .s .k + length (chain n (s .args .end) (s .args .s .i) (s .args .s .j)) in
-    counting-next n (s .args .end) w (s .pre .0) (s .pre .2) (l .a) (l .inv) (sym (c .before .before .going .ensures) ∙ c .before .if1 .taken) (c .step-on .ensures)
+    counting-next (s .pre .0) (s .pre .2) (l .inv) (sym (c .before .before .going .ensures) ∙ c .before .if1 .taken) (c .step-on .ensures)
 
 returns : tie.Need-returns Inv-loop μ-loop
 returns c =
@@ -55,7 +55,7 @@ returns c =
     let s = c .before .before .before .before in
     let n = s .args .numbers .now in
     let w = s .args .s .k + length (chain n (s .args .end) (s .args .s .i) (s .args .s .j)) in
-    counting-end n (s .args .end) w (s .pre .0) (s .pre .2) (l .a) (l .inv) (sym (c .before .going .ensures) ∙ c .if1 .left)
+    counting-end (s .pre .0) (s .pre .2) (l .inv) (sym (c .before .going .ensures) ∙ c .if1 .left)
 
 pub count-on-spec : {M : Type 1} → statement M
 count-on-spec =

@@ -15,14 +15,14 @@ count-on-requires c κs =
     let s = c .before .before in
     let n = s .args .numbers .now in
     let x = s .args .x in
-    counting-rest n (x .end) (length (chainOf n x)) (s .pre .few) (count-small n x (s .pre)) (c .start .result) (counting-start n x (s .pre) (c .start .ensures))
+    counting-rest (s .pre .few) (count-small (s .pre)) (counting-start (s .pre) (c .start .ensures))
 
 returns : tie.Need-returns
 returns c =
     let s = c .before .before .before in
     let n = s .args .numbers .now in
     let x = s .args .x in
-    c .count-on .ensures ∙ counting-start n x (s .pre) (c .before .start .ensures) .count
+    c .count-on .ensures ∙ counting-start (s .pre) (c .before .start .ensures) .count
 
 pub count-one-spec : {M : Type 1} → statement M
 count-one-spec =

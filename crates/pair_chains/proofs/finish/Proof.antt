@@ -31,7 +31,7 @@ step-requires c κs =
     let s = t .before .before .before .before in
     let h = ltb-true (l .a .i + l .a .j) (s .args .end) (sym (t .before .going .ensures) ∙ t .if1 .taken) in
     let n = runs-next (s .args .numbers .now) (s .args .end) (l .inv .runs) h in
-    (s .pre .0, n .left, n .right, stands-room (s .args .points .now) (s .args .numbers .now) (s .args .end) (l .a) (l .inv) h (s .pre .2))
+    (s .pre .0, n .left, n .right, stands-room (s .args .points .now) (s .args .numbers .now) (s .args .end) (l .inv) h (s .pre .2))
 
 loop-less : tie.Need-loop-less Inv-loop μ-loop
 loop-less c =
@@ -47,7 +47,7 @@ loop-again c =
     let l = t .before .before .loop in
     let s = t .before .before .before .before in
     let h = ltb-true (l .a .i + l .a .j) (s .args .end) (sym (t .before .going .ensures) ∙ t .if1 .taken) in
-    stands-next (s .args .points .now) (s .args .numbers .now) (s .args .end) (l .a) (l .inv) h (c .before .step .ensures .0) (c .before .step .ensures .1)
+    stands-next (s .args .points .now) (s .args .numbers .now) (s .args .end) (l .inv) h (c .before .step .ensures .0) (c .before .step .ensures .1)
 
 same-length : tie.Need-same-length Inv-loop μ-loop
 same-length c = c .before .before .loop .inv .put .put .size
@@ -56,7 +56,7 @@ returns : tie.Need-returns Inv-loop μ-loop
 returns c =
     let l = c .before .before .loop in
     let s = c .before .before .before .before in
-    stands-end (s .args .points .now) (s .args .numbers .now) (s .args .end) (l .a) (l .inv) (ltb-false (l .a .i + l .a .j) (s .args .end) (sym (c .before .going .ensures) ∙ c .if1 .left))
+    stands-end (s .args .points .now) (s .args .numbers .now) (s .args .end) (l .inv) (ltb-false (l .a .i + l .a .j) (s .args .end) (sym (c .before .going .ensures) ∙ c .if1 .left))
 
 pub finish-spec : {M : Type 1} → statement M
 finish-spec =

@@ -41,10 +41,10 @@ going-four-requires c κs =
     let s = c .before .before .before .before .before .before .before .before .before .before in
     let g = s .args in
     let l = c .loop in (
-      of-low (g .points .now) (g .numbers .now) (g .x .a) (l .a) (l .inv .0) (s .pre .0),
-      of-low (g .points .now) (g .numbers .now) (g .x .b) (l .b) (l .inv .1) (s .pre .0),
-      of-low (g .points .now) (g .numbers .now) (g .x .c) (l .c) (l .inv .2) (s .pre .0),
-      of-low (g .points .now) (g .numbers .now) (g .x .d) (l .d) (l .inv .3) (s .pre .0),
+      of-low (g .points .now) (g .numbers .now) (g .x .a) (l .inv .0) (s .pre .0),
+      of-low (g .points .now) (g .numbers .now) (g .x .b) (l .inv .1) (s .pre .0),
+      of-low (g .points .now) (g .numbers .now) (g .x .c) (l .inv .2) (s .pre .0),
+      of-low (g .points .now) (g .numbers .now) (g .x .d) (l .inv .3) (s .pre .0),
     )
 
 step-requires : tie.Need-step-requires Inv-loop μ-loop
@@ -54,7 +54,7 @@ step-requires c κs =
     let s = t .before .before .before .before .before .before .before .before .before .before .before .before in
     let g = s .args in
     let h = four-going (l .a) (g .x .a) (l .b) (g .x .b) (l .c) (g .x .c) (l .d) (g .x .d) (t .before .going-four .ensures) (t .if1 .taken) in
-    of-turn (g .points .now) (g .numbers .now) (g .x .a) (l .a) (l .inv .0) (s .pre .0) (s .pre .1 .first) (h .0)
+    of-turn (g .points .now) (g .numbers .now) (g .x .a) (l .inv .0) (s .pre .0) (s .pre .1 .first) (h .0)
 
 step-requires-2 : tie.Need-step-requires-2 Inv-loop μ-loop
 step-requires-2 c κs =
@@ -63,7 +63,7 @@ step-requires-2 c κs =
     let s = t .before .before .before .before .before .before .before .before .before .before .before .before in
     let g = s .args in
     let h = four-going (l .a) (g .x .a) (l .b) (g .x .b) (l .c) (g .x .c) (l .d) (g .x .d) (t .before .going-four .ensures) (t .if1 .taken) in
-    of-turn (g .points .now) (g .numbers .now) (g .x .b) (l .b) (l .inv .1) (s .pre .0) (s .pre .1 .second) (h .1)
+    of-turn (g .points .now) (g .numbers .now) (g .x .b) (l .inv .1) (s .pre .0) (s .pre .1 .second) (h .1)
 
 step-requires-3 : tie.Need-step-requires-3 Inv-loop μ-loop
 step-requires-3 c κs =
@@ -72,7 +72,7 @@ step-requires-3 c κs =
     let s = t .before .before .before .before .before .before .before .before .before .before .before .before in
     let g = s .args in
     let h = four-going (l .a) (g .x .a) (l .b) (g .x .b) (l .c) (g .x .c) (l .d) (g .x .d) (t .before .going-four .ensures) (t .if1 .taken) in
-    of-turn (g .points .now) (g .numbers .now) (g .x .c) (l .c) (l .inv .2) (s .pre .0) (s .pre .1 .third) (h .2)
+    of-turn (g .points .now) (g .numbers .now) (g .x .c) (l .inv .2) (s .pre .0) (s .pre .1 .third) (h .2)
 
 step-requires-4 : tie.Need-step-requires-4 Inv-loop μ-loop
 step-requires-4 c κs =
@@ -81,7 +81,7 @@ step-requires-4 c κs =
     let s = t .before .before .before .before .before .before .before .before .before .before .before .before in
     let g = s .args in
     let h = four-going (l .a) (g .x .a) (l .b) (g .x .b) (l .c) (g .x .c) (l .d) (g .x .d) (t .before .going-four .ensures) (t .if1 .taken) in
-    of-turn (g .points .now) (g .numbers .now) (g .x .d) (l .d) (l .inv .3) (s .pre .0) (s .pre .1 .fourth) (h .3)
+    of-turn (g .points .now) (g .numbers .now) (g .x .d) (l .inv .3) (s .pre .0) (s .pre .1 .fourth) (h .3)
 
 loop-less : tie.Need-loop-less Inv-loop μ-loop
 loop-less c =
@@ -99,10 +99,10 @@ loop-again c =
     let s = t .before .before .before .before .before .before .before .before .before .before .before .before in
     let g = s .args in
     let h = four-going (l .a) (g .x .a) (l .b) (g .x .b) (l .c) (g .x .c) (l .d) (g .x .d) (t .before .going-four .ensures) (t .if1 .taken) in (
-      of-next (g .points .now) (g .numbers .now) (g .x .a) (l .a) (l .inv .0) (h .0) (c .before .before .before .before .before .before .before .before .before .before .step .ensures .0) (c .before .before .before .before .before .before .before .before .before .before .step .ensures .1),
-      of-next (g .points .now) (g .numbers .now) (g .x .b) (l .b) (l .inv .1) (h .1) (c .before .before .before .before .before .before .before .step2 .ensures .0) (c .before .before .before .before .before .before .before .step2 .ensures .1),
-      of-next (g .points .now) (g .numbers .now) (g .x .c) (l .c) (l .inv .2) (h .2) (c .before .before .before .before .step3 .ensures .0) (c .before .before .before .before .step3 .ensures .1),
-      of-next (g .points .now) (g .numbers .now) (g .x .d) (l .d) (l .inv .3) (h .3) (c .before .step4 .ensures .0) (c .before .step4 .ensures .1),
+      of-next (g .points .now) (g .numbers .now) (g .x .a) (l .inv .0) (h .0) (c .before .before .before .before .before .before .before .before .before .before .step .ensures .0) (c .before .before .before .before .before .before .before .before .before .before .step .ensures .1),
+      of-next (g .points .now) (g .numbers .now) (g .x .b) (l .inv .1) (h .1) (c .before .before .before .before .before .before .before .step2 .ensures .0) (c .before .before .before .before .before .before .before .step2 .ensures .1),
+      of-next (g .points .now) (g .numbers .now) (g .x .c) (l .inv .2) (h .2) (c .before .before .before .before .step3 .ensures .0) (c .before .before .before .before .step3 .ensures .1),
+      of-next (g .points .now) (g .numbers .now) (g .x .d) (l .inv .3) (h .3) (c .before .step4 .ensures .0) (c .before .step4 .ensures .1),
     )
 
 finish-requires : tie.Need-finish-requires Inv-loop μ-loop
@@ -111,7 +111,7 @@ finish-requires c κs =
     let l = t .before .before .loop in
     let s = t .before .before .before .before .before .before .before .before .before .before .before .before in
     let g = s .args in
-    of-rest (g .points .now) (g .numbers .now) (g .x .a) (l .a) (l .inv .0) (s .pre .0) (s .pre .1 .first)
+    of-rest (g .points .now) (g .numbers .now) (g .x .a) (l .inv .0) (s .pre .0) (s .pre .1 .first)
 
 finish-requires-2 : tie.Need-finish-requires-2 Inv-loop μ-loop
 finish-requires-2 c κs =
@@ -119,7 +119,7 @@ finish-requires-2 c κs =
     let l = t .before .before .loop in
     let s = t .before .before .before .before .before .before .before .before .before .before .before .before in
     let g = s .args in
-    of-rest (g .points .now) (g .numbers .now) (g .x .b) (l .b) (l .inv .1) (s .pre .0) (s .pre .1 .second)
+    of-rest (g .points .now) (g .numbers .now) (g .x .b) (l .inv .1) (s .pre .0) (s .pre .1 .second)
 
 finish-requires-3 : tie.Need-finish-requires-3 Inv-loop μ-loop
 finish-requires-3 c κs =
@@ -127,7 +127,7 @@ finish-requires-3 c κs =
     let l = t .before .before .loop in
     let s = t .before .before .before .before .before .before .before .before .before .before .before .before in
     let g = s .args in
-    of-rest (g .points .now) (g .numbers .now) (g .x .c) (l .c) (l .inv .2) (s .pre .0) (s .pre .1 .third)
+    of-rest (g .points .now) (g .numbers .now) (g .x .c) (l .inv .2) (s .pre .0) (s .pre .1 .third)
 
 finish-requires-4 : tie.Need-finish-requires-4 Inv-loop μ-loop
 finish-requires-4 c κs =
@@ -135,7 +135,7 @@ finish-requires-4 c κs =
     let l = t .before .before .loop in
     let s = t .before .before .before .before .before .before .before .before .before .before .before .before in
     let g = s .args in
-    of-rest (g .points .now) (g .numbers .now) (g .x .d) (l .d) (l .inv .3) (s .pre .0) (s .pre .1 .fourth)
+    of-rest (g .points .now) (g .numbers .now) (g .x .d) (l .inv .3) (s .pre .0) (s .pre .1 .fourth)
 
 same-length : tie.Need-same-length Inv-loop μ-loop
 same-length c = c .before .before .before .before .before .before .before .before .before .before .finish .ensures .size ∙ c .before .before .before .before .before .before .before .before .before .before .before .before .before .before .loop .inv .0 .put .put .size
@@ -155,10 +155,10 @@ returns c =
     let l = t .before .before .loop in
     let s = t .before .before .before .before .before .before .before .before .before .before .before .before in
     let g = s .args in (
-      of-done (g .points .now) (g .numbers .now) (g .x .a) (l .a) (l .inv .0) (c .before .before .before .before .before .before .before .before .before .before .finish .ensures),
-      of-done (g .points .now) (g .numbers .now) (g .x .b) (l .b) (l .inv .1) (c .before .before .before .before .before .before .before .finish2 .ensures),
-      of-done (g .points .now) (g .numbers .now) (g .x .c) (l .c) (l .inv .2) (c .before .before .before .before .finish3 .ensures),
-      of-done (g .points .now) (g .numbers .now) (g .x .d) (l .d) (l .inv .3) (c .before .finish4 .ensures),
+      of-done (g .points .now) (g .numbers .now) (g .x .a) (l .inv .0) (c .before .before .before .before .before .before .before .before .before .before .finish .ensures),
+      of-done (g .points .now) (g .numbers .now) (g .x .b) (l .inv .1) (c .before .before .before .before .before .before .before .finish2 .ensures),
+      of-done (g .points .now) (g .numbers .now) (g .x .c) (l .inv .2) (c .before .before .before .before .finish3 .ensures),
+      of-done (g .points .now) (g .numbers .now) (g .x .d) (l .inv .3) (c .before .finish4 .ensures),
     )
 
 pub merge-four-spec : {M : Type 1} → statement M

@@ -12,7 +12,7 @@ finish-requires c κs =
     let s = c .before .before .before in
     let g = s .args in
     let l = of-start (g .points .now) (g .numbers .now) (g .x) (s .pre .1) (c .before .start .ensures) in
-    of-rest (g .points .now) (g .numbers .now) (g .x) (c .before .start .result) l (s .pre .0) (s .pre .1)
+    of-rest (g .points .now) (g .numbers .now) (g .x) l (s .pre .0) (s .pre .1)
 
 same-length : tie.Need-same-length
 same-length c = search needs
@@ -22,7 +22,7 @@ returns c =
     let s = c .before .before .before .before .before in
     let g = s .args in
     let l = of-start (g .points .now) (g .numbers .now) (g .x) (s .pre .1) (c .before .before .before .start .ensures) in
-    of-done (g .points .now) (g .numbers .now) (g .x) (c .before .before .before .start .result) l (c .before .finish .ensures)
+    of-done (g .points .now) (g .numbers .now) (g .x) l (c .before .finish .ensures)
 
 pub merge-one-spec : {M : Type 1} → statement M
 merge-one-spec =

@@ -33,8 +33,8 @@ going-two-requires c κs =
     let s = c .before .before .before .before in
     let g = s .args in
     let l = c .loop in (
-      of-low (g .points .now) (g .numbers .now) (g .x) (l .a) (l .inv .0) (s .pre .0),
-      of-low (g .points .now) (g .numbers .now) (g .y) (l .b) (l .inv .1) (s .pre .0),
+      of-low (g .points .now) (g .numbers .now) (g .x) (l .inv .0) (s .pre .0),
+      of-low (g .points .now) (g .numbers .now) (g .y) (l .inv .1) (s .pre .0),
     )
 
 step-requires : tie.Need-step-requires Inv-loop μ-loop
@@ -44,7 +44,7 @@ step-requires c κs =
     let s = t .before .before .before .before .before .before in
     let g = s .args in
     let h = two-going (l .a) (g .x) (l .b) (g .y) (t .before .going-two .ensures) (t .if1 .taken) in
-    of-turn (g .points .now) (g .numbers .now) (g .x) (l .a) (l .inv .0) (s .pre .0) (s .pre .1) (h .0)
+    of-turn (g .points .now) (g .numbers .now) (g .x) (l .inv .0) (s .pre .0) (s .pre .1) (h .0)
 
 step-requires-2 : tie.Need-step-requires-2 Inv-loop μ-loop
 step-requires-2 c κs =
@@ -53,7 +53,7 @@ step-requires-2 c κs =
     let s = t .before .before .before .before .before .before in
     let g = s .args in
     let h = two-going (l .a) (g .x) (l .b) (g .y) (t .before .going-two .ensures) (t .if1 .taken) in
-    of-turn (g .points .now) (g .numbers .now) (g .y) (l .b) (l .inv .1) (s .pre .0) (s .pre .2) (h .1)
+    of-turn (g .points .now) (g .numbers .now) (g .y) (l .inv .1) (s .pre .0) (s .pre .2) (h .1)
 
 loop-less : tie.Need-loop-less Inv-loop μ-loop
 loop-less c =
@@ -71,8 +71,8 @@ loop-again c =
     let s = t .before .before .before .before .before .before in
     let g = s .args in
     let h = two-going (l .a) (g .x) (l .b) (g .y) (t .before .going-two .ensures) (t .if1 .taken) in (
-      of-next (g .points .now) (g .numbers .now) (g .x) (l .a) (l .inv .0) (h .0) (c .before .before .before .before .step .ensures .0) (c .before .before .before .before .step .ensures .1),
-      of-next (g .points .now) (g .numbers .now) (g .y) (l .b) (l .inv .1) (h .1) (c .before .step2 .ensures .0) (c .before .step2 .ensures .1),
+      of-next (g .points .now) (g .numbers .now) (g .x) (l .inv .0) (h .0) (c .before .before .before .before .step .ensures .0) (c .before .before .before .before .step .ensures .1),
+      of-next (g .points .now) (g .numbers .now) (g .y) (l .inv .1) (h .1) (c .before .step2 .ensures .0) (c .before .step2 .ensures .1),
     )
 
 finish-requires : tie.Need-finish-requires Inv-loop μ-loop
@@ -81,7 +81,7 @@ finish-requires c κs =
     let l = t .before .before .loop in
     let s = t .before .before .before .before .before .before in
     let g = s .args in
-    of-rest (g .points .now) (g .numbers .now) (g .x) (l .a) (l .inv .0) (s .pre .0) (s .pre .1)
+    of-rest (g .points .now) (g .numbers .now) (g .x) (l .inv .0) (s .pre .0) (s .pre .1)
 
 finish-requires-2 : tie.Need-finish-requires-2 Inv-loop μ-loop
 finish-requires-2 c κs =
@@ -89,7 +89,7 @@ finish-requires-2 c κs =
     let l = t .before .before .loop in
     let s = t .before .before .before .before .before .before in
     let g = s .args in
-    of-rest (g .points .now) (g .numbers .now) (g .y) (l .b) (l .inv .1) (s .pre .0) (s .pre .2)
+    of-rest (g .points .now) (g .numbers .now) (g .y) (l .inv .1) (s .pre .0) (s .pre .2)
 
 same-length : tie.Need-same-length Inv-loop μ-loop
 same-length c = c .before .before .before .before .finish .ensures .size ∙ c .before .before .before .before .before .before .before .before .loop .inv .0 .put .put .size
@@ -103,8 +103,8 @@ returns c =
     let l = t .before .before .loop in
     let s = t .before .before .before .before .before .before in
     let g = s .args in (
-      of-done (g .points .now) (g .numbers .now) (g .x) (l .a) (l .inv .0) (c .before .before .before .before .finish .ensures),
-      of-done (g .points .now) (g .numbers .now) (g .y) (l .b) (l .inv .1) (c .before .finish2 .ensures),
+      of-done (g .points .now) (g .numbers .now) (g .x) (l .inv .0) (c .before .before .before .before .finish .ensures),
+      of-done (g .points .now) (g .numbers .now) (g .y) (l .inv .1) (c .before .finish2 .ensures),
     )
 
 pub merge-two-spec : {M : Type 1} → statement M

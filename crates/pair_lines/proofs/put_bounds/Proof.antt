@@ -75,7 +75,7 @@ returns c =
     let p1 = p2 .before .before .before .before .before .before in
     let s = p1 .before .before .before .before .before .args .bounds in
     let fits = p1 .before .struct-told .given in
-    bounds-pieces s (kept (search (needs, fits))) (kept (search (needs, fits))) (kept (search (needs, fits))) (kept (search (needs, fits))) (omega arith)
+    bounds-pieces (kept (search (needs, fits))) (kept (search (needs, fits))) (kept (search (needs, fits))) (kept (search (needs, fits))) (omega arith)
     (p1 .put-word-signed .ensures) (p2 .put-word-signed2 .ensures) (p3 .put-word-signed3 .ensures) (c .before .before .put-word-signed4 .ensures)
 
 pub put-bounds-spec : {M : Type 1} → statement M

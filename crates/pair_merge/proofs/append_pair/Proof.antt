@@ -20,7 +20,7 @@ rest-requires : tie.Need-rest-requires
 rest-requires c κs =
     let s = c .before .before .before .before .before .before in
     let m = c .before .before .merge in
-    (m .ensures .0 .0, s .pre .0 .grid, m .ensures .0 .1, s .pre .1 .grid, first-room (s .args .a .now) (s .args .b .now) (s .pre .0) (s .pre .1) (m .result .i) (m .result .j) (m .ensures .0 .0) (m .ensures .0 .1) (m .ensures .0 .2) (m .ensures .1) (s .pre .2))
+    (m .ensures .0 .0, s .pre .0 .grid, m .ensures .0 .1, s .pre .1 .grid, first-room (s .pre .0) (s .pre .1) (m .ensures .0 .0) (m .ensures .0 .1) (m .ensures .0 .2) (m .ensures .1) (s .pre .2))
 
 sub-rest : tie.Need-sub-rest
 sub-rest c = search needs
@@ -29,7 +29,7 @@ rest-requires-2 : tie.Need-rest-requires-2
 rest-requires-2 c κs =
     let s = c .before .before .before .before .before .before .before .before .before in
     let m = c .before .before .before .before .before .merge in
-    (m .ensures .0 .1, s .pre .1 .grid, omega (arith, m .ensures .0 .0), s .pre .0 .grid, second-room (s .args .a .now) (s .args .b .now) (s .pre .0) (s .pre .1) (m .result .i) (m .result .j) (m .ensures .0 .0) (m .ensures .0 .1) (m .ensures .0 .2) (m .ensures .1) (c .before .before .rest .ensures) (s .pre .2))
+    (m .ensures .0 .1, s .pre .1 .grid, omega (arith, m .ensures .0 .0), s .pre .0 .grid, second-room (s .pre .0) (s .pre .1) (m .ensures .0 .0) (m .ensures .0 .1) (m .ensures .0 .2) (m .ensures .1) (c .before .before .rest .ensures) (s .pre .2))
 
 same-length : tie.Need-same-length
 same-length c = c .before .rest2 .ensures .size ∙ c .before .before .before .before .rest .ensures .size ∙ c .before .before .before .before .before .before .before .merge .ensures .1 .put .size
@@ -38,7 +38,7 @@ returns-3 : tie.Need-returns-3
 returns-3 c =
     let s = c .before .before .before .before .before .before .before .before .before .before .before in
     let m = c .before .before .before .before .before .before .before .merge in
-    both-put (s .args .a .now) (s .args .b .now) (s .pre .0) (s .pre .1) (m .result .i) (m .result .j) (m .ensures .0 .0) (m .ensures .0 .1) (m .ensures .0 .2) (m .ensures .1) (c .before .before .before .before .rest .ensures) (c .before .rest2 .ensures)
+    both-put (s .pre .0) (s .pre .1) (m .ensures .0 .0) (m .ensures .0 .1) (m .ensures .0 .2) (m .ensures .1) (c .before .before .before .before .rest .ensures) (c .before .rest2 .ensures)
 
 pub append-pair-spec : {M : Type 1} → statement M
 append-pair-spec =

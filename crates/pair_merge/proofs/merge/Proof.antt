@@ -42,7 +42,7 @@ put-sum-requires c κs =
     let l = c .before .before .before .loop in
     let f = c .before .before .loop-test .taken in
     let g = c .before .if1 .left in
-    (l .inv .0, s .pre .1 .grid, l .inv .1, s .pre .3 .grid, turn-room (s .args .a .now) (s .args .b .now) (s .pre .1) (s .pre .3) (l .i) (l .j) (omega (arith, f)) (omega (arith, g, l .inv .1)) (l .inv .2) (s .pre .4))
+    (l .inv .0, s .pre .1 .grid, l .inv .1, s .pre .3 .grid, turn-room (s .pre .1) (s .pre .3) (l .i) (l .j) (omega (arith, f)) (omega (arith, g, l .inv .1)) (l .inv .2) (s .pre .4))
 
 add-k : tie.Need-add-k Inv-loop μ-loop
 add-k c =
@@ -50,7 +50,7 @@ add-k c =
     let l = c .before .before .before .before .before .loop in
     let f = c .before .before .before .before .loop-test .taken in
     let g = c .before .before .before .if1 .left in
-    omega (arith, turn-room (s .args .a .now) (s .args .b .now) (s .pre .1) (s .pre .3) (l .i) (l .j) (omega (arith, f)) (omega (arith, g, l .inv .1)) (l .inv .2) (s .pre .4), l .inv .2 .put .size)
+    omega (arith, turn-room (s .pre .1) (s .pre .3) (l .i) (l .j) (omega (arith, f)) (omega (arith, g, l .inv .1)) (l .inv .2) (s .pre .4), l .inv .2 .put .size)
 
 edge-cmp-requires : tie.Need-edge-cmp-requires Inv-loop μ-loop
 edge-cmp-requires c κs =
@@ -80,7 +80,7 @@ loop-again c =
     let l = c .before .before .before .before .before .before .before .before .loop in
     let f = c .before .before .before .before .before .before .before .loop-test .taken in
     let g = c .before .before .before .before .before .before .if1 .left in
-    (omega (arith, f), l .inv .1, turn-less (s .args .a .now) (s .args .b .now) (s .pre .1) (s .pre .3) (l .i) (l .j) (omega (arith, f)) (omega (arith, g, l .inv .1)) (l .inv .2) (c .before .before .before .before .put-sum .ensures) (sym (c .before .before .edge-cmp .ensures) ∙ c .enum-told .given .1))
+    (omega (arith, f), l .inv .1, turn-less (s .pre .1) (s .pre .3) (l .i) (l .j) (omega (arith, f)) (omega (arith, g, l .inv .1)) (l .inv .2) (c .before .before .before .before .put-sum .ensures) (sym (c .before .before .edge-cmp .ensures) ∙ c .enum-told .given .1))
 
 enum-told-2 : tie.Need-enum-told-2 Inv-loop μ-loop
 enum-told-2 c = search needs
@@ -102,7 +102,7 @@ loop-again-2 c =
     let l = c .before .before .before .before .before .before .before .before .loop in
     let f = c .before .before .before .before .before .before .before .loop-test .taken in
     let g = c .before .before .before .before .before .before .if1 .left in
-    (l .inv .0, omega (arith, g, l .inv .1), turn-greater (s .args .a .now) (s .args .b .now) (s .pre .1) (s .pre .3) (l .i) (l .j) (omega (arith, f)) (omega (arith, g, l .inv .1)) (l .inv .2) (c .before .before .before .before .put-sum .ensures) (sym (c .before .before .edge-cmp .ensures) ∙ c .enum-told2 .given .1))
+    (l .inv .0, omega (arith, g, l .inv .1), turn-greater (s .pre .1) (s .pre .3) (l .i) (l .j) (omega (arith, f)) (omega (arith, g, l .inv .1)) (l .inv .2) (c .before .before .before .before .put-sum .ensures) (sym (c .before .before .edge-cmp .ensures) ∙ c .enum-told2 .given .1))
 
 enum-told-3 : tie.Need-enum-told-3 Inv-loop μ-loop
 enum-told-3 c = search needs
@@ -142,7 +142,7 @@ loop-again-3 c =
     let g = p1 .if1 .left in (
       omega (arith, f),
       omega (arith, g, l .inv .1),
-      turn-both (s .args .a .now) (s .args .b .now) (s .pre .1) (s .pre .3) (l .i) (l .j) (omega (arith, f)) (omega (arith, g, l .inv .1)) (l .inv .2)
+      turn-both (s .pre .1) (s .pre .3) (l .i) (l .j) (omega (arith, f)) (omega (arith, g, l .inv .1)) (l .inv .2)
           (p2 .put-sum .ensures) (sym (p3 .edge-cmp .ensures) ∙ p4 .enum-told3 .given .1) (sym (c .before .second-next .ensures) ∙ c .if2 .taken),
     )
 
@@ -167,7 +167,7 @@ loop-again-4 c =
     let g = p1 .if1 .left in (
       omega (arith, f),
       l .inv .1,
-      turn-first (s .args .a .now) (s .args .b .now) (s .pre .1) (s .pre .3) (l .i) (l .j) (omega (arith, f)) (omega (arith, g, l .inv .1))
+      turn-first (s .pre .1) (s .pre .3) (l .i) (l .j) (omega (arith, f)) (omega (arith, g, l .inv .1))
           (l .inv .2) (p2 .put-sum .ensures) (sym (p3 .edge-cmp .ensures) ∙ p4 .enum-told3 .given .1)
           (sym (c .before .second-next .ensures) ∙ c .if2 .left),
     )

@@ -30,109 +30,109 @@ shared-slice-read-from : tie.Need-shared-slice-read-from Inv-loop μ-loop
 shared-slice-read-from c =
     let s = c .before .before .before .before .before in
     let l = c .before .before .loop in
-    let p = walk-placed (s .args .firsts .now) (s .args .points .now) (s .args .left + s .args .right) (l .n) (s .pre .walks) (c .before .loop-test .taken) in
-    omega (arith, firsts-enough (s .args .firsts .now) (s .args .points .now) (s .args .left + s .args .right) (l .n) (s .pre .walks) (c .before .loop-test .taken))
+    let p = walk-placed (s .pre .walks) (c .before .loop-test .taken) in
+    omega (arith, firsts-enough (s .pre .walks) (c .before .loop-test .taken))
 
 cast-from : tie.Need-cast-from Inv-loop μ-loop
 cast-from c =
     let s = c .before .before .before .before .before in
     let l = c .before .before .loop in
-    let p = walk-placed (s .args .firsts .now) (s .args .points .now) (s .args .left + s .args .right) (l .n) (s .pre .walks) (c .before .loop-test .taken) in
+    let p = walk-placed (s .pre .walks) (c .before .loop-test .taken) in
     record { fits = omega (arith, p .rises, p .within, s .pre .few) }
 
 add-to : tie.Need-add-to Inv-loop μ-loop
 add-to c =
     let s = c .before .before .before .before .before in
     let l = c .before .before .loop in
-    let p = walk-placed (s .args .firsts .now) (s .args .points .now) (s .args .left + s .args .right) (l .n) (s .pre .walks) (c .before .loop-test .taken) in
+    let p = walk-placed (s .pre .walks) (c .before .loop-test .taken) in
     record { fits = omega (arith, s .pre .counted, c .before .loop-test .taken) }
 
 mul-to : tie.Need-mul-to Inv-loop μ-loop
 mul-to c =
     let s = c .before .before .before .before .before in
     let l = c .before .before .loop in
-    let p = walk-placed (s .args .firsts .now) (s .args .points .now) (s .args .left + s .args .right) (l .n) (s .pre .walks) (c .before .loop-test .taken) in
+    let p = walk-placed (s .pre .walks) (c .before .loop-test .taken) in
     record { fits = omega (arith, s .pre .counted, c .before .loop-test .taken) }
 
 shared-slice-read-to : tie.Need-shared-slice-read-to Inv-loop μ-loop
 shared-slice-read-to c =
     let s = c .before .before .before .before .before .before in
     let l = c .before .before .before .loop in
-    let p = walk-placed (s .args .firsts .now) (s .args .points .now) (s .args .left + s .args .right) (l .n) (s .pre .walks) (c .before .before .loop-test .taken) in
-    omega (arith, firsts-enough (s .args .firsts .now) (s .args .points .now) (s .args .left + s .args .right) (l .n) (s .pre .walks) (c .before .before .loop-test .taken))
+    let p = walk-placed (s .pre .walks) (c .before .before .loop-test .taken) in
+    omega (arith, firsts-enough (s .pre .walks) (c .before .before .loop-test .taken))
 
 cast-to : tie.Need-cast-to Inv-loop μ-loop
 cast-to c =
     let s = c .before .before .before .before .before .before in
     let l = c .before .before .before .loop in
-    let p = walk-placed (s .args .firsts .now) (s .args .points .now) (s .args .left + s .args .right) (l .n) (s .pre .walks) (c .before .before .loop-test .taken) in
+    let p = walk-placed (s .pre .walks) (c .before .before .loop-test .taken) in
     record { fits = omega (arith, p .rises, p .within, s .pre .few) }
 
 mul-put-numbers : tie.Need-mul-put-numbers Inv-loop μ-loop
 mul-put-numbers c =
     let s = c .before .before .before .before .before .before in
     let l = c .before .before .before .loop in
-    let p = walk-placed (s .args .firsts .now) (s .args .points .now) (s .args .left + s .args .right) (l .n) (s .pre .walks) (c .before .before .loop-test .taken) in
+    let p = walk-placed (s .pre .walks) (c .before .before .loop-test .taken) in
     record { fits = omega (arith, p .rises, p .within, s .pre .few) }
 
 sub-put-numbers : tie.Need-sub-put-numbers Inv-loop μ-loop
 sub-put-numbers c =
     let s = c .before .before .before .before .before .before in
     let l = c .before .before .before .loop in
-    let p = walk-placed (s .args .firsts .now) (s .args .points .now) (s .args .left + s .args .right) (l .n) (s .pre .walks) (c .before .before .loop-test .taken) in
+    let p = walk-placed (s .pre .walks) (c .before .before .loop-test .taken) in
     p .rises
 
 part-put-numbers-start : tie.Need-part-put-numbers-start Inv-loop μ-loop
 part-put-numbers-start c =
     let s = c .before .before .before .before .before .before in
     let l = c .before .before .before .loop in
-    let p = walk-placed (s .args .firsts .now) (s .args .points .now) (s .args .left + s .args .right) (l .n) (s .pre .walks) (c .before .before .loop-test .taken) in
+    let p = walk-placed (s .pre .walks) (c .before .before .loop-test .taken) in
     omega (arith, p .rises, p .within)
 
 part-put-numbers-end : tie.Need-part-put-numbers-end Inv-loop μ-loop
 part-put-numbers-end c =
     let s = c .before .before .before .before .before .before in
     let l = c .before .before .before .loop in
-    let p = walk-placed (s .args .firsts .now) (s .args .points .now) (s .args .left + s .args .right) (l .n) (s .pre .walks) (c .before .before .loop-test .taken) in
+    let p = walk-placed (s .pre .walks) (c .before .before .loop-test .taken) in
     omega (arith, p .rises, p .within)
 
 mul-put-numbers-2 : tie.Need-mul-put-numbers-2 Inv-loop μ-loop
 mul-put-numbers-2 c =
     let s = c .before .before .before .before .before .before .before in
     let l = c .before .before .before .before .loop in
-    let p = walk-placed (s .args .firsts .now) (s .args .points .now) (s .args .left + s .args .right) (l .n) (s .pre .walks) (c .before .before .before .loop-test .taken) in
+    let p = walk-placed (s .pre .walks) (c .before .before .before .loop-test .taken) in
     record { fits = omega (arith, p .rises, p .within, s .pre .few) }
 
 sub-put-numbers-2 : tie.Need-sub-put-numbers-2 Inv-loop μ-loop
 sub-put-numbers-2 c =
     let s = c .before .before .before .before .before .before .before in
     let l = c .before .before .before .before .loop in
-    let p = walk-placed (s .args .firsts .now) (s .args .points .now) (s .args .left + s .args .right) (l .n) (s .pre .walks) (c .before .before .before .loop-test .taken) in
+    let p = walk-placed (s .pre .walks) (c .before .before .before .loop-test .taken) in
     p .rises
 
 part-put-numbers-start-2 : tie.Need-part-put-numbers-start-2 Inv-loop μ-loop
 part-put-numbers-start-2 c =
     let s = c .before .before .before .before .before .before .before in
     let l = c .before .before .before .before .loop in
-    let p = walk-placed (s .args .firsts .now) (s .args .points .now) (s .args .left + s .args .right) (l .n) (s .pre .walks) (c .before .before .before .loop-test .taken) in
+    let p = walk-placed (s .pre .walks) (c .before .before .before .loop-test .taken) in
     omega (arith, p .rises, p .within, s .pre .room, l .inv .1)
 
 part-put-numbers-end-2 : tie.Need-part-put-numbers-end-2 Inv-loop μ-loop
 part-put-numbers-end-2 c =
     let s = c .before .before .before .before .before .before .before in
     let l = c .before .before .before .before .loop in
-    let p = walk-placed (s .args .firsts .now) (s .args .points .now) (s .args .left + s .args .right) (l .n) (s .pre .walks) (c .before .before .before .loop-test .taken) in
+    let p = walk-placed (s .pre .walks) (c .before .before .before .loop-test .taken) in
     omega (arith, p .rises, p .within, s .pre .room, l .inv .1)
 
 put-numbers-requires : tie.Need-put-numbers-requires Inv-loop μ-loop
 put-numbers-requires c κs =
     let s = c .before .before .before .before .before .before .before .before in
     let l = c .before .before .before .before .before .loop in
-    let p = walk-placed (s .args .firsts .now) (s .args .points .now) (s .args .left + s .args .right) (l .n) (s .pre .walks) (c .before .before .before .before .loop-test .taken) in
+    let p = walk-placed (s .pre .walks) (c .before .before .before .before .loop-test .taken) in
     let a = s .args in
     let from = getD (a .firsts .now) (l .n) 0 in
     let many = getD (a .firsts .now) (l .n + 1) 0 - from in (
-      walk-ready (a .firsts .now) (a .points .now) (a .left + a .right) (l .n) (s .pre .walks) (c .before .before .before .before .loop-test .taken),
+      walk-ready (s .pre .walks) (c .before .before .before .before .loop-test .taken),
       omega (arith, s .pre .few, length-take many (drop from (a .points .now)), length-drop from (a .points .now)),
       omega (arith, p .rises, p .within, s .pre .room, l .inv .1, length-take many (drop from (a .points .now)), length-drop from (a .points .now), length-take many (drop from (l .numbers)), length-drop from (l .numbers)),
     )
@@ -155,7 +155,7 @@ loop-again c =
     let l = c .before .before .before .before .before .before .before .before .loop in
     let a = s .args in
     let t = c .before .before .before .before .before .before .before .loop-test .taken in
-    (omega (arith, t), c .before .numbers .given .1 ∙ l .inv .1, numbered-more (a .firsts .now) (a .points .now) (a .left + a .right) (a .left) (l .n) (s .pre .walks) t (l .numbers) _ (omega (arith, s .pre .room, l .inv .1)) (l .inv .2) (c .before .before .put-numbers .ensures))
+    (omega (arith, t), c .before .numbers .given .1 ∙ l .inv .1, numbered-more (a .left) (s .pre .walks) t (l .numbers) _ (omega (arith, s .pre .room, l .inv .1)) (l .inv .2) (c .before .before .put-numbers .ensures))
 
 same-length : tie.Need-same-length Inv-loop μ-loop
 same-length c = c .before .loop .inv .1

@@ -40,7 +40,7 @@ loop-again c =
     let l = c .before .before .loop in
     let r = c .number-of .result in
     let h : l .i < length (s .args .a .now) = omega (arith, c .before .loop-test .taken) in
-    (omega arith, length-set (l .out) (l .i) r ∙ l .inv .1, filled (numberOf (s .args .first) (pointsIn (s .args .a .now))) (l .out) (omega (arith, l .inv .1)) (l .inv .2) (c .number-of .ensures))
+    (omega arith, length-set (l .out) (l .i) r ∙ l .inv .1, filled (l .out) (omega (arith, l .inv .1)) (l .inv .2) (c .number-of .ensures))
 
 same-length : tie.Need-same-length Inv-loop μ-loop
 same-length c = c .before .loop .inv .1 ∙ sym (c .before .before .before .pre .2)

@@ -24,7 +24,7 @@ returns : tie.Need-returns
 returns c =
     let s = c .before .before .before .before in
     let a = s .args in
-    added-repeated (point (a .r)) (a .from) (a .points .now) (a .count) (s .pre .0)
+    added-repeated (point (a .r)) (s .pre .0)
     (c .before .same-point .ensures ∙ ap (λ q. eqPt q (point (a .r))) (c .before .before .point-at .ensures)) (c .if1 .taken)
 
 goes-on-requires : tie.Need-goes-on-requires
@@ -43,7 +43,7 @@ returns-2 : tie.Need-returns-2
 returns-2 c =
     let s = c .before .before .before .before .before .before .before .before .before .before in
     let a = s .args in
-    added-straight (point (a .r)) (a .from) (a .points .now) (a .count) (s .pre .0)
+    added-straight (point (a .r)) (s .pre .0)
     (c .before .before .before .before .before .before .before .same-point .ensures ∙ ap (λ q. eqPt q (point (a .r))) (c .before .before .before .before .before .before .before .before .point-at .ensures)) (c .before .before .before .before .before .before .if1 .left)
     (c .before .before .before .before .goes-on .ensures) (c .before .before .before .if2 .taken) (c .before .put-point .ensures)
 
@@ -60,7 +60,7 @@ returns-3 : tie.Need-returns-3
 returns-3 c =
     let s = c .before .before .before .before .before .before .before .before .before .before in
     let a = s .args in
-    added-turning (point (a .r)) (a .from) (a .points .now) (a .count) (s .pre .0)
+    added-turning (point (a .r)) (s .pre .0)
     (c .before .before .before .before .before .before .before .same-point .ensures ∙ ap (λ q. eqPt q (point (a .r))) (c .before .before .before .before .before .before .before .before .point-at .ensures)) (c .before .before .before .before .before .before .if1 .left)
     (c .before .before .before .before .goes-on .ensures) (c .before .before .before .if2 .left) (c .before .put-point2 .ensures)
 

@@ -34,16 +34,16 @@ loop-holds : tie.Need-loop-holds Inv-loop μ-loop
 loop-holds c = (refl, by-start _ _)
 
 div-placed-pair : tie.Need-div-placed-pair Inv-loop μ-loop
-div-placed-pair c = some-right _ _ _ _ _ (c .before .before .before .before .pre .0 .walkable) _ (c .loop-test .taken)
+div-placed-pair c = some-right (c .before .before .before .before .pre .0 .walkable) (c .loop-test .taken)
 
 rem-placed-pair : tie.Need-rem-placed-pair Inv-loop μ-loop
-rem-placed-pair c = some-right _ _ _ _ _ (c .before .before .before .before .pre .0 .walkable) _ (c .loop-test .taken)
+rem-placed-pair c = some-right (c .before .before .before .before .pre .0 .walkable) (c .loop-test .taken)
 
 placed-pair-requires : tie.Need-placed-pair-requires Inv-loop μ-loop
 placed-pair-requires c κs =
     let s = c .before .before .before .before .before in
     let l = c .before .before .loop in
-    (merging _ _ _ _ _ (s .pre .0 .walkable) _ (c .before .loop-test .taken) (omega (arith, s .pre .0 .for-corners, l .inv .0)), s .pre .1)
+    (merging (s .pre .0 .walkable) (c .before .loop-test .taken) (omega (arith, s .pre .0 .for-corners, l .inv .0)), s .pre .1)
 
 enum-told : tie.Need-enum-told Inv-loop μ-loop
 enum-told c = search needs
@@ -63,7 +63,7 @@ returns c =
     let l = c .before .before .before .before .before .before .loop in
     let w = s .pre .0 .walkable in
     let k = c .before .before .before .before .before .loop-test .taken in
-    overlapped _ _ (l .inv .1) (omega (arith, k, pairs-count _ _ _ _ _ w)) (ap (contactIn _) (pair-at _ _ _ _ _ w _ k) ∙ sym (c .before .before .before .placed-pair .ensures) ∙ c .enum-told3 .given .1)
+    overlapped _ _ (l .inv .1) (omega (arith, k, pairs-count w)) (ap (contactIn _) (pair-at w k) ∙ sym (c .before .before .before .placed-pair .ensures) ∙ c .enum-told3 .given .1)
 
 add-k : tie.Need-add-k Inv-loop μ-loop
 add-k c = omega (arith, c .before .before .before .before .before .before .before .before .pre .0 .walkable .few, c .before .before .before .before .loop-test .taken)
@@ -78,8 +78,8 @@ loop-again c =
     let w = s .pre .0 .walkable in
     let k = c .before .before .before .before .loop-test .taken in
     let ps = contoursIn (s .args .firsts .now) (s .args .points .now) (s .args .left) (s .args .right) in
-    let inside : l .k < length ps = omega (arith, k, pairs-count _ _ _ _ _ w) in
-    let told = ap (contactIn _) (pair-at _ _ _ _ _ w _ k) ∙ sym (c .before .before .placed-pair .ensures) in (
+    let inside : l .k < length ps = omega (arith, k, pairs-count w) in
+    let told = ap (contactIn _) (pair-at w k) ∙ sym (c .before .before .placed-pair .ensures) in (
       c .before .work .given ∙ l .inv .0,
       ⊎-elim
           (λ m. subst (ByTurn _ ps _) (sym (m .2)) (passed _ ps (l .inv .1) inside (told ∙ m .1 .given .1)))
@@ -91,13 +91,13 @@ same-length-2 : tie.Need-same-length-2 Inv-loop μ-loop
 same-length-2 c = c .before .before .loop .inv .0
 
 returns-2 : tie.Need-returns-2 Inv-loop μ-loop
-returns-2 c = by-flag (by-end _ _ (c .before .before .loop .inv .1) (omega (arith, c .before .loop-test .left, pairs-count _ _ _ _ _ (c .before .before .before .before .before .pre .0 .walkable)))) .0 (c .if1 .taken)
+returns-2 c = by-flag (by-end _ _ (c .before .before .loop .inv .1) (omega (arith, c .before .loop-test .left, pairs-count (c .before .before .before .before .before .pre .0 .walkable)))) .0 (c .if1 .taken)
 
 same-length-3 : tie.Need-same-length-3 Inv-loop μ-loop
 same-length-3 c = c .before .before .loop .inv .0
 
 returns-3 : tie.Need-returns-3 Inv-loop μ-loop
-returns-3 c = by-flag (by-end _ _ (c .before .before .loop .inv .1) (omega (arith, c .before .loop-test .left, pairs-count _ _ _ _ _ (c .before .before .before .before .before .pre .0 .walkable)))) .1 (c .if1 .left)
+returns-3 c = by-flag (by-end _ _ (c .before .before .loop .inv .1) (omega (arith, c .before .loop-test .left, pairs-count (c .before .before .before .before .before .pre .0 .walkable)))) .1 (c .if1 .left)
 
 pub placed-walks-spec : {M : Type 1} → statement M
 placed-walks-spec =

@@ -55,7 +55,7 @@ loop-again c =
     let n = length-less (s .args .base) (s .args .from) (s .args .count) B (s .pre .0) in
     let ws = lessWords (s .args .base) (s .args .from) (s .args .count) B in
     let q = less-at (s .args .base) (s .args .from) (s .args .count) B i (omega arith) (w .before .word-at .ensures) in
-    let e = put-more (s .args .at) ws (s .args .out .now) i (omega arith) (omega arith) (l .loop .inv .2) refl q (w .put-word .ensures) in
+    let e = put-more (s .args .at) ws (s .args .out .now) (omega arith) (omega arith) (l .loop .inv .2) refl q (w .put-word .ensures) in
     (omega arith, put-length (s .args .at) ws (s .args .out .now) (i + 1) (omega arith) (omega arith) e, e)
 
 same-length : tie.Need-same-length Inv-loop μ-loop

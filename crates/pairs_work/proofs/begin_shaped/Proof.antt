@@ -84,21 +84,21 @@ slice-reshare-prefix-begin-operands c =
     let s = c .before .before .before .before .before .before .before .before .before .before .before .before .before .before .before .before .before .before .before .before .before .before .before in
     let B = s .args .bytes .now in
     let h = left-in B (s .pre .shape) in
-    front-fits (startsAt B 5) (s .args .left-starts .now) (c .before .before .before .before .before .before .before .before .before .before .before .before .read-operand .ensures .0) (c .before .before .before .before .before .before .before .before .before .before .before .before .before .before .before .before .before .before .word-at .result + 1) (starts-count B 5 h (c .before .before .before .before .before .before .before .before .before .before .before .before .before .before .before .before .before .before .word-at .ensures))
+    front-fits (startsAt B 5) (s .args .left-starts .now) (c .before .before .before .before .before .before .before .before .before .before .before .before .read-operand .ensures .0) (starts-count B 5 h (c .before .before .before .before .before .before .before .before .before .before .before .before .before .before .before .before .before .before .word-at .ensures))
 
 slice-aggregate-begin-operands : tie.Need-slice-aggregate-begin-operands
 slice-aggregate-begin-operands c =
     let s = c .before .before .before .before .before .before .before .before .before .before .before .before .before .before .before .before .before .before .before .before .before .before .before .before in
     let B = s .args .bytes .now in
     let h = left-in B (s .pre .shape) in
-    front-length (startsAt B 5) (s .args .left-starts .now) (c .before .before .before .before .before .before .before .before .before .before .before .before .before .read-operand .ensures .0) (c .before .before .before .before .before .before .before .before .before .before .before .before .before .before .before .before .before .before .before .word-at .result + 1) (starts-count B 5 h (c .before .before .before .before .before .before .before .before .before .before .before .before .before .before .before .before .before .before .before .word-at .ensures))
+    front-length (startsAt B 5) (s .args .left-starts .now) (c .before .before .before .before .before .before .before .before .before .before .before .before .before .read-operand .ensures .0) (starts-count B 5 h (c .before .before .before .before .before .before .before .before .before .before .before .before .before .before .before .before .before .before .before .word-at .ensures))
 
 front-requires : tie.Need-front-requires
 front-requires c κs =
     let s = c .before .before .before .before .before .before .before .before .before .before .before .before .before .before .before .before .before .before .before .before .before .before .before .before .before in
     let B = s .args .bytes .now in
     let h = left-in B (s .pre .shape) in
-    whole-corners _ _ (front-fits (cornersAt B 5) (s .args .left-corners .now) (c .before .before .before .before .before .before .before .before .before .before .before .before .before .before .read-operand .ensures .1) (2 * c .before .before .before .before .before .before .before .before .before .before .before .before .before .before .before .before .before .before .before .word-at2 .result) (numbers-count B 5 h (c .before .before .before .before .before .before .before .before .before .before .before .before .before .before .before .before .before .before .before .word-at2 .ensures)))
+    whole-corners _ _ (front-fits (cornersAt B 5) (s .args .left-corners .now) (c .before .before .before .before .before .before .before .before .before .before .before .before .before .before .read-operand .ensures .1) (numbers-count B 5 h (c .before .before .before .before .before .before .before .before .before .before .before .before .before .before .before .before .before .before .before .word-at2 .ensures)))
 
 add-begin-operands-2 : tie.Need-add-begin-operands-2
 add-begin-operands-2 c = search needs
@@ -109,7 +109,7 @@ slice-reshare-prefix-begin-operands-2 c =
     let B = s .args .bytes .now in
     let k = c .before .before .before .before .before .before .before .before .before .before .before .before .before .before .before .before .before .before .before .before .before .before .right-place .result in
     let h = right-in B (s .pre .shape) (c .before .before .before .before .before .before .before .before .before .before .before .before .before .before .before .before .before .before .before .before .before .before .right-place .ensures .0) in
-    front-fits (startsAt B k) (s .args .right-starts .now) (c .before .before .before .before .before .before .before .before .before .read-operand2 .ensures .0) (c .before .before .before .before .before .before .before .before .before .before .before .before .before .before .before .before .before .before .before .word-at3 .result + 1) (starts-count B k h (c .before .before .before .before .before .before .before .before .before .before .before .before .before .before .before .before .before .before .before .word-at3 .ensures))
+    front-fits (startsAt B k) (s .args .right-starts .now) (c .before .before .before .before .before .before .before .before .before .read-operand2 .ensures .0) (starts-count B k h (c .before .before .before .before .before .before .before .before .before .before .before .before .before .before .before .before .before .before .before .word-at3 .ensures))
 
 slice-aggregate-begin-operands-2 : tie.Need-slice-aggregate-begin-operands-2
 slice-aggregate-begin-operands-2 c =
@@ -117,7 +117,7 @@ slice-aggregate-begin-operands-2 c =
     let B = s .args .bytes .now in
     let k = c .before .before .before .before .before .before .before .before .before .before .before .before .before .before .before .before .before .before .before .before .before .before .before .right-place .result in
     let h = right-in B (s .pre .shape) (c .before .before .before .before .before .before .before .before .before .before .before .before .before .before .before .before .before .before .before .before .before .before .before .right-place .ensures .0) in
-    front-length (startsAt B k) (s .args .right-starts .now) (c .before .before .before .before .before .before .before .before .before .before .read-operand2 .ensures .0) (c .before .before .before .before .before .before .before .before .before .before .before .before .before .before .before .before .before .before .before .before .word-at3 .result + 1) (starts-count B k h (c .before .before .before .before .before .before .before .before .before .before .before .before .before .before .before .before .before .before .before .before .word-at3 .ensures))
+    front-length (startsAt B k) (s .args .right-starts .now) (c .before .before .before .before .before .before .before .before .before .before .read-operand2 .ensures .0) (starts-count B k h (c .before .before .before .before .before .before .before .before .before .before .before .before .before .before .before .before .before .before .before .before .word-at3 .ensures))
 
 front-requires-2 : tie.Need-front-requires-2
 front-requires-2 c κs =
@@ -125,7 +125,7 @@ front-requires-2 c κs =
     let B = s .args .bytes .now in
     let k = c .before .before .before .before .before .before .before .before .before .before .before .before .before .before .before .before .before .before .before .before .before .before .before .before .right-place .result in
     let h = right-in B (s .pre .shape) (c .before .before .before .before .before .before .before .before .before .before .before .before .before .before .before .before .before .before .before .before .before .before .before .before .right-place .ensures .0) in
-    whole-corners _ _ (front-fits (cornersAt B k) (s .args .right-corners .now) (c .before .before .before .before .before .before .before .before .before .before .before .read-operand2 .ensures .1) (2 * c .before .before .before .before .before .before .before .before .before .before .before .before .before .before .before .before .before .before .before .before .word-at4 .result) (numbers-count B k h (c .before .before .before .before .before .before .before .before .before .before .before .before .before .before .before .before .before .before .before .before .word-at4 .ensures)))
+    whole-corners _ _ (front-fits (cornersAt B k) (s .args .right-corners .now) (c .before .before .before .before .before .before .before .before .before .before .before .read-operand2 .ensures .1) (numbers-count B k h (c .before .before .before .before .before .before .before .before .before .before .before .before .before .before .before .before .before .before .before .before .word-at4 .ensures)))
 
 begin-operands-requires : tie.Need-begin-operands-requires
 begin-operands-requires c κs = search needs
@@ -154,13 +154,13 @@ returns c =
     let h = left-in B (s .pre .shape) in
     let l =
     left-read B
-    (front (startsAt B 5) (s .args .left-starts .now) (c .before .before .before .before .before .before .before .before .before .before .before .before .before .before .before .before .before .before .before .before .before .before .read-operand .ensures .0) (c .before .before .before .before .before .before .before .before .before .before .before .before .before .before .before .before .before .before .before .before .before .before .before .before .before .before .before .before .word-at .result + 1) (starts-count B 5 h (c .before .before .before .before .before .before .before .before .before .before .before .before .before .before .before .before .before .before .before .before .before .before .before .before .before .before .before .before .word-at .ensures)))
-    (c .before .before .before .before .before .before .before .front .ensures .0 ∙ front (cornersAt B 5) (s .args .left-corners .now) (c .before .before .before .before .before .before .before .before .before .before .before .before .before .before .before .before .before .before .before .before .before .before .read-operand .ensures .1) (2 * c .before .before .before .before .before .before .before .before .before .before .before .before .before .before .before .before .before .before .before .before .before .before .before .before .before .before .before .word-at2 .result) (numbers-count B 5 h (c .before .before .before .before .before .before .before .before .before .before .before .before .before .before .before .before .before .before .before .before .before .before .before .before .before .before .before .word-at2 .ensures))) (c .before .before .before .before .before .before .before .before .before .before .before .bounds-at .ensures) in
+    (front (startsAt B 5) (s .args .left-starts .now) (c .before .before .before .before .before .before .before .before .before .before .before .before .before .before .before .before .before .before .before .before .before .before .read-operand .ensures .0) (starts-count B 5 h (c .before .before .before .before .before .before .before .before .before .before .before .before .before .before .before .before .before .before .before .before .before .before .before .before .before .before .before .before .word-at .ensures)))
+    (c .before .before .before .before .before .before .before .front .ensures .0 ∙ front (cornersAt B 5) (s .args .left-corners .now) (c .before .before .before .before .before .before .before .before .before .before .before .before .before .before .before .before .before .before .before .before .before .before .read-operand .ensures .1) (numbers-count B 5 h (c .before .before .before .before .before .before .before .before .before .before .before .before .before .before .before .before .before .before .before .before .before .before .before .before .before .before .before .word-at2 .ensures))) (c .before .before .before .before .before .before .before .before .before .before .before .bounds-at .ensures) in
     let h = right-in B (s .pre .shape) q in
     let r =
     right-read B q
-    (front (startsAt B k) (s .args .right-starts .now) (c .before .before .before .before .before .before .before .before .before .before .before .before .before .before .before .before .read-operand2 .ensures .0) (c .before .before .before .before .before .before .before .before .before .before .before .before .before .before .before .before .before .before .before .before .before .before .before .before .before .before .word-at3 .result + 1) (starts-count B k h (c .before .before .before .before .before .before .before .before .before .before .before .before .before .before .before .before .before .before .before .before .before .before .before .before .before .before .word-at3 .ensures)))
-    (c .before .before .before .before .front2 .ensures .0 ∙ front (cornersAt B k) (s .args .right-corners .now) (c .before .before .before .before .before .before .before .before .before .before .before .before .before .before .before .before .read-operand2 .ensures .1) (2 * c .before .before .before .before .before .before .before .before .before .before .before .before .before .before .before .before .before .before .before .before .before .before .before .before .before .word-at4 .result) (numbers-count B k h (c .before .before .before .before .before .before .before .before .before .before .before .before .before .before .before .before .before .before .before .before .before .before .before .before .before .word-at4 .ensures))) (c .before .before .before .before .before .before .before .before .before .before .bounds-at2 .ensures) in
+    (front (startsAt B k) (s .args .right-starts .now) (c .before .before .before .before .before .before .before .before .before .before .before .before .before .before .before .before .read-operand2 .ensures .0) (starts-count B k h (c .before .before .before .before .before .before .before .before .before .before .before .before .before .before .before .before .before .before .before .before .before .before .before .before .before .before .word-at3 .ensures)))
+    (c .before .before .before .before .front2 .ensures .0 ∙ front (cornersAt B k) (s .args .right-corners .now) (c .before .before .before .before .before .before .before .before .before .before .before .before .before .before .before .before .read-operand2 .ensures .1) (numbers-count B k h (c .before .before .before .before .before .before .before .before .before .before .before .before .before .before .before .before .before .before .before .before .before .before .before .before .before .word-at4 .ensures))) (c .before .before .before .before .before .before .before .before .before .before .bounds-at2 .ensures) in
     begun-job B (s .pre .shape) (ap (λ w. eqb w 1) (c .before .before .before .before .before .before .before .before .before .before .before .before .word-at5 .ensures)) l r (c .begin-operands .ensures)
 
 pub begin-shaped-spec : {M : Type 1} → statement M

@@ -12,7 +12,7 @@ use Rattle.plane.specs.Plane.{byCross}
 use Rattle.plane.proofs.by_cross.Statement.{statement}
 use Rattle.plane.proofs.by_cross.Tie as tie
 
-module _ (k : ℤ) (f : SFits w64 k) where
+module _ {k : ℤ} (f : SFits w64 k) where
   abbrev k′ : ℤ
   k′ = toZ w64 (ofZ w64 k)
 
@@ -29,13 +29,13 @@ module _ (k : ℤ) (f : SFits w64 k) where
   null h l = rw (sym (ap (λ z. ltZ (pos 0) z) (kept f)) ∙ h, sym (ap (λ z. ltZ z (pos 0)) (kept f)) ∙ l)
 
 returns : tie.Need-returns
-returns c = positive _ (c .before .fits .k) (c .if1 .taken)
+returns c = positive (c .before .fits .k) (c .if1 .taken)
 
 returns-2 : tie.Need-returns-2
-returns-2 c = negative _ (c .before .before .fits .k) (c .before .if1 .left) (c .if2 .taken)
+returns-2 c = negative (c .before .before .fits .k) (c .before .if1 .left) (c .if2 .taken)
 
 returns-3 : tie.Need-returns-3
-returns-3 c = null _ (c .before .before .fits .k) (c .before .if1 .left) (c .if2 .left)
+returns-3 c = null (c .before .before .fits .k) (c .before .if1 .left) (c .if2 .left)
 
 pub by-cross-spec : {M : Type 1} → statement M
 by-cross-spec = tie.close (tie.spec returns returns-2 returns-3)

@@ -15,7 +15,7 @@ use Rattle.plane.specs.Plane.{Pt, isZero}
 use Rattle.plane.proofs.is_zero.Statement.{statement}
 use Rattle.plane.proofs.is_zero.Tie as tie
 
-module _ (v : Pt) (f : SFits w64 (v .x)) (g : SFits w64 (v .y)) where
+module _ {v : Pt} (f : SFits w64 (v .x)) (g : SFits w64 (v .y)) where
   null : SFits w64 (pos 0)
   null = record { sfits = lit< tt }
 
@@ -28,10 +28,10 @@ module _ (v : Pt) (f : SFits w64 (v .x)) (g : SFits w64 (v .y)) where
   up-or-not h = rw (sym (eqb-bits f null) ∙ eq-eqb _ 0 h, ← eqb-bits g null)
 
 returns : tie.Need-returns
-returns c = not-across _ (search needs) (search needs) (c .if1 .taken)
+returns c = not-across (search needs) (search needs) (c .if1 .taken)
 
 returns-2 : tie.Need-returns-2
-returns-2 c = up-or-not _ (search needs) (search needs) (c .before .before .if1 .left)
+returns-2 c = up-or-not (search needs) (search needs) (c .before .before .if1 .left)
 
 pub is-zero-spec : {M : Type 1} → statement M
 is-zero-spec = tie.close (tie.spec returns returns-2)

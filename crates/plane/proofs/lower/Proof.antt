@@ -12,7 +12,7 @@ use Rattle.plane.specs.Plane.{Pt, lower}
 use Rattle.plane.proofs.lower.Statement.{statement}
 use Rattle.plane.proofs.lower.Tie as tie
 
-module _ (v : Pt) (f : SFits w64 (v .x)) (g : SFits w64 (v .y)) where
+module _ {v : Pt} (f : SFits w64 (v .x)) (g : SFits w64 (v .y)) where
   abbrev x′ : ℤ
   x′ = toZ w64 (ofZ w64 (v .x))
 
@@ -32,13 +32,13 @@ module _ (v : Pt) (f : SFits w64 (v .x)) (g : SFits w64 (v .y)) where
   level h k = rw (sym (ap (λ z. ltZ z (pos 0)) (kept g)) ∙ h, sym (ap (λ z. ltZ (pos 0) z) (kept g)) ∙ k, kept f)
 
 returns : tie.Need-returns
-returns c = below _ (search needs) (search needs) (c .if1 .taken)
+returns c = below (search needs) (search needs) (c .if1 .taken)
 
 returns-2 : tie.Need-returns-2
-returns-2 c = over _ (search needs) (search needs) (c .before .before .before .if1 .left) (c .if2 .taken)
+returns-2 c = over (search needs) (search needs) (c .before .before .before .if1 .left) (c .if2 .taken)
 
 returns-3 : tie.Need-returns-3
-returns-3 c = level _ (search needs) (search needs) (c .before .before .before .before .before .if1 .left) (c .before .before .if2 .left)
+returns-3 c = level (search needs) (search needs) (c .before .before .before .before .before .if1 .left) (c .before .before .if2 .left)
 
 pub lower-spec : {M : Type 1} → statement M
 lower-spec = tie.close (tie.spec returns returns-2 returns-3)

@@ -27,7 +27,7 @@ returns c =
     let s = c .before .before .before in
     let row = getD (s .args .points .now) (s .args .i) [] in
     let e = pt-eq (kept {w = w32} {z = getD row 0 (pos 0)} (search needs)) (kept {w = w32} {z = getD row 1 (pos 0)} (search needs)) in
-    (e, on-grid-of _ e (s .pre .1 .at (s .args .i)))
+    (e, on-grid-of e (s .pre .1 .at (s .args .i)))
 
 pub point-at-spec : {M : Type 1} → statement M
 point-at-spec =

@@ -46,7 +46,7 @@ loop-again c =
     let s = l .before .before .before .args in (
       omega arith,
       simp length-set (l .loop .inv .1),
-      row-more (s .bytes .now) (s .to .now) (l .loop .k) (omega arith) (l .loop .inv .2) (c .row .ensures),
+      row-more (s .bytes .now) (s .to .now) (omega arith) (l .loop .inv .2) (c .row .ensures),
     )
 
 same-length : tie.Need-same-length Inv-loop μ-loop

@@ -23,7 +23,7 @@ small : (s : Bool) (m : ℕ) {d : ℕ} → 0 < d → Extent (rounded (signed s m
 small s m {d} h w = omega (arith, w .abs, rounded-size s m h)
 
 -- n is the magnitude rounded
-module _ (s : Bool) (m d n : ℕ) (h : 0 < d) (w : Extent (rounded (signed s m) d)) (e : n ≡ nearest m d) where
+module _ (s : Bool) (m : ℕ) {d n : ℕ} (h : 0 < d) (w : Extent (rounded (signed s m) d)) (e : n ≡ nearest m d) where
   up-fits : SFits w64 (pos n)
   up-fits = record { sfits = omega (arith, small s m h w) }
 
@@ -51,25 +51,25 @@ divide-with-rounding-requires c κs =
 cast-size : tie.Need-cast-size
 cast-size c =
     let s = c .before .before in
-    up-fits (s .args .sum .negative) (magnitude (s .args .sum .words)) (s .args .d) (c .divide-with-rounding .result) (omega (arith, s .pre .0)) (s .pre .1) (c .divide-with-rounding .ensures)
+    up-fits (s .args .sum .negative) (magnitude (s .args .sum .words)) (omega (arith, s .pre .0)) (s .pre .1) (c .divide-with-rounding .ensures)
 
 sub-result : tie.Need-sub-result
 sub-result c =
     let s = c .before .before .before in
     let r = c .before .divide-with-rounding in
-    less-fits (s .args .sum .negative) (magnitude (s .args .sum .words)) (s .args .d) (r .result) (omega (arith, s .pre .0)) (s .pre .1) (r .ensures)
+    less-fits (s .args .sum .negative) (magnitude (s .args .sum .words)) (omega (arith, s .pre .0)) (s .pre .1) (r .ensures)
 
 returns : tie.Need-returns
 returns c =
     let s = c .before .before .before in
     let r = c .before .divide-with-rounding in
-    below (s .args .sum .negative) (magnitude (s .args .sum .words)) (s .args .d) (r .result) (omega (arith, s .pre .0)) (s .pre .1) (r .ensures) (c .if1 .taken)
+    below (s .args .sum .negative) (magnitude (s .args .sum .words)) (omega (arith, s .pre .0)) (s .pre .1) (r .ensures) (c .if1 .taken)
 
 returns-2 : tie.Need-returns-2
 returns-2 c =
     let s = c .before .before .before in
     let r = c .before .divide-with-rounding in
-    above (s .args .sum .negative) (magnitude (s .args .sum .words)) (s .args .d) (r .result) (omega (arith, s .pre .0)) (s .pre .1) (r .ensures) (c .if1 .left)
+    above (s .args .sum .negative) (magnitude (s .args .sum .words)) (omega (arith, s .pre .0)) (s .pre .1) (r .ensures) (c .if1 .left)
 
 pub rounded-quotient-spec : {M : Type 1} → statement M
 rounded-quotient-spec = tie.close (tie.spec divide-with-rounding-requires cast-size sub-result returns returns-2)

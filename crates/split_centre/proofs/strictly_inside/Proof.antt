@@ -31,9 +31,9 @@ module _ (cs : List (List ℤ)) (g : IntPoint) where
   starts {a} h e = record { left = inside-start (point g) (map cornerOf cs) (omega (arith, h, length-map cs cornerOf)) (corner-read cs 0 (e .0)); on = e .1 }
 
   -- b is corner i, and u the doubled area of a b g read back
-  module _ {a b : IntPoint} (i : ℕ) {u : ℤ} (h : i < length cs) (r : Round cs g a i) (e : (point b ≡ cornerIn cs i) × OnGrid b) (k : u ≡ areaTwo (point a) (point b) (point g)) where
+  module _ {a b : IntPoint} {i : ℕ} {u : ℤ} (h : i < length cs) (r : Round cs g a i) (e : (point b ≡ cornerIn cs i) × OnGrid b) (k : u ≡ areaTwo (point a) (point b) (point g)) where
     next : leftOfAll (point g) (neighbours (map cornerOf cs)) ≡ cond (ltZ (pos 0) (areaTwo (point a) (point b) (point g))) (ahead (point g) (map cornerOf cs) (point b) (i + 1)) false
-    next = r .left ∙ inside-turn (point g) (map cornerOf cs) (point a) i (omega (arith, h, length-map cs cornerOf)) (corner-read cs i (e .0))
+    next = r .left ∙ inside-turn (point g) (map cornerOf cs) (point a) (omega (arith, h, length-map cs cornerOf)) (corner-read cs i (e .0))
 
     refused : leZ u (pos 0) ≡ true → false ≡ leftOfAll (point g) (neighbours (map cornerOf cs))
     refused t = sym (next ∙ rw (test-right k t))
@@ -67,7 +67,7 @@ returns : tie.Need-returns Inv-loop μ-loop
 returns c =
     let s = c .before .before .before .before .before .before in
     let k = c .before .area-two in
-    refused (s .args .contour .now) (s .args .g) (c .before .before .before .before .loop .i) (c .before .before .before .loop-test .taken) (c .before .before .before .before .loop .inv) (c .before .before .point-at2 .ensures)
+    refused (s .args .contour .now) (s .args .g) (c .before .before .before .loop-test .taken) (c .before .before .before .before .loop .inv) (c .before .before .point-at2 .ensures)
     (got w64 (k .result) (k .ok) ∙ k .ensures .0) (c .if1 .taken)
 
 add-i : tie.Need-add-i Inv-loop μ-loop
@@ -80,7 +80,7 @@ loop-again : tie.Need-loop-again Inv-loop μ-loop
 loop-again c =
     let s = c .before .before .before .before .before .before in
     let k = c .before .area-two in
-    turns (s .args .contour .now) (s .args .g) (c .before .before .before .before .loop .i) (c .before .before .before .loop-test .taken) (c .before .before .before .before .loop .inv) (c .before .before .point-at2 .ensures)
+    turns (s .args .contour .now) (s .args .g) (c .before .before .before .loop-test .taken) (c .before .before .before .before .loop .inv) (c .before .before .point-at2 .ensures)
     (got w64 (k .result) (k .ok) ∙ k .ensures .0) (c .if1 .left)
 
 point-at-requires-3 : tie.Need-point-at-requires-3 Inv-loop μ-loop

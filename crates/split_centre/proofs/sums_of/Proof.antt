@@ -43,7 +43,7 @@ module _ (cs : List (List ℤ)) where
     turns {r} f q = record {
       from = omega (arith, g .from);
       upto = omega (arith, k);
-      sums = sofar-turn (getD l 0 O) l i (g .from) in-list (g .sums) (rw (g .here, e) at q);
+      sums = sofar-turn (getD l 0 O) l (g .from) in-list (g .sums) (rw (g .here, e) at q);
       here = e ∙ ap (λ n. getD l n O -ᵖ getD l 0 O) (omega arith);
       short = f;
     }

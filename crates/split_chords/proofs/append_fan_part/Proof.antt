@@ -15,7 +15,7 @@ append-point-requires : tie.Need-append-point-requires
 append-point-requires c κs =
     let s = c .before .before in
     let g = s .args in
-    (omega (arith, s .pre .0), room-point (g .starts .now) (g .points .now) (g .t) (s .pre .1))
+    (omega (arith, s .pre .0), room-point (s .pre .1))
 
 add-append-run : tie.Need-add-append-run
 add-append-run c = search needs
@@ -25,7 +25,7 @@ append-run-requires c κs =
     let s = c .before .before .before .before .before in
     let g = s .args in
     let e = length-run (g .contour .now) (g .start) (g .size + 1) (omega (arith, s .pre .0)) in
-    let f = room-run (g .starts .now) (g .points .now) (g .t) (s .pre .1) (c .before .before .append-point .ensures) in
+    let f = room-run (s .pre .1) (c .before .before .append-point .ensures) in
     (omega (arith, s .pre .0), omega (arith, e, f))
 
 end-part-requires : tie.Need-end-part-requires
@@ -33,7 +33,7 @@ end-part-requires c κs =
     let s = c .before .before .before .before .before .before .before .before in
     let g = s .args in
     let a = appended-more (c .before .before .before .before .before .append-point .ensures) (c .before .before .append-run .ensures) in
-    (s .pre .1 .for-starts, room-end (g .starts .now) (g .points .now) (g .t) (s .pre .1) a)
+    (s .pre .1 .for-starts, room-end (s .pre .1) a)
 
 same-length : tie.Need-same-length
 same-length c = search needs

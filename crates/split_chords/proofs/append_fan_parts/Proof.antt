@@ -53,7 +53,7 @@ append-fan-part-requires c κs =
     let n = length (g .contour .now) - 2 in
     let qs = fanParts (g .limit) (cornersIn (g .contour .now)) in
     let h = c .before .before .before .loop-test .taken in
-    (fanning-within (g .contour .now) (g .starts .now) (g .points .now) (g .t) qs n k (l .i) (l .start) (l .inv .1) h (c .before .before .share .ensures), fanning-room (g .contour .now) (g .starts .now) (g .points .now) (g .t) qs n k (l .i) (l .start) (l .inv .1) h (c .before .before .share .ensures) (s .pre .3))
+    (fanning-within (g .contour .now) (g .starts .now) (g .points .now) (g .t) (l .inv .1) h (c .before .before .share .ensures), fanning-room (g .contour .now) (g .starts .now) (g .points .now) (g .t) (l .inv .1) h (c .before .before .share .ensures) (s .pre .3))
 
 add-start : tie.Need-add-start Inv-loop μ-loop
 add-start c =
@@ -62,7 +62,7 @@ add-start c =
     let l = c .before .before .before .before .before .before .before .before .loop in
     let k = c .before .before .before .before .before .before .before .before .before .ceil-div .result in
     let h = c .before .before .before .before .before .before .before .loop-test .taken in
-    omega (arith, s .pre .2, fanning-within (g .contour .now) (g .starts .now) (g .points .now) (g .t) (fanParts (g .limit) (cornersIn (g .contour .now))) (length (g .contour .now) - 2) k (l .i) (l .start) (l .inv .1) h (c .before .before .before .before .before .before .share .ensures))
+    omega (arith, s .pre .2, fanning-within (g .contour .now) (g .starts .now) (g .points .now) (g .t) (l .inv .1) h (c .before .before .before .before .before .before .share .ensures))
 
 add-i : tie.Need-add-i Inv-loop μ-loop
 add-i c = search needs
@@ -77,7 +77,7 @@ loop-again c =
     let l = c .before .before .before .before .before .before .before .before .loop in
     let k = c .before .before .before .before .before .before .before .before .before .ceil-div .result in
     let h = c .before .before .before .before .before .before .before .loop-test .taken in
-    (omega (arith, h), fanning-turn (g .contour .now) (g .starts .now) (g .points .now) (g .t) (fanParts (g .limit) (cornersIn (g .contour .now))) (length (g .contour .now) - 2) k (l .i) (l .start) (l .inv .1) h (c .before .before .before .before .before .before .share .ensures) (c .before .before .before .append-fan-part .ensures))
+    (omega (arith, h), fanning-turn (g .contour .now) (g .starts .now) (g .points .now) (g .t) (l .inv .1) h (c .before .before .before .before .before .before .share .ensures) (c .before .before .before .append-fan-part .ensures))
 
 same-length : tie.Need-same-length Inv-loop μ-loop
 same-length c = search needs
@@ -89,7 +89,7 @@ returns : tie.Need-returns Inv-loop μ-loop
 returns c =
     let g = c .before .before .before .before .args in
     let l = c .before .loop in
-    fanning-end (g .contour .now) (g .starts .now) (g .points .now) (g .t) (fanParts (g .limit) (cornersIn (g .contour .now))) (length (g .contour .now) - 2) (c .before .before .ceil-div .result) (l .i) (l .start) (l .inv .1) (c .loop-test .left)
+    fanning-end (g .contour .now) (g .starts .now) (g .points .now) (g .t) (l .inv .1) (c .loop-test .left)
 
 pub append-fan-parts-spec : {M : Type 1} → statement M
 append-fan-parts-spec =

@@ -41,7 +41,7 @@ loop-again c =
     let s = c .before .before .before .before .before in
     let l = c .before .before .before .before .loop in
     let h = c .before .before .before .loop-test .taken in
-    (omega (arith, h), run-turn (s .args .contour .now) (s .args .i) (s .args .points .now) (s .args .count) (l .k) (omega (arith, h, s .pre .0)) (l .inv .1) (c .before .append-point .ensures))
+    (omega (arith, h), run-turn (s .args .contour .now) (s .args .i) (l .k) (omega (arith, h, s .pre .0)) (l .inv .1) (c .before .append-point .ensures))
 
 same-length : tie.Need-same-length Inv-loop μ-loop
 same-length c = c .before .loop .inv .1 .size

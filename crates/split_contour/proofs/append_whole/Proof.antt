@@ -23,7 +23,7 @@ end-part-requires c κs =
     let g = s .args in
     let k = g .contour .now in
     let a = whole-run k (c .before .before .append-run .ensures) in
-    (s .pre .for-starts, room-end (g .starts .now) (g .points .now) (g .t) (s .pre) a)
+    (s .pre .for-starts, room-end (s .pre) a)
 
 same-length : tie.Need-same-length
 same-length c = search needs

@@ -16,14 +16,14 @@ append-point-requires : tie.Need-append-point-requires
 append-point-requires c κs =
     let s = c .before .before .before in
     let g = s .args in
-    (s .pre .0, room-point (g .starts .now) (g .points .now) (g .t) (s .pre .3))
+    (s .pre .0, room-point (s .pre .3))
 
 add-n : tie.Need-add-n
 add-n c =
     let s = c .before .before .before .before .before in
     let g = s .args in
     let e = length-after (g .contour .now) (g .ring .now) (g .start) (g .size + 1) in
-    let f = room-run (g .starts .now) (g .points .now) (g .t) (s .pre .3) (c .before .append-point .ensures) in
+    let f = room-run (s .pre .3) (c .before .append-point .ensures) in
     omega (arith, e, f, c .before .append-point .ensures .size, s .pre .3 .small)
 
 append-after-requires : tie.Need-append-after-requires
@@ -31,7 +31,7 @@ append-after-requires c κs =
     let s = c .before .before .before .before .before .before .before in
     let g = s .args in
     let e = length-after (g .contour .now) (g .ring .now) (g .start) (g .size + 1) in
-    let f = room-run (g .starts .now) (g .points .now) (g .t) (s .pre .3) (c .before .before .before .append-point .ensures) in
+    let f = room-run (s .pre .3) (c .before .before .before .append-point .ensures) in
     (s .pre .0, s .pre .2, omega (arith, e, f))
 
 set-next-requires : tie.Need-set-next-requires
@@ -44,7 +44,7 @@ add-end-part c =
     let s = c .before .before .before .before .before .before .before .before .before .before .before .before .before .before in
     let g = s .args in
     let e = length-after (g .contour .now) (g .ring .now) (g .start) (g .size + 1) in
-    let f = room-run (g .starts .now) (g .points .now) (g .t) (s .pre .3) (c .before .before .before .before .before .before .before .before .before .before .append-point .ensures) in
+    let f = room-run (s .pre .3) (c .before .before .before .before .before .before .before .before .before .before .append-point .ensures) in
     omega (arith, e, f, c .before .before .before .before .before .before .before .before .before .before .append-point .ensures .size, s .pre .3 .small)
 
 end-part-requires : tie.Need-end-part-requires
@@ -52,7 +52,7 @@ end-part-requires c κs =
     let s = c .before .before .before .before .before .before .before .before .before .before .before .before .before .before in
     let g = s .args in
     let a = appended-more (c .before .before .before .before .before .before .before .before .before .before .append-point .ensures) (c .before .before .before .before .before .before .append-after .ensures .2) in
-    (s .pre .3 .for-starts, room-end (g .starts .now) (g .points .now) (g .t) (s .pre .3) a)
+    (s .pre .3 .for-starts, room-end (s .pre .3) a)
 
 same-length : tie.Need-same-length
 same-length c = search needs

@@ -53,7 +53,7 @@ returns-2 c =
     let g = f .before .before .before .args in
     let a = sym (f .before .mesh-fault .ensures) ∙ f .if1 .left in
     let m = rowsMesh (g .mesh .now) in
-    left-whole (g .strategy) (g .limit) m (g .starts .now) (g .corners .now) a (omega (arith, length-rows (g .mesh .now), l .if3 .taken, l .before .raised .ensures)) (j .join-tiny .ensures)
+    left-whole (g .strategy) (g .limit) m a (omega (arith, length-rows (g .mesh .now), l .if3 .taken, l .before .raised .ensures)) (j .join-tiny .ensures)
 
 split-tiny-requires : tie.Need-split-tiny-requires
 split-tiny-requires c κs = search needs
@@ -82,7 +82,7 @@ returns-4 c =
     let l = j .before .before .before in
     let g = l .before .before .before .before .before .args in
     let m = rowsMesh (g .mesh .now) in
-    same-limit (g .strategy) (g .limit) m (g .starts .now) (g .corners .now) 3 (omega (arith, l .if4 .taken)) (j .split-more .ensures)
+    same-limit (g .strategy) (g .limit) m 3 (omega (arith, l .if4 .taken)) (j .split-more .ensures)
 
 split-more-requires-2 : tie.Need-split-more-requires-2
 split-more-requires-2 c κs = let f = c .before .before .before .before in sym (f .before .mesh-fault .ensures) ∙ f .if1 .left

@@ -22,7 +22,7 @@ returns : tie.Need-returns
 returns c =
     let s = c .before .before .before .before in
     let g = s .args in
-    near-appended (g .contour .now) (g .i) (g .n) (s .pre .0) (g .points .now) (g .count) (c .before .before .before .if1 .taken) (c .before .append-run .ensures)
+    near-appended (g .contour .now) (g .n) (s .pre .0) (c .before .before .before .if1 .taken) (c .before .append-run .ensures)
 
 append-run-requires-2 : tie.Need-append-run-requires-2
 append-run-requires-2 c κs = search needs
@@ -42,7 +42,7 @@ returns-2 : tie.Need-returns-2
 returns-2 c =
     let s = c .before .before .before .before .before .before .before in
     let g = s .args in
-    far-appended (g .contour .now) (g .i) (g .n) (s .pre .0) (g .points .now) (g .count) (c .before .before .before .before .before .before .if1 .left) (c .before .before .before .before .append-run2 .ensures) (c .before .append-point .ensures)
+    far-appended (g .contour .now) (g .n) (s .pre .0) (c .before .before .before .before .before .before .if1 .left) (c .before .before .before .before .append-run2 .ensures) (c .before .append-point .ensures)
 
 pub append-arc-spec : {M : Type 1} → statement M
 append-arc-spec =

@@ -21,7 +21,7 @@ loop-holds : tie.Need-loop-holds Inv-loop μ-loop
 loop-holds c =
     let s = c .before in
     let g = s .args in
-    (s .pre .0, partway-start (groupFrom (g .contour .now) (point (g .centre)) (g .target) (g .start)) (g .starts .now) (g .points .now) (g .t) refl)
+    (s .pre .0, partway-start (g .starts .now) (g .points .now) (g .t) refl)
 
 sector-end-requires : tie.Need-sector-end-requires Inv-loop μ-loop
 sector-end-requires c κs =
@@ -43,7 +43,7 @@ append-sector-requires c κs =
     let end = c .before .before .sector-end .result in
     let a = sector-some (g .contour .now) (point (g .centre)) (g .target) (l .at) h e in
     let b = sector-within (g .contour .now) (point (g .centre)) (g .target) (l .at) h e in
-    (omega (arith, h, s .pre .1), omega (arith, a, b, s .pre .1), partway-room (groupFrom (g .contour .now) (point (g .centre)) (g .target) (g .start)) (g .starts .now) (g .points .now) (g .t) ((point (g .centre) ∷ arcOf (g .contour .now) (l .at) (end - l .at + 1)) ∷ []) (groupFrom (g .contour .now) (point (g .centre)) (g .target) end) (s .pre .4) (l .inv .1) (group-turn (g .contour .now) (point (g .centre)) (g .target) (l .at) h e))
+    (omega (arith, h, s .pre .1), omega (arith, a, b, s .pre .1), partway-room (g .starts .now) (g .points .now) (g .t) ((point (g .centre) ∷ arcOf (g .contour .now) (l .at) (end - l .at + 1)) ∷ []) (groupFrom (g .contour .now) (point (g .centre)) (g .target) end) (s .pre .4) (l .inv .1) (group-turn (g .contour .now) (point (g .centre)) (g .target) (l .at) h e))
 
 loop-less : tie.Need-loop-less Inv-loop μ-loop
 loop-less c =
@@ -62,7 +62,7 @@ loop-again c =
     let h = p1 .before .loop-test .taken in
     let e = p1 .sector-end .ensures in (
       sector-within (g .contour .now) (point (g .centre)) (g .target) (l .at) h e,
-      partway-turn (groupFrom (g .contour .now) (point (g .centre)) (g .target) (g .start)) (g .starts .now) (g .points .now) (g .t)
+      partway-turn (g .starts .now) (g .points .now) (g .t)
           (l .inv .1)
           (group-turn (g .contour .now) (point (g .centre)) (g .target) (l .at) h e) (p2 .append-sector .ensures),
     )
@@ -76,7 +76,7 @@ same-length-2 c = c .before .loop .inv .1 .appended .points-size
 returns : tie.Need-returns Inv-loop μ-loop
 returns c =
     let g = c .before .before .before .args in
-    partway-end (groupFrom (g .contour .now) (point (g .centre)) (g .target) (g .start)) (g .starts .now) (g .points .now) (g .t) (c .before .loop .inv .1) (group-none (g .contour .now) (point (g .centre)) (g .target) (c .before .loop .at) (c .loop-test .left))
+    partway-end (g .starts .now) (g .points .now) (g .t) (c .before .loop .inv .1) (group-none (g .contour .now) (point (g .centre)) (g .target) (c .before .loop .at) (c .loop-test .left))
 
 pub append-group-spec : {M : Type 1} → statement M
 append-group-spec =

@@ -18,7 +18,7 @@ put-point-requires : tie.Need-put-point-requires
 put-point-requires c κs =
     let s = c .before .before in
     let g = s .args in
-    room-point (g .starts .now) (g .points .now) (g .t) (s .pre .2)
+    room-point (s .pre .2)
 
 add-append-arc : tie.Need-add-append-arc
 add-append-arc c = search needs
@@ -31,8 +31,8 @@ append-arc-requires c κs =
     let s = c .before .before .before .before .before in
     let g = s .args in
     let l = arcOf (g .contour .now) (g .start) (g .n + 1) in
-    let h = room-point (g .starts .now) (g .points .now) (g .t) (s .pre .2) in
-    let f = room-run (g .starts .now) (g .points .now) (g .t) (s .pre .2) (kept-yes (g .points .now) (point (g .centre)) refl h (c .before .before .put-point .ensures)) in
+    let h = room-point (s .pre .2) in
+    let f = room-run (s .pre .2) (kept-yes (g .points .now) (point (g .centre)) refl h (c .before .before .put-point .ensures)) in
     (s .pre .0, omega (arith, s .pre .1), omega (arith, f, length-arc (g .contour .now) (g .start) (g .n + 1) (omega (arith, s .pre .1))))
 
 end-part-requires : tie.Need-end-part-requires
@@ -40,9 +40,9 @@ end-part-requires c κs =
     let s = c .before .before .before .before .before .before .before .before in
     let g = s .args in
     let l = arcOf (g .contour .now) (g .start) (g .n + 1) in
-    let h = room-point (g .starts .now) (g .points .now) (g .t) (s .pre .2) in
+    let h = room-point (s .pre .2) in
     let a = appended-more (kept-yes (g .points .now) (point (g .centre)) refl h (c .before .before .before .before .before .put-point .ensures)) (c .before .before .append-arc .ensures) in
-    (s .pre .2 .for-starts, room-end (g .starts .now) (g .points .now) (g .t) (s .pre .2) a)
+    (s .pre .2 .for-starts, room-end (s .pre .2) a)
 
 same-length : tie.Need-same-length
 same-length c = search needs
@@ -55,7 +55,7 @@ returns c =
     let s = c .before .before .before .before .before .before .before .before .before .before .before in
     let g = s .args in
     let l = arcOf (g .contour .now) (g .start) (g .n + 1) in
-    let h = room-point (g .starts .now) (g .points .now) (g .t) (s .pre .2) in
+    let h = room-point (s .pre .2) in
     let a = appended-more (kept-yes (g .points .now) (point (g .centre)) refl h (c .before .before .before .before .before .before .before .before .put-point .ensures)) (c .before .before .before .before .before .append-arc .ensures) in
     part-ended (s .pre .2) a (c .before .before .end-part .ensures)
 

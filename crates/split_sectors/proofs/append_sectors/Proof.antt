@@ -47,7 +47,7 @@ add-target c =
     let g = s .args in
     let l = c .before .before .loop in
     let qs = centroidParts (g .limit) (point (g .centre)) (cornerIn (g .contour .now) 0) (cornersIn (g .contour .now)) in
-    omega (arith, s .pre .2, sectoring-within (g .contour .now) (point (g .centre)) (g .starts .now) (g .points .now) (g .t) qs (length (g .contour .now)) (c .before .before .before .ceil-div .result) (l .i) (l .start) (l .inv .1) (c .before .loop-test .taken) (c .share .ensures))
+    omega (arith, s .pre .2, sectoring-within (g .contour .now) (point (g .centre)) (g .starts .now) (g .points .now) (g .t) (l .inv .1) (c .before .loop-test .taken) (c .share .ensures))
 
 append-group-requires : tie.Need-append-group-requires Inv-loop μ-loop
 append-group-requires c κs =
@@ -58,7 +58,7 @@ append-group-requires c κs =
     let h = c .before .before .before .loop-test .taken in
     let e = c .before .before .share .ensures in
     let qs = centroidParts (g .limit) (point (g .centre)) (cornerIn (g .contour .now) 0) (cornersIn (g .contour .now)) in
-    (omega arith, sectoring-within (g .contour .now) (point (g .centre)) (g .starts .now) (g .points .now) (g .t) qs (length (g .contour .now)) k (l .i) (l .start) (l .inv .1) h e, s .pre .3, s .pre .4, sectoring-room (g .contour .now) (point (g .centre)) (g .starts .now) (g .points .now) (g .t) qs (length (g .contour .now)) k (l .i) (l .start) (l .inv .1) h e (s .pre .5))
+    (omega arith, sectoring-within (g .contour .now) (point (g .centre)) (g .starts .now) (g .points .now) (g .t) (l .inv .1) h e, s .pre .3, s .pre .4, sectoring-room (g .contour .now) (point (g .centre)) (g .starts .now) (g .points .now) (g .t) (l .inv .1) h e (s .pre .5))
 
 add-i : tie.Need-add-i Inv-loop μ-loop
 add-i c = search needs
@@ -76,8 +76,8 @@ loop-again c =
     let h = p1 .before .loop-test .taken in
     let qs = centroidParts (g .limit) (point (g .centre)) (cornerIn (g .contour .now) 0) (cornersIn (g .contour .now)) in (
       omega (arith, h),
-      sectoring-turn (g .contour .now) (point (g .centre)) (g .starts .now) (g .points .now) (g .t) qs (length (g .contour .now))
-          (at-loop .before .ceil-div .result) (l .i) (l .start) (l .inv .1) h (p1 .share .ensures) (p2 .append-group .ensures),
+      sectoring-turn (g .contour .now) (point (g .centre)) (g .starts .now) (g .points .now) (g .t)
+          (l .inv .1) h (p1 .share .ensures) (p2 .append-group .ensures),
     )
 
 same-length : tie.Need-same-length Inv-loop μ-loop
@@ -90,7 +90,7 @@ returns : tie.Need-returns Inv-loop μ-loop
 returns c =
     let g = c .before .before .before .before .args in
     let l = c .before .loop in
-    sectoring-end (g .contour .now) (point (g .centre)) (g .starts .now) (g .points .now) (g .t) (centroidParts (g .limit) (point (g .centre)) (cornerIn (g .contour .now) 0) (cornersIn (g .contour .now))) (length (g .contour .now)) (c .before .before .ceil-div .result) (l .i) (l .start) (l .inv .1) (c .loop-test .left)
+    sectoring-end (g .contour .now) (point (g .centre)) (g .starts .now) (g .points .now) (g .t) (l .inv .1) (c .loop-test .left)
 
 pub append-sectors-spec : {M : Type 1} → statement M
 append-sectors-spec =

@@ -21,7 +21,7 @@ returns-2 : tie.Need-returns-2
 returns-2 c =
     let s = c .before .before in
     let g = s .args in
-    (c .point-at2 .ensures .0 ∙ sym (closed-last (g .contour .now) (g .i) (omega (arith, c .before .if1 .left, s .pre .1))), c .point-at2 .ensures .1)
+    (c .point-at2 .ensures .0 ∙ sym (closed-last (g .contour .now) (omega (arith, c .before .if1 .left, s .pre .1))), c .point-at2 .ensures .1)
 
 pub corner-round-spec : {M : Type 1} → statement M
 corner-round-spec = tie.close (tie.spec point-at-requires returns point-at-requires-2 returns-2)

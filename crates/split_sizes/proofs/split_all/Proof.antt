@@ -37,7 +37,7 @@ append-part-requires c κs =
     let g = s .args in
     let k : l .loop .k < length (partsIn (g .begins .now) (g .joined .now) (g .u)) = omega (arith, c .before .before .if1 .taken, s .pre .0 .gathered .parts) in
     let r = resized _ (ap length (l .before .before .before .put-start .ensures) ∙ simp length-set) (s .pre .2) in
-    (s .pre .0, omega (arith, c .before .before .if1 .taken), s .pre .1, room-at (g .strategy) (g .limit) (partsIn (g .begins .now) (g .joined .now) (g .u)) (l .loop .k) k _ (g .points .now) (record { parts = 0; corners = 0 }) (l .loop .inv .1) r)
+    (s .pre .0, omega (arith, c .before .before .if1 .taken), s .pre .1, room-at (g .strategy) (g .limit) (partsIn (g .begins .now) (g .joined .now) (g .u)) k (l .loop .inv .1) r)
 
 add-k : tie.Need-add-k Inv-loop μ-loop
 add-k c = omega (arith, c .before .before .before .before .before .before .if1 .taken)
@@ -51,7 +51,7 @@ loop-again c =
     let s = l .before .before .before .before .before .before .before in
     let g = s .args in
     let h = c .before .before .before .before .before .before .if1 .taken in
-    (omega (arith, h), each-more (g .strategy) (g .limit) (partsIn (g .begins .now) (g .joined .now) (g .u)) (l .loop .k) (omega (arith, h, s .pre .0 .gathered .parts)) _ (g .points .now) (record { parts = 0; corners = 0 }) (l .loop .inv .1) (c .before .before .before .append-part .ensures))
+    (omega (arith, h), each-more (g .strategy) (g .limit) (partsIn (g .begins .now) (g .joined .now) (g .u)) (omega (arith, h, s .pre .0 .gathered .parts)) (l .loop .inv .1) (c .before .before .before .append-part .ensures))
 
 same-length : tie.Need-same-length Inv-loop μ-loop
 same-length c = c .before .before .loop .inv .1 .starts-size ∙ ap length (c .before .before .before .before .before .put-start .ensures) ∙ simp length-set

@@ -27,7 +27,7 @@ use Rattle.table.proofs.bounds_broken.Tie as tie
 held : {a b : ℤ} {t : Bool} → SFits w32 a → SFits w32 b → ltZ (toZ w32 (ofZ w32 a)) (toZ w32 (ofZ w32 b)) ≡ t → ltZ a b ≡ t
 held f g e = rw (kept f, kept g) at e
 
-module _ (b : IntRect) (l : List Pt) (f₁ : SFits w32 (b .«min_x»)) (f₂ : SFits w32 (b .«max_x»)) (f₃ : SFits w32 (b .«min_y»)) (f₄ : SFits w32 (b .«max_y»)) where
+module _ {b : IntRect} (l : List Pt) (f₁ : SFits w32 (b .«min_x»)) (f₂ : SFits w32 (b .«max_x»)) (f₃ : SFits w32 (b .«min_y»)) (f₄ : SFits w32 (b .«max_y»)) where
   crossed-x : ltZ (toZ w32 (ofZ w32 (b .«max_x»))) (toZ w32 (ofZ w32 (b .«min_x»))) ≡ true → true ≡ boundsBroken b l
   unfolding boundsBroken
   crossed-x e = rw (held f₂ f₁ e)
@@ -43,7 +43,7 @@ module _ (b : IntRect) (l : List Pt) (f₁ : SFits w32 (b .«min_x»)) (f₂ : S
   by-corners e f = rw (held f₂ f₁ e, held f₄ f₃ f)
 
 -- corner k, by the answer for it
-module _ (b : IntRect) (l : List Pt) (k : ℕ) (h : k < length l) {r : Bool} {p : IntPoint} (q : point p ≡ getD l k O) (e : r ≡ withinBounds b (point p)) where
+module _ (b : IntRect) (l : List Pt) {k : ℕ} (h : k < length l) {r : Bool} {p : IntPoint} (q : point p ≡ getD l k O) (e : r ≡ withinBounds b (point p)) where
   corner : drop k l ≡ point p ∷ drop (k + 1) l
   corner = rw add-one (drop-cons l k O h ∙ ap (λ t. t ∷ drop (suc k) l) (sym q))
 
@@ -66,16 +66,16 @@ abbrev μ-loop : tie.MeasureT-loop
 μ-loop bounds corners count k₀ k = count - k
 
 returns : tie.Need-returns Inv-loop μ-loop
-returns c = crossed-x _ _ (search needs) (search needs) (search needs) (search needs) (c .if1 .taken)
+returns c = crossed-x _ (search needs) (search needs) (search needs) (search needs) (c .if1 .taken)
 
 returns-2 : tie.Need-returns-2 Inv-loop μ-loop
-returns-2 c = crossed-y _ _ (search needs) (search needs) (search needs) (search needs) (c .before .before .before .if1 .left) (c .if2 .taken)
+returns-2 c = crossed-y _ (search needs) (search needs) (search needs) (search needs) (c .before .before .before .if1 .left) (c .if2 .taken)
 
 corner-count-requires : tie.Need-corner-count-requires Inv-loop μ-loop
 corner-count-requires c κs = search needs
 
 loop-holds : tie.Need-loop-holds Inv-loop μ-loop
-loop-holds c = (c .corner-count .ensures, search needs, by-corners _ _ (search needs) (search needs) (search needs) (search needs) (c .before .before .before .before .if1 .left) (c .before .if2 .left))
+loop-holds c = (c .corner-count .ensures, search needs, by-corners _ (search needs) (search needs) (search needs) (search needs) (c .before .before .before .before .if1 .left) (c .before .if2 .left))
 
 corner-at-requires : tie.Need-corner-at-requires Inv-loop μ-loop
 corner-at-requires c κs = search needs
@@ -86,7 +86,7 @@ within-bounds-requires c κs = search needs
 returns-3 : tie.Need-returns-3 Inv-loop μ-loop
 returns-3 c =
     let l = c .before .before .before .before in
-    sym (l .loop .inv .2 ∙ outside _ _ _ (subst (λ n. l .loop .k < n) (l .loop .inv .0) (c .before .before .before .loop-test .taken)) (c .before .before .corner-at .ensures) (c .before .within-bounds .ensures) (not-true _ (c .if3 .taken)))
+    sym (l .loop .inv .2 ∙ outside _ _ (subst (λ n. l .loop .k < n) (l .loop .inv .0) (c .before .before .before .loop-test .taken)) (c .before .before .corner-at .ensures) (c .before .within-bounds .ensures) (not-true _ (c .if3 .taken)))
 
 add-k : tie.Need-add-k Inv-loop μ-loop
 add-k c = search needs
@@ -99,7 +99,7 @@ loop-again c =
     let l = c .before .before .before .before in (
       l .loop .inv .0,
       search needs,
-      l .loop .inv .2 ∙ passed _ _ _ (subst (λ n. l .loop .k < n) (l .loop .inv .0) (c .before .before .before .loop-test .taken)) (c .before .before .corner-at .ensures) (c .before .within-bounds .ensures) (not-false _ (c .if3 .left)),
+      l .loop .inv .2 ∙ passed _ _ (subst (λ n. l .loop .k < n) (l .loop .inv .0) (c .before .before .before .loop-test .taken)) (c .before .before .corner-at .ensures) (c .before .within-bounds .ensures) (not-false _ (c .if3 .left)),
     )
 
 returns-4 : tie.Need-returns-4 Inv-loop μ-loop

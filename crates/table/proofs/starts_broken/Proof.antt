@@ -43,7 +43,7 @@ step-broken-requires c κs = search needs
 returns-3 : tie.Need-returns-3 Inv-loop μ-loop
 returns-3 c =
     let l = c .before .before .before .before in
-    sym (l .loop .inv .1 ∙ step-broken _ _ _ _ _ _ (c .before .before .before .loop-test .taken) refl (c .before .step-broken .ensures) (c .if3 .taken))
+    sym (l .loop .inv .1 ∙ step-broken _ _ _ _ (c .before .before .before .loop-test .taken) refl (c .before .step-broken .ensures) (c .if3 .taken))
 
 add-i : tie.Need-add-i Inv-loop μ-loop
 add-i c = search needs
@@ -54,7 +54,7 @@ loop-less c = search needs
 loop-again : tie.Need-loop-again Inv-loop μ-loop
 loop-again c =
     let l = c .before .before .before .before in
-    (search needs, l .loop .inv .1 ∙ step-passed _ _ _ _ _ _ (c .before .before .before .loop-test .taken) refl (c .before .step-broken .ensures) (c .if3 .left))
+    (search needs, l .loop .inv .1 ∙ step-passed _ _ _ _ (c .before .before .before .loop-test .taken) refl (c .before .step-broken .ensures) (c .if3 .left))
 
 returns-4 : tie.Need-returns-4 Inv-loop μ-loop
 returns-4 c = sym (c .before .loop .inv .1 ∙ steps-end _ _ _ _ (c .loop-test .left))

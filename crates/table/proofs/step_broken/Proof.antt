@@ -9,7 +9,7 @@ use Rattle.integers.proofs.Order.{by-test}
 use Rattle.table.proofs.step_broken.Statement.{statement}
 use Rattle.table.proofs.step_broken.Tie as tie
 
-module _ (m a b : ℕ) where
+module _ (m : ℕ) {a b : ℕ} where
   falls : b < a → true ≡ cond (ltb b a) true (ltb (a + m) b)
   falls h = rw (lt-ltb b a h)
 
@@ -22,10 +22,10 @@ module _ (m a b : ℕ) where
       (λ e. le-ltb m (b - a) (omega (arith, ltb-false (a + m) b e)) ∙ sym e))
 
 returns : tie.Need-returns
-returns c = falls _ _ _ (c .if1 .taken)
+returns c = falls _ (c .if1 .taken)
 
 returns-2 : tie.Need-returns-2
-returns-2 c = by-length _ _ _ (c .if1 .left)
+returns-2 c = by-length _ (c .if1 .left)
 
 pub step-broken-spec : {M : Type 1} → statement M
 step-broken-spec = tie.close (tie.spec returns returns-2)

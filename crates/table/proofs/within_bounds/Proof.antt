@@ -25,7 +25,7 @@ module _ {a b : ℤ} (f : SFits w32 a) (g : SFits w32 b) where
   not-above : ltZ (held a) (held b) ≡ false → leZ b a ≡ true
   not-above e = ≤-leZ (ltZ-≤ a b (rw (kept f, kept g) at e))
 
-module _ (b : IntRect) (x y : ℤ) (fx : SFits w32 x) (fy : SFits w32 y) (f₁ : SFits w32 (b .«min_x»)) (f₂ : SFits w32 (b .«max_x»)) (f₃ : SFits w32 (b .«min_y»)) (f₄ : SFits w32 (b .«max_y»)) where
+module _ {b : IntRect} {x y : ℤ} (fx : SFits w32 x) (fy : SFits w32 y) (f₁ : SFits w32 (b .«min_x»)) (f₂ : SFits w32 (b .«max_x»)) (f₃ : SFits w32 (b .«min_y»)) (f₄ : SFits w32 (b .«max_y»)) where
   left-of : ltZ (held x) (held (b .«min_x»)) ≡ true → false ≡ withinBounds b (record { x = x; y = y })
   unfolding withinBounds
   left-of e = rw (above fx f₁ e)
@@ -46,20 +46,20 @@ module _ (b : IntRect) (x y : ℤ) (fx : SFits w32 x) (fy : SFits w32 y) (f₁ :
 
 returns : tie.Need-returns
 returns c =
-    left-of _ _ _ (search needs) (search needs) (search needs) (search needs) (search needs) (search needs) (c .if1 .taken)
+    left-of (search needs) (search needs) (search needs) (search needs) (search needs) (search needs) (c .if1 .taken)
 
 returns-2 : tie.Need-returns-2
 returns-2 c =
-    right-of _ _ _ (search needs) (search needs) (search needs) (search needs) (search needs) (search needs) (c .before .before .before .before .before .if1 .left) (c .if2 .taken)
+    right-of (search needs) (search needs) (search needs) (search needs) (search needs) (search needs) (c .before .before .before .before .before .if1 .left) (c .if2 .taken)
 
 returns-3 : tie.Need-returns-3
 returns-3 c =
-    below _ _ _ (search needs) (search needs) (search needs) (search needs) (search needs) (search needs)
+    below (search needs) (search needs) (search needs) (search needs) (search needs) (search needs)
     (c .before .before .before .before .before .before .before .before .before .before .if1 .left) (c .before .before .before .before .before .if2 .left) (c .if3 .taken)
 
 returns-4 : tie.Need-returns-4
 returns-4 c =
-    by-top _ _ _ (search needs) (search needs) (search needs) (search needs) (search needs) (search needs)
+    by-top (search needs) (search needs) (search needs) (search needs) (search needs) (search needs)
     (c .before .before .before .before .before .before .before .before .before .before .before .before .before .before .if1 .left) (c .before .before .before .before .before .before .before .before .before .if2 .left) (c .before .before .before .before .if3 .left)
 
 pub within-bounds-spec : {M : Type 1} → statement M

@@ -37,7 +37,7 @@ returns : tie.Need-returns Inv-loop μ-loop
 returns c =
     let z = c .before .before in
     let l = z .before .before .before in
-    sym (l .loop .inv ∙ found _ _ (z .before .before .loop-test .taken) (got w32 _ (z .signed-word .ok) ∙ z .signed-word .ensures ∙ ap signed (z .before .word-at .ensures)) (c .before .in-range .ensures) (not-true _ (c .if1 .taken)))
+    sym (l .loop .inv ∙ found _ (z .before .before .loop-test .taken) (got w32 _ (z .signed-word .ok) ∙ z .signed-word .ensures ∙ ap signed (z .before .word-at .ensures)) (c .before .in-range .ensures) (not-true _ (c .if1 .taken)))
 
 add-i : tie.Need-add-i Inv-loop μ-loop
 add-i c = search needs
@@ -49,7 +49,7 @@ loop-again : tie.Need-loop-again Inv-loop μ-loop
 loop-again c =
     let z = c .before .before in
     let l = z .before .before .before in
-    l .loop .inv ∙ passed _ _ (z .before .before .loop-test .taken) (got w32 _ (z .signed-word .ok) ∙ z .signed-word .ensures ∙ ap signed (z .before .word-at .ensures)) (c .before .in-range .ensures) (not-false _ (c .if1 .left))
+    l .loop .inv ∙ passed _ (z .before .before .loop-test .taken) (got w32 _ (z .signed-word .ok) ∙ z .signed-word .ensures ∙ ap signed (z .before .word-at .ensures)) (c .before .in-range .ensures) (not-false _ (c .if1 .left))
 
 returns-2 : tie.Need-returns-2 Inv-loop μ-loop
 returns-2 c = sym (c .before .loop .inv ∙ none-found _ (c .loop-test .left))

@@ -46,7 +46,7 @@ returns-2 : tie.Need-returns-2 Inv-loop μ-loop
 returns-2 c =
     let l = c .before .before .before .before in
     let s = l .before .before .before .before in
-    sym (l .loop .inv .1 ∙ next-broken _ (s .pre .0) _ _ _ (l .loop .i) (omega arith) (c .before .before .word-at2 .ensures) (c .before .step-broken .ensures) (c .if2 .taken))
+    sym (l .loop .inv .1 ∙ next-broken _ (s .pre .0) _ _ (omega arith) (c .before .before .word-at2 .ensures) (c .before .step-broken .ensures) (c .if2 .taken))
 
 add-i : tie.Need-add-i Inv-loop μ-loop
 add-i c = omega (arith, sized _ (c .before .before .before .before .before .before .before .before .pre .0))
@@ -58,7 +58,7 @@ loop-again : tie.Need-loop-again Inv-loop μ-loop
 loop-again c =
     let l = c .before .before .before .before in
     let s = l .before .before .before .before in
-    (omega arith, l .loop .inv .1 ∙ next-passed _ (s .pre .0) _ _ _ (l .loop .i) (omega arith) (c .before .before .word-at2 .ensures) (c .before .step-broken .ensures) (c .if2 .left))
+    (omega arith, l .loop .inv .1 ∙ next-passed _ (s .pre .0) _ _ (omega arith) (c .before .before .word-at2 .ensures) (c .before .step-broken .ensures) (c .if2 .left))
 
 returns-3 : tie.Need-returns-3 Inv-loop μ-loop
 returns-3 c =

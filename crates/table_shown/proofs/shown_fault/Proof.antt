@@ -37,13 +37,13 @@ returns-3 : tie.Need-returns-3
 returns-3 c =
     let r = c .before .before in
     let l = r .before .before in
-    sym (past _ _ _ _ _ _ _ (asked _ _ (c .before .if3 .taken)) (sym (l .before .rules-broken .ensures) ∙ l .if1 .left) (sym (r .before .rules-broken2 .ensures) ∙ r .if2 .left) (omega (arith, c .if4 .taken)))
+    sym (past _ _ _ _ _ _ (asked _ _ (c .before .if3 .taken)) (sym (l .before .rules-broken .ensures) ∙ l .if1 .left) (sym (r .before .rules-broken2 .ensures) ∙ r .if2 .left) (omega (arith, c .if4 .taken)))
 
 returns-4 : tie.Need-returns-4
 returns-4 c =
     let r = c .before .before in
     let l = r .before .before in
-    sym (shown _ _ _ _ _ _ _ (asked _ _ (c .before .if3 .taken)) (sym (l .before .rules-broken .ensures) ∙ l .if1 .left) (sym (r .before .rules-broken2 .ensures) ∙ r .if2 .left) (c .if4 .left))
+    sym (shown _ _ _ _ _ _ (asked _ _ (c .before .if3 .taken)) (sym (l .before .rules-broken .ensures) ∙ l .if1 .left) (sym (r .before .rules-broken2 .ensures) ∙ r .if2 .left) (c .if4 .left))
 
 sub-if5 : tie.Need-sub-if5
 sub-if5 c =
@@ -54,13 +54,13 @@ returns-5 : tie.Need-returns-5
 returns-5 c =
     let r = c .before .before in
     let l = r .before .before in
-    sym (past _ _ _ _ _ _ _ (asked _ _ (c .before .if3 .left)) (sym (l .before .rules-broken .ensures) ∙ l .if1 .left) (sym (r .before .rules-broken2 .ensures) ∙ r .if2 .left) (c .if5 .taken))
+    sym (past _ _ _ _ _ _ (asked _ _ (c .before .if3 .left)) (sym (l .before .rules-broken .ensures) ∙ l .if1 .left) (sym (r .before .rules-broken2 .ensures) ∙ r .if2 .left) (c .if5 .taken))
 
 returns-6 : tie.Need-returns-6
 returns-6 c =
     let r = c .before .before in
     let l = r .before .before in
-    sym (shown _ _ _ _ _ _ _ (asked _ _ (c .before .if3 .left)) (sym (l .before .rules-broken .ensures) ∙ l .if1 .left) (sym (r .before .rules-broken2 .ensures) ∙ r .if2 .left) (c .if5 .left))
+    sym (shown _ _ _ _ _ _ (asked _ _ (c .before .if3 .left)) (sym (l .before .rules-broken .ensures) ∙ l .if1 .left) (sym (r .before .rules-broken2 .ensures) ∙ r .if2 .left) (c .if5 .left))
 
 pub shown-fault-spec : {M : Type 1} → statement M
 shown-fault-spec =

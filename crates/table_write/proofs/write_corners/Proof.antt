@@ -57,7 +57,7 @@ loop-again c =
     let i = l .loop .i in
     let n = length-map (s .args .corners .now) unsigned in
     let q = u .unsigned .ensures ∙ ap unsigned (got w32 (getD (s .args .corners .now) i (pos 0)) (z .z .given)) ∙ sym (List·getD-map unsigned (s .args .corners .now) i (pos 0)) in
-    let e = put-more (s .args .from) (map unsigned (s .args .corners .now)) (s .args .bytes .now) i (omega arith) (omega arith) (l .loop .inv .2) refl q (w .put-word .ensures) in
+    let e = put-more (s .args .from) (map unsigned (s .args .corners .now)) (s .args .bytes .now) (omega arith) (omega arith) (l .loop .inv .2) refl q (w .put-word .ensures) in
     (omega arith, put-length (s .args .from) (map unsigned (s .args .corners .now)) (s .args .bytes .now) (i + 1) (omega arith) (omega arith) e, e)
 
 same-length : tie.Need-same-length Inv-loop μ-loop

@@ -45,7 +45,7 @@ loop-again c =
     let l = test .before in
     let s = l .before .before .before in
     let i = l .loop .i in
-    let e = put-more (s .args .from) (s .args .words .now) (s .args .bytes .now) i (test .loop-test .taken) (omega arith) (l .loop .inv .2) refl refl (w .put-word .ensures) in
+    let e = put-more (s .args .from) (s .args .words .now) (s .args .bytes .now) (test .loop-test .taken) (omega arith) (l .loop .inv .2) refl refl (w .put-word .ensures) in
     (omega arith, put-length (s .args .from) (s .args .words .now) (s .args .bytes .now) (i + 1) (omega arith) (omega arith) e, e)
 
 same-length : tie.Need-same-length Inv-loop μ-loop

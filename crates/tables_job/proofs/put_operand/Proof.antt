@@ -65,7 +65,7 @@ same-length c = search needs
 returns : tie.Need-returns
 returns c =
     let s = c .before .before .before .before .before .before .before .before .before .before .before .before .before in
-    operand-put (s .args .bytes .now) (s .args .k) (s .args .at) (s .pre) (c .before .before .before .before .before .before .before .before .before .before .word-at .ensures) (c .before .before .before .before .before .before .before .before .before .word-at2 .ensures) (c .before .before .before .before .before .before .before .put-bounds .ensures) (c .before .before .put-bytes .ensures)
+    operand-put (s .pre) (c .before .before .before .before .before .before .before .before .before .before .word-at .ensures) (c .before .before .before .before .before .before .before .before .before .word-at2 .ensures) (c .before .before .before .before .before .before .before .put-bounds .ensures) (c .before .before .put-bytes .ensures)
 
 pub put-operand-spec : {M : Type 1} → statement M
 put-operand-spec =

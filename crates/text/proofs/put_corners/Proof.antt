@@ -32,7 +32,7 @@ put-corner-requires : tie.Need-put-corner-requires Inv-loop μ-loop
 put-corner-requires c κs =
     let l = c .before .before .before .loop in
     let s = pointsOf (c .before .before .before .before .before .before .args .corners .now) in
-    omega (arith, corner-room s (l .k) (subst (λ n. l .k < n) (l .inv .0) (c .before .before .loop-test .taken)) (c .before .corner-at .ensures), l .inv .3 .after)
+    omega (arith, corner-room s (subst (λ n. l .k < n) (l .inv .0) (c .before .before .loop-test .taken)) (c .before .corner-at .ensures), l .inv .3 .after)
 
 add-k : tie.Need-add-k Inv-loop μ-loop
 add-k c = search needs
@@ -45,7 +45,7 @@ loop-again c =
     let l = c .before .before .before .before .before .before .loop in
     let s = pointsOf (c .before .before .before .before .before .before .before .before .before .args .corners .now) in
     let here = subst (λ n. l .k < n) (l .inv .0) (c .before .before .before .before .before .loop-test .taken) in
-    (l .inv .0, omega arith, omega arith, corner-put s (l .k) here (c .before .before .before .before .corner-at .ensures) (omega arith) (l .inv .3) (c .before .before .put-corner .ensures))
+    (l .inv .0, omega arith, omega arith, corner-put s here (c .before .before .before .before .corner-at .ensures) (omega arith) (l .inv .3) (c .before .before .put-corner .ensures))
 
 same-length : tie.Need-same-length Inv-loop μ-loop
 same-length c = search needs

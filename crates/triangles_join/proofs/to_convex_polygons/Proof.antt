@@ -186,7 +186,7 @@ module _ {M : Type 1} (𝓤 : URA M) (H : Heap 𝓤) (A : Atoms 𝓤) (W : Given
       suffices ! _ (ends-at 𝓤 H A self.ended stayed (self.clauses 𝓤 H A mem run) W (((κ, (κ₁, (κ₂, tt))), (q, (q₁, (q₂, tt))), tt, a, at), tt) w r (tt, (f, (g, tt))) (tt, (lf, (lg, tt)))) $ says ! e $
       frame ! $ nothing ! $ move ! (3 ∷ 0 ∷ []) $ fjoin ! $ move ! (2 ∷ 0 ∷ []) $ fjoin ! $ move ! (1 ∷ 0 ∷ []) $ fjoin ! $ frame ! $ done !
 
-  module _ (𝓣 : Tables 𝓤 H) (known : Calls 𝓤 H A mem run 𝓣) (h : Homes (code.function .locals)) where
+  module _ {𝓣 : Tables 𝓤 H} (known : Calls 𝓤 H A mem run 𝓣) (h : Homes (code.function .locals)) where
     abbrev En : Env 𝓤 H
     En = env 𝓤 H (code.function .locals) h
 
@@ -241,9 +241,9 @@ module _ {M : Type 1} (𝓤 : URA M) (H : Heap 𝓤) (A : Atoms 𝓤) (W : Given
       pass1 ! (init ! 38 refl (shr-slice-lawful 𝓤 H A W (named 0) κ T.the-row .typed s (lent s ∷ []) p .0)) $ pass1 ! (init ! 36 refl (mut-slice-lawful 𝓤 H A W (named 1) κ₁ u32 .typed x (held x ∷ []) px .0)) $ pass1 ! (init ! 34 refl (mut-slice-lawful 𝓤 H A W (named 2) κ₂ i32 .typed y (held y ∷ []) py .0)) $ pass0 ! $
       assigns ! (of-opd ! (load ! (from ! (fld ! refl (stop !))) (look-in ! 38 (sub ! 1 refl (whole !))))) (from ! (stop !)) (init ! 32 refl (tt, record { fits = fits-len })) $
       move ! (43 ∷ []) $ fsplit ! $ move ! (1 ∷ []) $ fsplit ! $ move ! (1 ∷ []) $ fsplit ! $ move ! (46 ∷ []) $ split ! $ move ! (0 ∷ 3 ∷ []) $ join ! $ move ! (0 ∷ 4 ∷ 1 ∷ 3 ∷ 2 ∷ 21 ∷ 23 ∷ 25 ∷ 27 ∷ 35 ∷ 29 ∷ 37 ∷ 39 ∷ 41 ∷ 43 ∷ 45 ∷ 13 ∷ 15 ∷ 17 ∷ 19 ∷ 33 ∷ 5 ∷ 7 ∷ 9 ∷ 11 ∷ 31 ∷ []) $
-      from-tiny 𝓣 known h)
+      from-tiny known h)
 
-module _ {M : Type 1} (𝓤 : URA M) (H : Heap 𝓤) (A : Atoms 𝓤) (W : Given 𝓤 H A) (mem : Memory → SProp 𝓤) (run : Routine → Fun 𝓤) (𝓣 : Tables 𝓤 H) (known : Calls 𝓤 H A mem run 𝓣) where
+module _ {M : Type 1} {𝓤 : URA M} {H : Heap 𝓤} {A : Atoms 𝓤} (W : Given 𝓤 H A) (mem : Memory → SProp 𝓤) (run : Routine → Fun 𝓤) {𝓣 : Tables 𝓤 H} (known : Calls 𝓤 H A mem run 𝓣) where
   walks : Walks 𝓤 H A self.ended stayed (WpFn 𝓤 H (𝓣 .C) (𝓣 .Λ) code.function) (self.clauses 𝓤 H A mem run)
   walks = walked 𝓤 H A self.ended stayed (self.clauses 𝓤 H A mem run) (WpFn 𝓤 H (𝓣 .C) (𝓣 .Λ) code.function) (λ κs. (slice-vals, (slice-vals, (slice-vals, tt))))
       (λ κs. (shr-slice-tells (named 0) (κs .0) T.the-row, (mut-slice-tells (named 1) (κs .1 .0) u32, (mut-slice-tells (named 2) (κs .1 .1 .0) i32, tt))))
@@ -258,8 +258,8 @@ unfolding code.routine tablesOf
 to-convex-polygons-spec 𝓤 H 𝓜 𝓖 𝓡 =
     entered 𝓤 H (tripleOf 𝓤 H (𝓖 .A) self.signature (self.spec 𝓤 H (𝓖 .A) (𝓜 .mem) (𝓡 .run)))
     (tables 𝓤 H 𝓜 𝓡 code.env .C) (tables 𝓤 H 𝓜 𝓡 code.env .Λ) #self code.function (code.unfolded 𝓤 H 𝓜 𝓡)
-    (meets 𝓤 H (𝓖 .A) (givenOf 𝓤 H 𝓜 𝓖) (𝓜 .mem) (𝓡 .run) (tablesOf 𝓤 H 𝓜 (tables 𝓤 H 𝓜 𝓡 code.env)) (
-      known-in 𝓤 H 𝓜 𝓖 𝓡 code.env (Rest 𝓤 H (𝓖 .A) (𝓜 .mem) (𝓡 .run)) #rest-tiny #rest-small #rest-large code.calls-triangles·rows-tiny code.calls-triangles·rows-small code.calls-triangles·rows-large
+    (meets (givenOf 𝓤 H 𝓜 𝓖) (𝓜 .mem) (𝓡 .run) (
+      known-in 𝓜 𝓖 𝓡 code.env code.calls-triangles·rows-tiny code.calls-triangles·rows-small code.calls-triangles·rows-large
           code.calls-triangles-join·join-tiny code.calls-triangles-join·join-small code.calls-triangles-join·join-large (rest-tiny-thm.met 𝓤 H 𝓜 𝓖 𝓡) (rest-small-thm.met 𝓤 H 𝓜 𝓖 𝓡) (rest-large-thm.met 𝓤 H 𝓜 𝓖 𝓡),
       cited 𝓤 H (Refuse 𝓤 H (𝓖 .A) (𝓜 .mem) (𝓡 .run)) 𝓜 𝓡 code.env #refuse refuse-def.routine code.calls-convex-gather·refusal (refuse-thm.met 𝓤 H 𝓜 𝓖 𝓡),
     ))

@@ -23,7 +23,7 @@ use Rattle.walk_begin.proofs.place_by.Statement.{statement}
 use Rattle.walk_begin.proofs.place_by.Tie as tie
 
 -- m corners, and the end at f, as the code holds them
-module _ (reflected : Bool) (l : List Pt) (s : ℕ) (w : ℤ) (fits : SFits w64 w) {m f : ℕ} (em : m ≡ length l) (ef : f ≡ endAt reflected l) where
+module _ (reflected : Bool) (l : List Pt) (s : ℕ) {w : ℤ} (fits : SFits w64 w) {m f : ℕ} (em : m ≡ length l) (ef : f ≡ endAt reflected l) where
   abbrev held : ℤ
   held = toZ w64 (ofZ w64 w)
 
@@ -56,13 +56,13 @@ round-requires : tie.Need-round-requires
 round-requires c κs = search needs
 
 returns : tie.Need-returns
-returns c = c .round .ensures ∙ backward _ (pointsOf (c .before .before .before .args .contour .now)) _ _ (c .before .before .before .fits .total) (c .before .before .corner-count .ensures) refl (c .before .if1 .taken)
+returns c = c .round .ensures ∙ backward _ (pointsOf (c .before .before .before .args .contour .now)) _ (c .before .before .before .fits .total) (c .before .before .corner-count .ensures) refl (c .before .if1 .taken)
 
 round-requires-2 : tie.Need-round-requires-2
 round-requires-2 c κs = search needs
 
 returns-2 : tie.Need-returns-2
-returns-2 c = c .round2 .ensures ∙ onward _ (pointsOf (c .before .before .before .before .args .contour .now)) _ _ (c .before .before .before .before .fits .total) (c .before .before .before .corner-count .ensures) refl (c .before .before .if1 .left) (c .before .if2 .taken)
+returns-2 c = c .round2 .ensures ∙ onward _ (pointsOf (c .before .before .before .before .args .contour .now)) _ (c .before .before .before .before .fits .total) (c .before .before .before .corner-count .ensures) refl (c .before .before .if1 .left) (c .before .if2 .taken)
 
 end-at-requires : tie.Need-end-at-requires
 end-at-requires c κs = search needs
@@ -95,7 +95,7 @@ returns-3 c =
     ∙ p3 .same-point .ensures
     ∙ (λ i. eqPt (p2 .corner-at .ensures i) ((p3 .before .corner-at2 .ensures ∙ ap (cornerAt l) (p2 .before .end-at .ensures)) i)) in
     c .along .ensures
-    ∙ back-and-forth (a .reflected) l (a .s) (a .total) (start .fits .total) refl (p2 .before .end-at .ensures) (p1 .before .if1 .left)
+    ∙ back-and-forth (a .reflected) l (a .s) (start .fits .total) refl (p2 .before .end-at .ensures) (p1 .before .if1 .left)
     (p1 .if2 .left) same
 
 along-requires-2 : tie.Need-along-requires-2
@@ -114,7 +114,7 @@ returns-4 c =
     ∙ p3 .same-point .ensures
     ∙ (λ i. eqPt (p2 .corner-at .ensures i) ((p3 .before .corner-at2 .ensures ∙ ap (cornerAt l) (p2 .before .end-at .ensures)) i)) in
     c .along2 .ensures
-    ∙ back-and-forth (a .reflected) l (a .s) (a .total) (start .fits .total) refl (p2 .before .end-at .ensures) (p1 .before .if1 .left)
+    ∙ back-and-forth (a .reflected) l (a .s) (start .fits .total) refl (p2 .before .end-at .ensures) (p1 .before .if1 .left)
     (p1 .if2 .left) same
 
 pub place-by-spec : {M : Type 1} → statement M

@@ -17,7 +17,7 @@ use Rattle.walk_extremes.proofs.below.Tie as tie
 held : {a b : ℤ} {t : Bool} → SFits w32 a → SFits w32 b → ltZ (toZ w32 (ofZ w32 a)) (toZ w32 (ofZ w32 b)) ≡ t → ltZ a b ≡ t
 held f g e = rw (kept f, kept g) at e
 
-module _ (p q : Pt) (px : SFits w32 (p .x)) (py : SFits w32 (p .y)) (qx : SFits w32 (q .x)) (qy : SFits w32 (q .y)) where
+module _ {p q : Pt} (px : SFits w32 (p .x)) (py : SFits w32 (p .y)) (qx : SFits w32 (q .x)) (qy : SFits w32 (q .y)) where
   abbrev machine : ℤ → ℤ
   machine z = toZ w32 (ofZ w32 z)
 
@@ -34,13 +34,13 @@ module _ (p q : Pt) (px : SFits w32 (p .x)) (py : SFits w32 (p .y)) (qx : SFits 
   level h k = rw (held py qy h, held qy py k, kept px, kept qx)
 
 returns : tie.Need-returns
-returns c = lower _ _ (search needs) (search needs) (search needs) (search needs) (c .if1 .taken)
+returns c = lower (search needs) (search needs) (search needs) (search needs) (c .if1 .taken)
 
 returns-2 : tie.Need-returns-2
-returns-2 c = higher _ _ (search needs) (search needs) (search needs) (search needs) (c .before .before .before .before .before .if1 .left) (c .if2 .taken)
+returns-2 c = higher (search needs) (search needs) (search needs) (search needs) (c .before .before .before .before .before .if1 .left) (c .if2 .taken)
 
 returns-3 : tie.Need-returns-3
-returns-3 c = level _ _ (search needs) (search needs) (search needs) (search needs) (c .before .before .before .before .before .before .before .before .before .if1 .left) (c .before .before .before .before .if2 .left)
+returns-3 c = level (search needs) (search needs) (search needs) (search needs) (c .before .before .before .before .before .before .before .before .before .if1 .left) (c .before .before .before .before .if2 .left)
 
 pub below-spec : {M : Type 1} → statement M
 below-spec = tie.close (tie.spec returns returns-2 returns-3)

@@ -9,7 +9,7 @@ use borrow.Author.Needs.{needs}
 use Rattle.walk_extremes.proofs.end_at.Statement.{statement}
 use Rattle.walk_extremes.proofs.end_at.Tie as tie
 
-module _ (reflected : Bool) (l : List Pt) {r : ℕ} where
+module _ {reflected : Bool} (l : List Pt) {r : ℕ} where
   turned : reflected ≡ true → r ≡ leastAt l → r ≡ endAt reflected l
   unfolding endAt
   turned h e = rw h e
@@ -22,13 +22,13 @@ least-at-requires : tie.Need-least-at-requires
 least-at-requires c κs = search needs
 
 returns : tie.Need-returns
-returns c = turned _ _ (c .before .if1 .taken) (c .least-at .ensures)
+returns c = turned _ (c .before .if1 .taken) (c .least-at .ensures)
 
 greatest-at-requires : tie.Need-greatest-at-requires
 greatest-at-requires c κs = search needs
 
 returns-2 : tie.Need-returns-2
-returns-2 c = straight _ _ (c .before .if1 .left) (c .greatest-at .ensures)
+returns-2 c = straight _ (c .before .if1 .left) (c .greatest-at .ensures)
 
 pub end-at-spec : {M : Type 1} → statement M
 end-at-spec = tie.close (tie.spec least-at-requires returns greatest-at-requires returns-2)

@@ -38,12 +38,12 @@ loop-again c =
     let b = c .before .before .loop .best in
     let i = c .before .before .loop .i in (
       search needs,
-      better-inside (below (cornerAt l i) (cornerAt l b)) b i (c .greater-of .ensures) (omega arith) (omega arith),
-      c .before .before .loop .inv .2 ∙ greatest-turn l b i (omega (arith, c .before .before .before .corner-count .ensures)) (c .greater-of .ensures),
+      better-inside (below (cornerAt l i) (cornerAt l b)) (c .greater-of .ensures) (omega arith) (omega arith),
+      c .before .before .loop .inv .2 ∙ greatest-turn l b (omega (arith, c .before .before .before .corner-count .ensures)) (c .greater-of .ensures),
     )
 
 returns : tie.Need-returns Inv-loop μ-loop
-returns c = sym (c .before .loop .inv .2 ∙ greatest-ends (pointsOf (c .before .before .before .args .contour .now)) (c .before .loop .best) (c .before .loop .i) (omega (arith, c .before .before .corner-count .ensures)))
+returns c = sym (c .before .loop .inv .2 ∙ greatest-ends (pointsOf (c .before .before .before .args .contour .now)) (c .before .loop .best) (omega (arith, c .before .before .corner-count .ensures)))
 
 pub greatest-at-spec : {M : Type 1} → statement M
 greatest-at-spec =

@@ -9,7 +9,7 @@ use borrow.Author.Needs.{needs}
 use Rattle.walk_extremes.proofs.start_at.Statement.{statement}
 use Rattle.walk_extremes.proofs.start_at.Tie as tie
 
-module _ (reflected : Bool) (l : List Pt) {r : ℕ} where
+module _ {reflected : Bool} (l : List Pt) {r : ℕ} where
   turned : reflected ≡ true → r ≡ greatestAt l → r ≡ startAt reflected l
   unfolding startAt
   turned h e = rw h e
@@ -22,13 +22,13 @@ greatest-at-requires : tie.Need-greatest-at-requires
 greatest-at-requires c κs = search needs
 
 returns : tie.Need-returns
-returns c = turned _ _ (c .before .if1 .taken) (c .greatest-at .ensures)
+returns c = turned _ (c .before .if1 .taken) (c .greatest-at .ensures)
 
 least-at-requires : tie.Need-least-at-requires
 least-at-requires c κs = search needs
 
 returns-2 : tie.Need-returns-2
-returns-2 c = straight _ _ (c .before .if1 .left) (c .least-at .ensures)
+returns-2 c = straight _ (c .before .if1 .left) (c .least-at .ensures)
 
 pub start-at-spec : {M : Type 1} → statement M
 start-at-spec = tie.close (tie.spec greatest-at-requires returns least-at-requires returns-2)

@@ -9,13 +9,13 @@ use Rattle.walk_merge.proofs.belongs.Statement.{statement}
 use Rattle.walk_merge.proofs.belongs.Tie as tie
 
 returns : tie.Need-returns
-returns c = fresh-belongs (c .before .args .headed) (c .before .args .heading) (vector (c .before .args .e)) (not-true (c .before .args .headed) (c .if1 .taken))
+returns c = fresh-belongs (c .before .args .heading) (vector (c .before .args .e)) (not-true (c .before .args .headed) (c .if1 .taken))
 
 is-zero-requires : tie.Need-is-zero-requires
 is-zero-requires c κs = search needs
 
 returns-2 : tie.Need-returns-2
-returns-2 c = zero-belongs (c .before .before .before .args .headed) (c .before .before .before .args .heading) (vector (c .before .before .before .args .e)) (not-false (c .before .before .before .args .headed) (c .before .before .if1 .left)) (sym (c .before .is-zero .ensures) ∙ c .if2 .taken)
+returns-2 c = zero-belongs (c .before .before .before .args .heading) (vector (c .before .before .before .args .e)) (not-false (c .before .before .before .args .headed) (c .before .before .if1 .left)) (sym (c .before .is-zero .ensures) ∙ c .if2 .taken)
 
 angle-cmp-requires : tie.Need-angle-cmp-requires
 angle-cmp-requires c κs = search needs
@@ -34,7 +34,7 @@ returns-3 c =
     let p2 = c .before .before in
     let p1 = p2 .before .before in
     let s = p1 .before .before in
-    by-direction (s .args .headed) (s .args .heading) (vector (s .args .e)) (not-false (s .args .headed) (p1 .before .if1 .left))
+    by-direction (s .args .heading) (vector (s .args .e)) (not-false (s .args .headed) (p1 .before .if1 .left))
     (sym (p1 .is-zero .ensures) ∙ p2 .before .if2 .left) (ap isEqual (sym (p2 .angle-cmp .ensures) ∙ c .enum-told .given .1))
 
 returns-4 : tie.Need-returns-4
@@ -42,7 +42,7 @@ returns-4 c =
     let p2 = c .before .before in
     let p1 = p2 .before .before in
     let s = p1 .before .before in
-    by-direction (s .args .headed) (s .args .heading) (vector (s .args .e)) (not-false (s .args .headed) (p1 .before .if1 .left))
+    by-direction (s .args .heading) (vector (s .args .e)) (not-false (s .args .headed) (p1 .before .if1 .left))
     (sym (p1 .is-zero .ensures) ∙ p2 .before .if2 .left) (ap isEqual (sym (p2 .angle-cmp .ensures) ∙ c .enum-told2 .given .1))
 
 returns-5 : tie.Need-returns-5
@@ -50,7 +50,7 @@ returns-5 c =
     let p2 = c .before .before in
     let p1 = p2 .before .before in
     let s = p1 .before .before in
-    by-direction (s .args .headed) (s .args .heading) (vector (s .args .e)) (not-false (s .args .headed) (p1 .before .if1 .left))
+    by-direction (s .args .heading) (vector (s .args .e)) (not-false (s .args .headed) (p1 .before .if1 .left))
     (sym (p1 .is-zero .ensures) ∙ p2 .before .if2 .left) (ap isEqual (sym (p2 .angle-cmp .ensures) ∙ c .enum-told3 .given .1))
 
 pub belongs-spec : {M : Type 1} → statement M

@@ -13,7 +13,7 @@ use Rattle.walk.specs.Calls.{misplaced}
 use Rattle.walk_read.proofs.misplaced.Statement.{statement}
 use Rattle.walk_read.proofs.misplaced.Tie as tie
 
-module _ (n : ℕ) (w : Place) where
+module _ {n : ℕ} (w : Place) where
   by-place : n ≤ w .index → true ≡ misplaced n w
   unfolding misplaced
   by-place h = rw (le-leb n (w .index) h)
@@ -34,22 +34,22 @@ cast-if1 : tie.Need-cast-if1
 cast-if1 c = search needs
 
 returns : tie.Need-returns
-returns c = by-place _ _ (omega (arith, c .if1 .taken))
+returns c = by-place _ (omega (arith, c .if1 .taken))
 
 cast-if3 : tie.Need-cast-if3
 cast-if3 c = search needs
 
 returns-2 : tie.Need-returns-2
-returns-2 c = by-start _ _ (c .before .before .if2 .taken) (c .if3 .taken)
+returns-2 c = by-start _ (c .before .before .if2 .taken) (c .if3 .taken)
 
 cast-result : tie.Need-cast-result
 cast-result c = search needs
 
 returns-3 : tie.Need-returns-3
-returns-3 c = by-end _ _ (c .before .before .before .before .if1 .left) (c .before .before .before .if2 .taken) (c .before .if3 .left)
+returns-3 c = by-end _ (c .before .before .before .before .if1 .left) (c .before .before .before .if2 .taken) (c .before .if3 .left)
 
 returns-4 : tie.Need-returns-4
-returns-4 c = off-segment _ _ (c .before .if1 .left) (c .if2 .left)
+returns-4 c = off-segment _ (c .before .if1 .left) (c .if2 .left)
 
 pub misplaced-spec : {M : Type 1} → statement M
 misplaced-spec =

@@ -50,7 +50,7 @@ returns c =
     let x = got w64 _ (p1 .before .term-at .ok) ∙ p1 .before .term-at .ensures .0 in
     sym
     (l .loop .inv .1
-    ∙ wound-leaves ts (l .loop .k) (toZ w64 (l .loop .total)) x
+    ∙ wound-leaves ts (toZ w64 (l .loop .total)) x
     (omega (arith, length-terms (start .args .s) (pointsOf (start .args .contour .now)), l .before .corner-count .ensures))
     (sym (p1 .add-term .ensures) ∙ c .enum-told .given .1))
 
@@ -69,7 +69,7 @@ loop-again c =
     let x = got w64 _ (p1 .before .term-at .ok) ∙ p1 .before .term-at .ensures .0 in (
       omega arith,
       l .loop .inv .1
-          ∙ wound-turn ts (l .loop .k) (toZ w64 (l .loop .total)) x
+          ∙ wound-turn ts (toZ w64 (l .loop .total)) x
           (omega (arith, length-terms (start .args .s) (pointsOf (start .args .contour .now)), l .before .corner-count .ensures))
           (sym (p1 .add-term .ensures) ∙ c .before .sum .given .1)
           ∙ ap (λ z. windingOf z (drop (l .loop .k + 1) ts)) (sym (kept (search needs))),

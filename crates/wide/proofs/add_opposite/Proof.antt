@@ -13,7 +13,7 @@ use Rattle.wide.proofs.add_opposite.Statement.{statement}
 use Rattle.wide.proofs.add_opposite.Tie as tie
 
 -- what the test t tells
-module _ {t : Bool} (m n : ℕ) (e : t ≡ ltb m n) where
+module _ {t : Bool} {m n : ℕ} (e : t ≡ ltb m n) where
   less : t ≡ true → m ≤ n
   less h = le-of-lt (ltb-true m n (sym e ∙ h))
 
@@ -26,7 +26,7 @@ less-magnitude-requires c κs = search needs
 subtract-magnitudes-requires : tie.Need-subtract-magnitudes-requires
 subtract-magnitudes-requires c κs =
     let s = c .before .before in
-    less (magnitude (s .args .a)) (magnitude (s .args .b)) (c .before .less-magnitude .ensures) (c .if1 .taken)
+    less (c .before .less-magnitude .ensures) (c .if1 .taken)
 
 returns : tie.Need-returns
 returns c =
@@ -36,7 +36,7 @@ returns c =
 subtract-magnitudes-requires-2 : tie.Need-subtract-magnitudes-requires-2
 subtract-magnitudes-requires-2 c κs =
     let s = c .before .before in
-    not-less (magnitude (s .args .a)) (magnitude (s .args .b)) (c .before .less-magnitude .ensures) (c .if1 .left)
+    not-less (c .before .less-magnitude .ensures) (c .if1 .left)
 
 returns-2 : tie.Need-returns-2
 returns-2 c =

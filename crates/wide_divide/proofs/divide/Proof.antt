@@ -17,7 +17,7 @@ use Rattle.wide_divide.proofs.divide.Tie as tie
 short : {high : ℕ} (low : ℕ) {d : ℕ} → high ≡ 0 → 0 < d → Divided (twoWords high low) d (record { quotient = low / d; remainder = low % d })
 short low {d} e h = record { whole = div-add-mod' low d ∙ omega arith; rest = mod-lt low h }
 
-module _ (h l d s : ℕ) (hd : h < d) (fl : l < 2 ^ 64) (n : Normal d s) where
+module _ {h l d s : ℕ} (hd : h < d) (fl : l < 2 ^ 64) (n : Normal d s) where
   top-fits : Fits w64 ((h * 2 ^ s) % 2 ^ 64 + l / 2 / 2 ^ (63 - s))
   top-fits = record { fits = omega (arith, top-below h l d s hd fl n, n .word) }
 
@@ -52,7 +52,7 @@ shr-top : tie.Need-shr-top
 shr-top c = search needs
 
 add-top : tie.Need-add-top
-add-top c = let s = c .before .before in top-fits (s .args .high) (s .args .low) (s .args .d) (c .doublings .result) (s .pre) (s .fits .low .fits) (c .doublings .ensures)
+add-top c = let s = c .before .before in top-fits (s .pre) (s .fits .low .fits) (c .doublings .ensures)
 
 cast-divide-normal : tie.Need-cast-divide-normal
 cast-divide-normal c = search needs
@@ -67,7 +67,7 @@ shl-divide-normal-2 : tie.Need-shl-divide-normal-2
 shl-divide-normal-2 c = search needs
 
 divide-normal-requires : tie.Need-divide-normal-requires
-divide-normal-requires c κs = let s = c .before .before in asks (s .args .high) (s .args .low) (s .args .d) (c .doublings .result) (s .pre) (s .fits .low .fits) (c .doublings .ensures)
+divide-normal-requires c κs = let s = c .before .before in asks (s .pre) (s .fits .low .fits) (c .doublings .ensures)
 
 cast-t12 : tie.Need-cast-t12
 cast-t12 c = search needs

@@ -31,7 +31,7 @@ loop-holds : tie.Need-loop-holds Inv-loop μ-loop
 loop-holds c = let s = c in guess-start (s .args .u) (s .args .x) (s .args .v) (s .pre .0) (s .pre .1) (s .pre .2)
 
 mul-product : tie.Need-mul-product Inv-loop μ-loop
-mul-product c = let s = c .before .before in record { fits = product-fits (s .args .u) (s .args .x) (s .args .v) (s .pre .0) (s .pre .1) (s .pre .2) (c .before .loop .q) (c .before .loop .rest) (c .before .loop .inv) (s .fits .v .fits) }
+mul-product c = let s = c .before .before in record { fits = product-fits (s .args .u) (s .args .x) (s .args .v) (s .pre .0) (s .pre .1) (s .pre .2) (c .before .loop .inv) (s .fits .v .fits) }
 
 mul-sum : tie.Need-mul-sum Inv-loop μ-loop
 mul-sum c = omega (arith, c .loop-test .taken)
@@ -40,7 +40,7 @@ add-sum : tie.Need-add-sum Inv-loop μ-loop
 add-sum c = omega (arith, c .loop-test .taken, c .before .before .pre .2)
 
 returns : tie.Need-returns Inv-loop μ-loop
-returns c = let s = c .before .before .before in guess-early (s .args .u) (s .args .x) (s .args .v) (s .pre .0) (s .pre .1) (s .pre .2) (c .before .before .loop .q) (c .before .before .loop .rest) (c .before .before .loop .inv) (c .if1 .taken)
+returns c = let s = c .before .before .before in guess-early (s .args .u) (s .args .x) (s .args .v) (s .pre .0) (s .pre .1) (s .pre .2) (c .before .before .loop .inv) (c .if1 .taken)
 
 sub-q : tie.Need-sub-q Inv-loop μ-loop
 sub-q c = let s = c .before .before .before in guess-some (s .args .u) (s .args .x) (s .args .v) (s .pre .0) (s .pre .1) (s .pre .2) (c .before .before .loop .q) (c .before .before .loop .rest) (c .if1 .left)
@@ -55,7 +55,7 @@ loop-again : tie.Need-loop-again Inv-loop μ-loop
 loop-again c = let s = c .before .before .before in guess-turn (s .args .u) (s .args .x) (s .args .v) (s .pre .0) (s .pre .1) (s .pre .2) (c .before .before .loop .inv) (c .before .loop-test .taken) (c .if1 .left)
 
 mul-product-2 : tie.Need-mul-product-2 Inv-loop μ-loop
-mul-product-2 c = let s = c .before .before in record { fits = product-fits (s .args .u) (s .args .x) (s .args .v) (s .pre .0) (s .pre .1) (s .pre .2) (c .before .loop .q) (c .before .loop .rest) (c .before .loop .inv) (s .fits .v .fits) }
+mul-product-2 c = let s = c .before .before in record { fits = product-fits (s .args .u) (s .args .x) (s .args .v) (s .pre .0) (s .pre .1) (s .pre .2) (c .before .loop .inv) (s .fits .v .fits) }
 
 add-t16 : tie.Need-add-t16 Inv-loop μ-loop
 add-t16 c = let s = c .before .before in over-fits (c .before .loop .inv .near) (s .fits .v .fits) (s .pre .2)
@@ -67,7 +67,7 @@ sub-t17 : tie.Need-sub-t17 Inv-loop μ-loop
 sub-t17 c = omega (arith, mul-product-2 c)
 
 returns-2 : tie.Need-returns-2 Inv-loop μ-loop
-returns-2 c = let s = c .before .before in guess-late (s .args .u) (s .args .x) (s .args .v) (s .pre .0) (s .pre .1) (s .pre .2) (c .before .loop .q) (c .before .loop .rest) (c .before .loop .inv) (s .fits .v .fits) (c .loop-test .left)
+returns-2 c = let s = c .before .before in guess-late (s .args .u) (s .args .x) (s .args .v) (s .pre .0) (s .pre .1) (s .pre .2) (c .before .loop .inv) (s .fits .v .fits) (c .loop-test .left)
 
 add-t18 : tie.Need-add-t18 Inv-loop μ-loop
 add-t18 c = let s = c .before .before in left-fits _ (returns-2 c .0 .rest) (s .fits .v .fits) .0

@@ -25,7 +25,7 @@ room q e h = record { fits = omega arith }
 returns : tie.Need-returns
 returns c =
     let s = c .before .before in
-    nearest-up (twoWords (s .args .high) (s .args .low)) (s .args .d) (c .before .divide .result) (c .before .divide .ensures) (omega (arith, c .if1 .taken))
+    nearest-up (c .before .divide .ensures) (omega (arith, c .if1 .taken))
 
 add-result : tie.Need-add-result
 add-result c =
@@ -35,7 +35,7 @@ add-result c =
 returns-2 : tie.Need-returns-2
 returns-2 c =
     let s = c .before .before in
-    nearest-down (twoWords (s .args .high) (s .args .low)) (s .args .d) (c .before .divide .result) (c .before .divide .ensures) (c .if1 .left)
+    nearest-down (c .before .divide .ensures) (c .if1 .left)
 
 pub divide-with-rounding-spec : {M : Type 1} → statement M
 divide-with-rounding-spec = tie.close (tie.spec divide-requires sub-if1 add-result returns returns-2)
