@@ -1,5 +1,5 @@
-/* Bezinkwolu: convex parts of triangle meshes, and their sums and differences pair by pair. Link
- * with -lbezinkwolu.
+/* Bezinkwolu: convex parts of triangle meshes, their sums and differences pair by pair, and
+ * outlines of drawings on the grid. Link with -lbezinkwolu.
  *
  * Every function here takes any input: it refuses by a number, or it finishes and its answer is
  * complete. What each does is proved; these comments say it in words, and the contracts stand in
@@ -75,6 +75,7 @@ enum bezinkwolu_fault {
     BEZINKWOLU_FAULT_TOTAL = 11,       /* Doubled areas of the mesh add up to more than 2^63-1, or a measured one leaves signed 64 bits. */
     BEZINKWOLU_FAULT_PART = 12,        /* A part number past the table. */
     BEZINKWOLU_FAULT_FILE = 13,        /* A file or a pair job against its rules, or no such split. */
+    BEZINKWOLU_FAULT_PATH = 14,        /* A path's step count, number, point or order of items against the rules. */
     /* Faults that come from the state. */
     BEZINKWOLU_FAULT_EMPTY = 20,       /* An operand without parts, or a walk begun on an empty contour. */
     BEZINKWOLU_FAULT_CORNER_ROOM = 21, /* Fewer places for corners, or for bytes, than the answer has. */
@@ -101,6 +102,7 @@ static inline const char *bezinkwolu_fault_text(uint32_t fault)
     case BEZINKWOLU_FAULT_TOTAL: return "doubled areas of the mesh add up to more than 2^63-1, or a measured one leaves signed 64 bits";
     case BEZINKWOLU_FAULT_PART: return "a part number past the table";
     case BEZINKWOLU_FAULT_FILE: return "a file or a pair job against its rules, or no such split";
+    case BEZINKWOLU_FAULT_PATH: return "a path's step count, number, point or order of items against the rules";
     case BEZINKWOLU_FAULT_EMPTY: return "an operand without parts, or a walk begun on an empty contour";
     case BEZINKWOLU_FAULT_CORNER_ROOM: return "fewer places for corners, or for bytes, than the answer has";
     case BEZINKWOLU_FAULT_START_ROOM: return "fewer places for starts than the answer has";
@@ -438,6 +440,56 @@ bezinkwolu_told_pair bezinkwolu_pair_difference(
 bezinkwolu_told_next bezinkwolu_pair_next(
     const int32_t *left, size_t left_length, const int32_t *right, size_t right_length,
     bezinkwolu_places at) BEZINKWOLU_NONNULL;
+
+/* ---- outlines from a drawing program */
+
+/* What an item of a path does, with SVG's meaning. */
+enum bezinkwolu_path_kind {
+    BEZINKWOLU_PATH_MOVE = 0,          /* To x, y. */
+    BEZINKWOLU_PATH_LINE = 1,          /* A line to x, y. */
+    BEZINKWOLU_PATH_HORIZONTAL = 2,    /* A line to x at the same height; y is not read. */
+    BEZINKWOLU_PATH_VERTICAL = 3,      /* A line up or down to y; x is not read. */
+    BEZINKWOLU_PATH_RELATIVE_LINE = 4, /* A line by x, y from the point before. */
+    BEZINKWOLU_PATH_CLOSE = 5          /* The end, which writes no corner; neither is read. */
+};
+
+/* An item: one of the kinds, with the millimetres that it carries. What it does not carry may hold
+ * any bits. */
+typedef struct bezinkwolu_path_item {
+    uint64_t kind;
+    double x;
+    double y;
+} bezinkwolu_path_item;
+
+/* An origin in millimetres, and how many steps of the grid a millimetre has: a power of two from 1
+ * to 1,024. */
+typedef struct bezinkwolu_frame {
+    double x;
+    double y;
+    double steps;
+} bezinkwolu_frame;
+
+/* `corners` is how many were written, 0 where refused. */
+typedef struct bezinkwolu_told_corners {
+    uint32_t fault;
+    uint32_t corners;
+} bezinkwolu_told_corners;
+
+/* The corners of a path on the grid: of each point that an item but the close reaches, the origin
+ * is subtracted, the step count multiplied, and the result rounded to the nearest whole number,
+ * halves away from zero. Relative lines add in double, one rounding each; of the point so reached
+ * each grid coordinate lies within one half plus 2^-23 of the exact difference times the step
+ * count. The thread's floating-point environment is the default one: it rounds to nearest, and no
+ * exception is unmasked; status flags may be raised.
+ * Refuses, each over the whole path: 14 for a step count that is no such power, a number that is
+ * not finite, a point past 1,048,576 from zero either way, a kind that is none of the six, and
+ * where the path does not open with its only move or end with its only close; 7 for more than 1,026
+ * corners; 2 for a grid coordinate, which a product too large for double is too; 21.
+ * Leaves: 2 * corners numbers at the front of `corners`.
+ * Always enough: corners_room = 2,052. */
+bezinkwolu_told_corners bezinkwolu_import_path(
+    const bezinkwolu_path_item *path, size_t items, bezinkwolu_frame frame,
+    int32_t *BEZINKWOLU_RESTRICT corners, size_t corners_room) BEZINKWOLU_NONNULL;
 
 /* ---- the area listing */
 

@@ -4,6 +4,7 @@
  * -fsanitize=address,undefined by bindings/test. */
 #include <bezinkwolu.h>
 
+#include <math.h>
 #include <stdio.h>
 #include <stdlib.h>
 #include <string.h>
@@ -651,6 +652,102 @@ static void plane(void)
     CHECK(v.fault == BEZINKWOLU_FAULT_RANGE && v.value == 0);
 }
 
+/* What an item does not carry. */
+#define ANY NAN
+
+static const bezinkwolu_path_item outline[] = {
+    {BEZINKWOLU_PATH_MOVE, 0.5, -0.5},          {BEZINKWOLU_PATH_HORIZONTAL, 2.5, ANY},
+    {BEZINKWOLU_PATH_VERTICAL, ANY, 1.25},      {BEZINKWOLU_PATH_RELATIVE_LINE, -1, 0.25},
+    {BEZINKWOLU_PATH_LINE, 0.5, 1.5},           {BEZINKWOLU_PATH_CLOSE, ANY, ANY},
+};
+
+static const bezinkwolu_frame millimetres = {0, 0, 1};
+
+/* A path's corners into lent memory with so much room. */
+static bezinkwolu_told_corners imported(const bezinkwolu_path_item *path, size_t items, bezinkwolu_frame frame, size_t room)
+{
+    marked();
+    return bezinkwolu_import_path(path, items, frame, corners, room);
+}
+
+static bool not_imported(const bezinkwolu_path_item *path, size_t items, bezinkwolu_frame frame, size_t room, uint32_t fault)
+{
+    bezinkwolu_told_corners t = imported(path, items, frame, room);
+    return t.fault == fault && t.corners == 0 && kept(0, 0, 0);
+}
+
+/* The outline with another item in the place of one. */
+static bool refused_with(size_t k, bezinkwolu_path_item item, uint32_t fault)
+{
+    bezinkwolu_path_item path[6];
+    memcpy(path, outline, sizeof path);
+    path[k] = item;
+    return not_imported(path, 6, millimetres, 10, fault);
+}
+
+static void refused_paths(void)
+{
+    static const bezinkwolu_frame frames[] = {{0, 0, 0}, {0, 0, 3}, {0, 0, 2048}, {0, 0, 0.5}, {0, 0, -1}, {0, 0, NAN}, {NAN, 0, 1}, {0, INFINITY, 1}};
+    for (size_t i = 0; i < sizeof frames / sizeof *frames; i++)
+        CHECK(not_imported(outline, 6, frames[i], 10, BEZINKWOLU_FAULT_PATH));
+    CHECK(not_imported(outline, 0, millimetres, 10, BEZINKWOLU_FAULT_PATH));
+    CHECK(not_imported(outline, 1, millimetres, 10, BEZINKWOLU_FAULT_PATH));
+    CHECK(not_imported(outline, 5, millimetres, 10, BEZINKWOLU_FAULT_PATH));
+    CHECK(not_imported(outline + 1, 5, millimetres, 10, BEZINKWOLU_FAULT_PATH));
+    CHECK(not_imported(outline + 5, 1, millimetres, 10, BEZINKWOLU_FAULT_PATH));
+    CHECK(refused_with(1, (bezinkwolu_path_item){6, 0, 0}, BEZINKWOLU_FAULT_PATH));
+    CHECK(refused_with(1, (bezinkwolu_path_item){UINT64_MAX, 0, 0}, BEZINKWOLU_FAULT_PATH));
+    CHECK(refused_with(1, (bezinkwolu_path_item){BEZINKWOLU_PATH_MOVE, 0, 0}, BEZINKWOLU_FAULT_PATH));
+    CHECK(refused_with(1, (bezinkwolu_path_item){BEZINKWOLU_PATH_CLOSE, 0, 0}, BEZINKWOLU_FAULT_PATH));
+    CHECK(refused_with(1, (bezinkwolu_path_item){BEZINKWOLU_PATH_HORIZONTAL, INFINITY, 0}, BEZINKWOLU_FAULT_PATH));
+    CHECK(refused_with(4, (bezinkwolu_path_item){BEZINKWOLU_PATH_RELATIVE_LINE, 1048576, 0}, BEZINKWOLU_FAULT_PATH));
+    CHECK(refused_with(4, (bezinkwolu_path_item){BEZINKWOLU_PATH_LINE, 1048576.5, 0}, BEZINKWOLU_FAULT_PATH));
+    CHECK(not_imported(outline, 6, (bezinkwolu_frame){1e300, 0, 1024}, 10, BEZINKWOLU_FAULT_RANGE));
+    CHECK(not_imported(outline, 6, (bezinkwolu_frame){-1e308, 0, 1024}, 10, BEZINKWOLU_FAULT_RANGE));
+    CHECK(not_imported(outline, 6, millimetres, 9, BEZINKWOLU_FAULT_CORNER_ROOM));
+    CHECK(not_imported(outline, 6, millimetres, 0, BEZINKWOLU_FAULT_CORNER_ROOM));
+}
+
+/* A move, so many lines to one point, and a close. */
+static bezinkwolu_path_item long_path[1028];
+
+static size_t lines_to(double x, double y, size_t lines)
+{
+    long_path[0] = (bezinkwolu_path_item){BEZINKWOLU_PATH_MOVE, x, y};
+    for (size_t i = 1; i <= lines; i++)
+        long_path[i] = (bezinkwolu_path_item){BEZINKWOLU_PATH_LINE, x, y};
+    long_path[lines + 1] = outline[5];
+    return lines + 2;
+}
+
+static void long_paths(void)
+{
+    bezinkwolu_told_corners t = imported(long_path, lines_to(1048576, -1048576, 1025), millimetres, 2052);
+    CHECK(t.fault == 0 && t.corners == 1026 && kept(0, 2052, 0));
+    CHECK(corners[0] == 1048576 && corners[1] == -1048576 && corners[2050] == 1048576 && corners[2051] == -1048576);
+    CHECK(not_imported(long_path, lines_to(0, 0, 1026), millimetres, 2054, BEZINKWOLU_FAULT_RULES));
+    /* 7 before 2, and 14 before both */
+    CHECK(not_imported(long_path, lines_to(1048576, 0, 1026), (bezinkwolu_frame){0, 0, 1024}, 0, BEZINKWOLU_FAULT_RULES));
+    CHECK(not_imported(long_path, lines_to(1048577, 0, 1026), (bezinkwolu_frame){0, 0, 1024}, 0, BEZINKWOLU_FAULT_PATH));
+    /* one corner; the last coordinate within 2^30, and the first that is not */
+    t = imported(long_path, lines_to(1048575.9990234375, 0, 0), (bezinkwolu_frame){0, 0, 1024}, 3);
+    CHECK(t.fault == 0 && t.corners == 1 && kept(0, 2, 0) && corners[0] == FAR && corners[1] == 0);
+    CHECK(not_imported(long_path, lines_to(1048576, 0, 0), (bezinkwolu_frame){0, 0, 1024}, 3, BEZINKWOLU_FAULT_RANGE));
+    CHECK(not_imported(long_path, lines_to(1048576, 0, 0), (bezinkwolu_frame){0, 0, 1024}, 0, BEZINKWOLU_FAULT_RANGE));
+}
+
+static void paths(void)
+{
+    static const int32_t expected[] = {1, -1, 3, -1, 3, 1, 2, 2, 1, 2};
+    static const int32_t finer[] = {1, -3, 9, -3, 9, 4, 5, 5, 1, 5};
+    bezinkwolu_told_corners t = imported(outline, 6, millimetres, 11);
+    CHECK(t.fault == 0 && t.corners == 5 && kept(0, 10, 0) && memcmp(corners, expected, sizeof expected) == 0);
+    t = imported(outline, 6, (bezinkwolu_frame){0.25, 0.25, 4}, 10);
+    CHECK(t.fault == 0 && t.corners == 5 && kept(0, 10, 0) && memcmp(corners, finer, sizeof finer) == 0);
+    refused_paths();
+    long_paths();
+}
+
 int main(void)
 {
     meshes();
@@ -661,6 +758,7 @@ int main(void)
     all_pairs();
     placing();
     measuring();
+    paths();
     faults();
     walks();
     stepping();

@@ -48,6 +48,8 @@ impl Error {
     pub const TOTAL: Self = Self(11);
     /// A part number past the table.
     pub const PART: Self = Self(12);
+    /// A path's step count, number, point or order of items against the rules.
+    pub const PATH: Self = Self(14);
     /// An operand without parts, or a walk begun on an empty contour.
     pub const EMPTY: Self = Self(20);
 
@@ -90,6 +92,7 @@ impl Error {
             11 => "doubled areas of the mesh add up to more than 2^63-1, or a measured one leaves signed 64 bits",
             12 => "a part number past the table",
             13 => "a file or a pair job against its rules, or no such split",
+            14 => "a path's step count, number, point or order of items against the rules",
             20 => "an operand without parts, or a walk begun on an empty contour",
             21 => "fewer places for corners, or for bytes, than the answer has",
             22 => "fewer places for starts than the answer has",

@@ -1,7 +1,7 @@
 //! The archive's functions, and all that is unsafe. bezinkwolu.h has their contracts; `lend` has
 //! the rules of the memory that they write.
 
-use crate::{Error, IntRect, PartTable};
+use crate::{Error, Frame, IntRect, PartTable};
 use alloc::vec::Vec;
 use core::mem::size_of;
 
@@ -111,6 +111,20 @@ pub(crate) struct ToldNext {
     pub(crate) places: Places,
 }
 
+/// An item of a path: its kind, and its x and y, 0 where it carries none.
+#[repr(C)]
+pub(crate) struct Item {
+    pub(crate) kind: u64,
+    pub(crate) x: f64,
+    pub(crate) y: f64,
+}
+
+#[repr(C)]
+struct ToldCorners {
+    fault: u32,
+    corners: u32,
+}
+
 type AllPairs = unsafe extern "C" fn(
     *const u32,
     usize,
@@ -142,6 +156,7 @@ extern "C" {
     fn bezinkwolu_contour_area_two(contour: *const i32, length: usize) -> ToldArea;
     fn bezinkwolu_table_area_two(starts: *const u32, starts_length: usize, corners: *const i32, corners_length: usize) -> ToldArea;
     fn bezinkwolu_table_bounds(starts: *const u32, starts_length: usize, corners: *const i32, corners_length: usize) -> ToldBounds;
+    fn bezinkwolu_import_path(path: *const Item, items: usize, frame: Frame, corners: *mut i32, corners_room: usize) -> ToldCorners;
     fn bezinkwolu_walk_begin(contour: *const i32, length: usize, reflected: bool) -> ToldPlace;
     fn bezinkwolu_walk_point(contour: *const i32, length: usize, at: Place) -> ToldPoint;
     fn bezinkwolu_walk_next(contour: *const i32, length: usize, at: Place) -> ToldStep;
@@ -215,6 +230,7 @@ unsafe fn lend<T: Told>(table: &mut PartTable, starts_room: usize, numbers_room:
 const MAX_TRIANGLES: usize = 1024;
 const MAX_PARTS: usize = 2048;
 const MAX_CORNERS: usize = 8192;
+const MAX_CONTOUR: usize = 1026;
 
 pub(crate) fn mesh_fault(mesh: &[Row]) -> u32 {
     // SAFETY: as above.
@@ -358,6 +374,20 @@ pub(crate) fn table_bounds(contours: &PartTable) -> Result<IntRect, Error> {
     let told = unsafe { bezinkwolu_table_bounds(starts.as_ptr(), starts.len(), corners.as_ptr(), corners.len()) };
     Error::told(told.fault)?;
     Ok(told.bounds)
+}
+
+/// Two numbers for each corner, x and y: each item but the close writes one.
+pub(crate) fn import_path(path: &[Item], frame: Frame) -> Result<Vec<i32>, Error> {
+    let room = 2 * path.len().saturating_sub(1).min(MAX_CONTOUR);
+    let mut numbers: Vec<i32> = Vec::with_capacity(room);
+    // SAFETY: as above; and the call writes two numbers for each corner that it tells, at the
+    // front.
+    unsafe {
+        let told = bezinkwolu_import_path(path.as_ptr(), path.len(), frame, numbers.as_mut_ptr(), room);
+        Error::told(told.fault)?;
+        numbers.set_len(2 * told.corners as usize);
+    }
+    Ok(numbers)
 }
 
 pub(crate) fn walk_begin(contour: &[i32], reflected: bool) -> ToldPlace {

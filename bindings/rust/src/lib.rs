@@ -5,7 +5,8 @@
 //! What is called here is the archive `libbezinkwolu.a`, whose every function is proved to meet its
 //! contract. Any input is taken: it is refused by a numbered [`Error`], or the answer is complete.
 //! Nothing here panics on what it is given. Triangulation before, and union after, remain
-//! iTriangle's.
+//! iTriangle's. An outline of a drawing program, in millimetres, becomes whole-number corners by
+//! [`import_path`].
 //!
 //! ```
 //! use bezinkwolu::{sum_parts, Error, IntDelaunay, IntPoint, IntRect, NIL_INDEX};
@@ -66,6 +67,7 @@ mod error;
 mod ffi;
 mod mesh;
 mod minkowski;
+mod path;
 mod point;
 mod table;
 mod walk;
@@ -73,6 +75,7 @@ mod walk;
 pub use error::Error;
 pub use mesh::{ConvexSplitStrategy, IntDelaunay, IntTriangle, Triangles, NIL_INDEX};
 pub use minkowski::{difference_parts, difference_parts_into, sum_parts, sum_parts_into, PairTable, Pairs, Placement};
+pub use path::{import_path, Frame, PathItem};
 pub use point::{IntPoint, IntRect, IntVector};
 pub use table::{show_part, Contour, Contours, Corners, PartTable, Side};
 pub use walk::{ConvexSum, Walk};

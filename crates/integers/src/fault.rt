@@ -1,5 +1,6 @@
 // Document 01's fault numbers ("Faults that come from the input", "Faults that come from the
-// state"), named once for all code. Definitions cite the same names, of specs/Faults.antt.
+// state") and those of document 02's requests, named once for all code. Definitions cite the same
+// names, of specs/Faults.antt.
 
 // More than 1,024 triangles.
 pub const TRIANGLES: u32 = 1;
@@ -39,6 +40,9 @@ pub const PART: u32 = 12;
 
 // A file or a pair job against its rules, or no such split.
 pub const FILE: u32 = 13;
+
+// A path's step count, number, point or order of items against the rules.
+pub const PATH: u32 = 14;
 
 // An operand without parts, or a walk begun on an empty contour.
 pub const EMPTY: u32 = 20;

@@ -28,8 +28,9 @@ use Rattle.pair.specs.declared.Place.{Place}
 /// What the definitions use of the kit that is kept folded.
 const KIT: &str = "use mathlib.Core.List.{flatten, reverse}
 use lib.Seq.{slice}
+use lib.Ieee as ieee
 ";
-const KIT_UNFOLDING: &str = "flatten";
+const KIT_UNFOLDING: &str = "flatten ieee.ofBits ieee.fits ieee.add ieee.sub ieee.mul";
 
 /// How many cases one declaration computes. Larger ones take no less time.
 pub const CHUNK: usize = 60;

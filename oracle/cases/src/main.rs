@@ -4,7 +4,7 @@
 //!
 //! - `topic`: what a topic is: a few definitions, and cases of them
 //! - `plane`, `mesh`, `parts`, `splits`, `pair`, `walk`, `table`, `pairs`,
-//!   `listing`: the topics
+//!   `listing`, `paths`: the topics
 //! - `antt`: terms and files of the prover's language
 //! - `report`: the checker's log, read for the cases that differ
 //!
@@ -16,6 +16,7 @@ mod mesh;
 mod pair;
 mod pairs;
 mod parts;
+mod paths;
 mod plane;
 mod report;
 mod splits;
@@ -44,6 +45,7 @@ const TOPICS: &[fn(&mut Rng, Amount) -> Topic] = &[
     table::topic,
     pairs::topic,
     listing::topic,
+    paths::topic,
 ];
 
 const USAGE: &str = "\

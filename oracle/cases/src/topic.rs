@@ -116,6 +116,16 @@ pub mod layers {
         over(over(table(), &pair()), &[("walk", "Calls")])
     }
 
+    pub fn path() -> Vec<Module> {
+        let own = [
+            ("floats", "Floats"),
+            ("grid", "Grid"),
+            ("path", "Path"),
+            ("boundary_path", "Rows"),
+        ];
+        over(table(), &own)
+    }
+
     pub fn minkowski() -> Vec<Module> {
         over(over(table(), &pair()), &[("minkowski", "Pairs")])
     }

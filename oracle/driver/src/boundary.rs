@@ -10,6 +10,7 @@ use crate::measure::{contour_area_two_beside, part_area_two_beside};
 use crate::measure::{table_area_two_beside, table_bounds_beside, ToldBounds};
 use crate::mesh::{mesh_fault_beside, to_convex_polygons_beside, Row};
 use crate::pairs::{all_pairs_beside, Bounds, HandedOperand, ToldPairs};
+use crate::path::{import_path_beside, HandedFrame, ToldCorners};
 use crate::placement::{of_meshes_beside, placement_beside, ToldPlacement};
 use crate::plane::{angle_cmp_beside, area_two_beside, cross_product_beside};
 use crate::split::with_max_vertices_beside;
@@ -21,11 +22,12 @@ use crate::walk::{ToldEdge, ToldNext, ToldPair, ToldPlace, ToldPoint, ToldStep};
 use inputs::plane::Four;
 use inputs::walk_calls::Place;
 use judge::pairs::Operation;
+use judge::path::Item;
 use judge::shown::Side;
 use judge::Point;
 
 mod archive {
-    use super::ToldBounds;
+    use super::{HandedFrame, Item, ToldBounds, ToldCorners};
     use super::{Bounds, Counts, Place, Places, Row, Told, ToldLength, ToldPairs, ToldPart};
     use super::{ToldEdge, ToldNext, ToldPair, ToldPlace, ToldPlacement, ToldPoint, ToldStep};
     use crate::listing::TEXT;
@@ -184,6 +186,13 @@ mod archive {
             corners: *const i32,
             corners_length: usize,
         ) -> ToldBounds;
+        pub fn bezinkwolu_import_path(
+            path: *const Item,
+            items: usize,
+            frame: HandedFrame,
+            corners: *mut i32,
+            corners_room: usize,
+        ) -> ToldCorners;
         pub fn bezinkwolu_listing(
             bytes: *const u8,
             bytes_length: usize,
@@ -298,6 +307,9 @@ pub const ENTRY_POINTS: &[Named] = &[
     }),
     ("table_bounds", |s, n| {
         run(&table_bounds_beside(table_bounds), s, n)
+    }),
+    ("import_path", |s, n| {
+        run(&import_path_beside(import_path), s, n)
     }),
     ("listing", |s, n| run(&listing_beside(listing), s, n)),
 ];
@@ -542,6 +554,12 @@ pub fn table_bounds(table: HandedTable) -> ToldBounds {
     let HandedTable { starts, corners } = table;
     unsafe {
         archive::bezinkwolu_table_bounds(starts.at, starts.length, corners.at, corners.length)
+    }
+}
+
+pub fn import_path(path: Handed<Item>, frame: HandedFrame, corners: Handed<i32>) -> ToldCorners {
+    unsafe {
+        archive::bezinkwolu_import_path(path.at, path.length, frame, corners.at, corners.length)
     }
 }
 

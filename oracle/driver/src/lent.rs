@@ -3,6 +3,7 @@
 //! or writes before a buffer or behind it, leaves another answer than the Rust's.
 
 use crate::mesh::Row;
+use judge::path::Item;
 use std::fmt::{self, Debug};
 use std::ops::Range;
 
@@ -35,6 +36,13 @@ impl Place for i32 {
 impl Place for Row {
     fn mark(i: usize) -> Self {
         [i32::mark(i); 9]
+    }
+}
+
+impl Place for Item {
+    fn mark(i: usize) -> Self {
+        let [kind, x, y] = [0, 1, 2].map(|part| 0xa5a5_a5a5_0000_0000 + (part << 24) + i as u64);
+        Self { kind, x, y }
     }
 }
 

@@ -15,10 +15,12 @@
 //! - `pairs`: `sum_parts`, `difference_parts`
 //! - `placement`: a place by contours, and by two meshes
 //! - `measure`: `contour_area_two`, `part_area_two`, `table_area_two`, `table_bounds`
+//! - `path`: `import_path`
 //! - `listing`: the text that the area program prints for a file
 //! - `programs`: the programs parts, contours, placed and pairshard, each run as a process
 //! - `sample`: what a stored sample is, and `SAMPLES`, all of them: `plane_sample`,
-//!   `table_sample`, `mesh_sample`, `split_sample`, `pairs_sample`, `program_samples`
+//!   `table_sample`, `mesh_sample`, `split_sample`, `pairs_sample`, `path_sample`,
+//!   `program_samples`
 //! - `boundary`: the C functions of the Rattle archive and the list of entry
 //!   points, where it is linked
 //! - `builds`: the calls of this build and of an earlier one, for the benchmark
@@ -34,6 +36,8 @@ pub mod mesh;
 mod mesh_sample;
 pub mod pairs;
 pub mod pairs_sample;
+pub mod path;
+mod path_sample;
 pub mod placement;
 pub mod plane;
 mod plane_sample;

@@ -3,16 +3,17 @@
 
 use crate::program_samples::{contours_sample, pairshard_sample, parts_sample, placed_sample};
 use crate::written::Written;
-use crate::{mesh_sample, pairs_sample, plane_sample, split_sample, table_sample};
+use crate::{mesh_sample, pairs_sample, path_sample, plane_sample, split_sample, table_sample};
 use std::fmt::Display;
 
 /// The stored samples by the names of their files.
-pub const SAMPLES: [(&str, fn() -> Sample); 9] = [
+pub const SAMPLES: [(&str, fn() -> Sample); 10] = [
     ("plane", plane_sample::sample),
     ("tables", table_sample::sample),
     ("meshes", mesh_sample::sample),
     ("splits", split_sample::sample),
     ("pairs", pairs_sample::sample),
+    ("paths", path_sample::sample),
     ("parts", parts_sample),
     ("contours", contours_sample),
     ("placed", placed_sample),

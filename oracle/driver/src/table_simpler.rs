@@ -8,7 +8,7 @@ use judge::table::Table;
 
 /// The list with a piece left out, and, where it is short, with one element
 /// simpler.
-fn simpler_list<T: Copy>(list: &[T], simpler: fn(T) -> Vec<T>) -> Vec<Vec<T>> {
+pub fn simpler_list<T: Copy>(list: &[T], simpler: fn(T) -> Vec<T>) -> Vec<Vec<T>> {
     let piece = list.len().div_ceil(32).max(1);
     let mut out: Vec<Vec<T>> = (0..list.len())
         .step_by(piece)
@@ -27,7 +27,7 @@ fn simpler_list<T: Copy>(list: &[T], simpler: fn(T) -> Vec<T>) -> Vec<Vec<T>> {
 }
 
 /// Numbers nearer to 0.
-fn lesser(value: usize) -> Vec<usize> {
+pub fn lesser(value: usize) -> Vec<usize> {
     let nearer = [0, value / 2, value.saturating_sub(1)];
     nearer.into_iter().filter(|&n| n < value).collect()
 }

@@ -1,18 +1,19 @@
 //! The Rust crate of bindings/rust beside the given Rust, through its safe interface, on
 //! random meshes and operands: parts, splits and pair contours are the Rust's, and
-//! refusals the judge's.
+//! refusals the judge's; and on random paths, whose corners are the judge's.
 
 use bezinkwolu::{
-    difference_parts, sum_parts, Contour, ConvexSplitStrategy, ConvexSum, Error, IntDelaunay,
-    IntRect, PartTable, NIL_INDEX,
+    difference_parts, import_path, sum_parts, Contour, ConvexSplitStrategy, ConvexSum, Error,
+    Frame, IntDelaunay, IntRect, PartTable, PathItem, NIL_INDEX,
 };
 use i_triangle::advanced::convex::ConvexSplitStrategy as Given;
 use i_triangle::int::expose::{self, Record};
 use inputs::meshes::Mesh;
 use inputs::operands::Pair;
 use inputs::rng::Rng;
-use inputs::{mesh_damage, meshes, operands, pair_damage};
+use inputs::{mesh_damage, meshes, operands, pair_damage, paths};
 use judge::pairs::{Operand, Operation};
+use judge::path::{imported, Item};
 
 const SPLITS: [(ConvexSplitStrategy, Given); 3] = [
     (ConvexSplitStrategy::EarClipping, Given::EarClipping),
@@ -162,4 +163,45 @@ fn pairs_are_the_rusts() {
         let answer = sum_parts(&table, wide, &one, IntRect::new(0, 0, 0, 0));
         assert_eq!(answer.as_ref().err() == Some(&Error::RULES), past > 0);
     }
+}
+
+/// An item of a kind that there is.
+fn path_item(item: &Item) -> Option<PathItem> {
+    let (x, y) = (f64::from_bits(item.x), f64::from_bits(item.y));
+    Some(match item.kind {
+        judge::path::MOVE => PathItem::Move(x, y),
+        judge::path::LINE => PathItem::Line(x, y),
+        judge::path::HORIZONTAL => PathItem::Horizontal(x),
+        judge::path::VERTICAL => PathItem::Vertical(y),
+        judge::path::RELATIVE_LINE => PathItem::RelativeLine(x, y),
+        judge::path::CLOSE => PathItem::Close,
+        _ => return None,
+    })
+}
+
+/// The crate has room for every path, so 21 is never told.
+#[test]
+fn paths_are_the_judges() {
+    let mut rng = Rng::new(18);
+    let (mut accepted, mut refused) = (0, 0);
+    while accepted + refused < 40_000 {
+        let paths::Import { path, frame, .. } = paths::any(&mut rng);
+        let Some(items) = path.iter().map(path_item).collect::<Option<Vec<_>>>() else {
+            continue;
+        };
+        let [x, y, steps] = [frame.x, frame.y, frame.steps].map(f64::from_bits);
+        let ours = import_path(&items, Frame::new(x, y, steps))
+            .map(|corners| corners.into_iter().map(<(i32, i32)>::from).collect())
+            .map_err(Error::number);
+        let theirs = imported(&path, &frame, usize::MAX);
+        assert_eq!(ours, theirs, "{items:?} {frame:?}");
+        match theirs {
+            Ok(_) => accepted += 1,
+            Err(_) => refused += 1,
+        }
+    }
+    assert!(
+        accepted > 10_000 && refused > 10_000,
+        "{accepted} {refused}"
+    );
 }

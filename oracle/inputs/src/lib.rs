@@ -13,6 +13,7 @@
 //! - `table_calls`: what is asked of the calls on tables, and the memory lent
 //! - `placements`: what is asked of `placement`, of contours and of two meshes
 //! - `measures`: what is asked of the calls that measure
+//! - `paths`: what is asked of `import_path`: paths, frames and room, good and damaged
 //! - `stored`: stored tables and mesh files, good and damaged
 //! - `two_files`: two mesh files one behind the other; `shards`: part numbers and a pair
 //!   job, for the programs that read them
@@ -28,6 +29,7 @@ pub mod mesh_damage;
 pub mod meshes;
 pub mod operands;
 pub mod pair_damage;
+pub mod paths;
 pub mod placements;
 pub mod places;
 pub mod plane;

@@ -4,6 +4,7 @@ use judge::limits::NONE;
 use judge::listing::corners_text;
 use judge::mesh::Triangle;
 use judge::pairs::Operand;
+use judge::path::{Frame, Item};
 use judge::table::Table;
 use judge::{Contour, Point};
 
@@ -44,6 +45,31 @@ pub fn table(table: &Table) -> String {
 
 pub fn operand(operand: &Operand) -> String {
     format!("{} bounds {:?}", table(&operand.table), operand.bounds)
+}
+
+/// Its items by their kinds, each with both its numbers, and the frame.
+pub fn path(path: &[Item], frame: &Frame) -> String {
+    let named = |item: &Item| {
+        let kinds = ["move", "line", "horizontal", "vertical", "relative line", "close"];
+        let kind = kinds.get(item.kind as usize).map(|kind| kind.to_string());
+        let kind = kind.unwrap_or_else(|| format!("kind {}", item.kind));
+        format!("{kind} {} {}", float(item.x), float(item.y))
+    };
+    format!(
+        "{} frame {} {} steps {}",
+        listed(path.iter().map(named).collect()),
+        float(frame.x),
+        float(frame.y),
+        float(frame.steps)
+    )
+}
+
+/// A finite number by the digits that tell it from every other, and others by their bits.
+fn float(bits: u64) -> String {
+    match f64::from_bits(bits) {
+        value if value.is_finite() => format!("{value:?}"),
+        _ => format!("{bits:#x}"),
+    }
 }
 
 pub fn numbers<T: ToString>(values: &[T]) -> String {

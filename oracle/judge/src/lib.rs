@@ -1,6 +1,7 @@
 //! The judge of faults, written from document 01 alone: independent of the
 //! Rattle crates (`specs/`, `src/`) and of the given Rust, which has no refusal
-//! but 10. Sums and products that could leave 64 bits are formed in 128.
+//! but 10; of paths, from document 02. Sums and products that could leave 64 bits
+//! are formed in 128.
 //!
 //! Every judging function answers the number of the first fault in document
 //! 01's order, or 0. Each kind is tried over the whole input before the next.
@@ -17,6 +18,8 @@
 //!   (not document 01's: from what the call promises)
 //! - `measure`: doubled areas and bounds of a contour, a part and a table, 7, 2, 12 and 11
 //!   (likewise)
+//! - `path`: a path from a drawing program, in millimetres, to corners on the grid: 14, 7, 2
+//!   and 21 (document 02); `exact`: the numbers of f64 in whole numbers
 //! - `triangles`: whether two triangles meet, and whether they overlap
 //! - `room`: 22 and 21, once the answer's size is known
 //! - `round`: once round a convex area above zero; strictly convex
@@ -27,6 +30,7 @@
 //! - `programs`: what the programs parts, contours, placed and pairshard write (from what
 //!   is said of them, not document 01's)
 
+pub mod exact;
 pub mod file;
 pub mod job;
 pub mod limits;
@@ -34,6 +38,7 @@ pub mod listing;
 pub mod measure;
 pub mod mesh;
 pub mod pairs;
+pub mod path;
 pub mod placement;
 pub mod programs;
 pub mod room;

@@ -11,6 +11,11 @@ pub const PARTS: usize = 2_048;
 pub const CORNERS: usize = 8_192;
 pub const CONTOUR: usize = 1_026;
 
+/// How far from zero a coordinate of a path's point may lie, in millimetres, and the greatest
+/// step count a millimetre, as a power of two (fault 14).
+pub const MILLIMETRES: i64 = 1_048_576;
+pub const STEPS: usize = 10;
+
 /// No neighbour.
 pub const NONE: u32 = u32::MAX;
 

@@ -1,12 +1,13 @@
-//! `bench [ROUNDS [joining|structs|splits|pairs|placement|crate|contours|before]]`: times our
-//! calls, the Rust's and, of all pairs and of a place by contours, C++ ones from this one program
-//! on the same inputs, in turn, and prints our time over theirs; `before`, over an earlier build's.
-//! docs/BENCHMARKS.md says what they show.
+//! `bench [ROUNDS [joining|structs|splits|pairs|placement|paths|crate|contours|before]]`: times our
+//! calls, the Rust's and, of all pairs, of a place by contours and of paths, C++ ones from this one
+//! program on the same inputs, in turn, and prints our time over theirs; `before`, over an earlier
+//! build's. docs/BENCHMARKS.md says what they show.
 
 mod before;
 mod bindings;
 mod meshes;
 mod pairs;
+mod paths;
 mod peers;
 mod placement;
 mod programs;
@@ -23,12 +24,13 @@ fn main() {
     let rounds = words.first().and_then(|word| word.parse().ok());
     let rounds = rounds.unwrap_or(ROUNDS);
     let only = words.get(1).map(String::as_str);
-    let topics: [(&str, fn(usize)); 8] = [
+    let topics: [(&str, fn(usize)); 9] = [
         ("joining", meshes::joining),
         ("structs", meshes::structs),
         ("splits", meshes::splits),
         ("pairs", pairs::pairs),
         ("placement", placement::placements),
+        ("paths", paths::paths),
         ("crate", bindings::crate_calls),
         ("contours", programs::programs),
         ("before", before::builds),

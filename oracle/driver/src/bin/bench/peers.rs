@@ -1,9 +1,12 @@
 //! The C++ beside ours (oracle/peers), where a compiler was found.
 
-pub use linked::{placements, Operand};
+pub use linked::{import_path, placements, Operand};
 
 #[cfg(peers)]
 mod linked {
+    use driver::lent::Handed;
+    use driver::path::{HandedFrame, ToldCorners};
+    use judge::path::Item;
     use judge::table::Table;
     use judge::Point;
     use std::ffi::c_void;
@@ -34,6 +37,28 @@ mod linked {
             x: i32,
             y: i32,
         ) -> u32;
+    }
+
+    extern "C" {
+        fn peers_import_path(
+            path: *const Item,
+            items: usize,
+            frame: HandedFrame,
+            corners: *mut i32,
+            corners_room: usize,
+        ) -> ToldCorners;
+    }
+
+    /// A path by a plain loop that judges it and one that writes its corners.
+    pub fn import_path(
+        path: Handed<Item>,
+        frame: HandedFrame,
+        corners: Handed<i32>,
+    ) -> Option<ToldCorners> {
+        // Safe: the C++ reads the items and writes within the lent numbers.
+        let told =
+            unsafe { peers_import_path(path.at, path.length, frame, corners.at, corners.length) };
+        Some(told)
     }
 
     /// A place by contours: every edge asked, each contour left at the first edge that
@@ -114,8 +139,19 @@ mod linked {
 
 #[cfg(not(peers))]
 mod linked {
+    use driver::lent::Handed;
+    use driver::path::{HandedFrame, ToldCorners};
+    use judge::path::Item;
     use judge::table::Table;
     use judge::Point;
+
+    pub fn import_path(
+        _path: Handed<Item>,
+        _frame: HandedFrame,
+        _corners: Handed<i32>,
+    ) -> Option<ToldCorners> {
+        None
+    }
 
     pub fn placements() -> Option<[fn(&Table, Point) -> u32; 3]> {
         None

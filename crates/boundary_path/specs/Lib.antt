@@ -1,0 +1,2 @@
+-- How C's rows are read.
+pub mod Rows

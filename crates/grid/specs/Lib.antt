@@ -1,0 +1,2 @@
+-- What the contracts cite: the tests of a drawing's numbers, grid coordinates.
+pub mod Grid
