@@ -36,7 +36,7 @@ TEMP = pathlib.Path(tempfile.mkdtemp(prefix="viewer-test-"))
 DART = (ROOT / "examples/dart.out").read_text()
 DART_LINES = DART.splitlines()
 BAG = (ROOT / "examples/bag.out").read_text()
-DART_MESH = (ROOT / "crates/parts/stdin").read_bytes()
+DART_MESH = (ROOT / "crates/areas/stdin").read_bytes()
 JOB = (ROOT / "examples/pocket.job").read_bytes()
 CONTOURS = (ROOT / "examples/pocket.contours").read_text()
 VAMP_JOB = (ROOT / "examples/vamp.job").read_bytes()
@@ -47,22 +47,11 @@ def listing(parts):
     """A listing of parts, each a list of corners, as the area program prints it."""
     def area(p):
         return abs(sum(a[0] * b[1] - a[1] * b[0] for a, b in zip(p, p[1:] + p[:1])))
-    areas = [area(p) for p in parts]
-    total = sum(areas)
+    total = sum(map(area, parts))
     lines = [f"parts {len(parts)} corners {sum(map(len, parts))} area2 {total}"]
-    for k, (p, share) in enumerate(zip(parts, shares(areas))):
-        lines.append(f"{k} {len(p)} {areas[k]} {share} " + " ".join(f"({x},{y})" for x, y in p))
+    for k, p in enumerate(parts):
+        lines.append(f"{k} {len(p)} {area(p)} {area(p) * 10000 // total} " + " ".join(f"({x},{y})" for x, y in p))
     return "\n".join(lines) + "\n"
-
-
-def shares(areas):
-    """Ten-thousandths of the total: what rounding down leaves over goes to the largest remainders, the first of equal ones first."""
-    total = sum(areas)
-    shares = [area * 10000 // total for area in areas]
-    order = sorted(range(len(areas)), key=lambda k: -(areas[k] * 10000 % total))
-    for k in order[:10000 - sum(shares)]:
-        shares[k] += 1
-    return shares
 
 
 def quilt(columns, rows, size):
@@ -307,7 +296,7 @@ class Viewer(unittest.TestCase):
         self.d.find_element(By.ID, "files").send_keys(str(ROOT / "examples/bag.out"))
         self.settle()
         self.assertEqual(len(self.rows()), 43)
-        self.assertEqual(self.rows()[42], ["42", "8", "10460519", "2587"])
+        self.assertEqual(self.rows()[42], ["42", "8", "10460519", "2586"])
         self.assertEqual(self.text("#sources span"), "listing: bag.out")
 
     def test_pasted_text_and_the_paste_dialog(self):
@@ -748,19 +737,18 @@ class Viewer(unittest.TestCase):
         self.assertEqual(len(self.js("return document.getElementById('rows').children")), 65536)
         self.assertIn("The table has the first 65,536 of 66,000 pairs; any other is chosen by i and j.", self.text("#summary"))
 
-    def test_shares_that_do_not_add_up_are_told(self):
-        said = "Shares ‱ are ten-thousandths of the total and add up to 10,000."
+    def test_shares_that_do_not_add_up_say_what_to_do(self):
         self.drop(dart=DART)
-        self.assertIn(said, self.text("#summary"))
+        self.assertIn("Shares ‱ are ten-thousandths of the total, rounded down.", self.text("#summary"))
         thirds = [[(3 * k, 0), (3 * k + 2, 0), (3 * k, 2)] for k in range(3)]
         self.drop(thirds=listing(thirds))
-        self.assertEqual([row[3] for row in self.rows()], ["3334", "3333", "3333"])
-        self.assertIn(said, self.text("#summary"))
-        self.assertNotIn("is not what areas prints", self.text("#summary"))
-        for share in ["3333", "3335"]:
-            changed = listing(thirds).replace("3334", share)
+        self.assertEqual([row[3] for row in self.rows()], ["3333"] * 3)
+        self.assertIn("rounded down: these add up to 9,999, not to 10,000. What is missing is not lost: the doubled areas are exact, so divide those where shares must add up.", self.text("#summary"))
+        # more than rounding down, or so much less, is no listing of areas
+        for share in ["3334", "3332"]:
+            changed = listing(thirds).replace("3333", share)
             self.drop(changed=changed)
-            self.assertIn(f"These add up to {int(share) + 6666:,}: the text is not what areas prints.", self.text("#summary"))
+            self.assertIn(f"These add up to {3 * int(share):,}, which rounding does not explain: the text was changed.", self.text("#summary"))
         self.drop(table=table(thirds))
         self.assertNotIn("add up", self.text("#summary"))
 

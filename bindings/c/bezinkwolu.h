@@ -496,10 +496,9 @@ bezinkwolu_told_corners bezinkwolu_import_path(
 #define BEZINKWOLU_LISTING_ROOM 233522
 
 /* The text that the area program prints for the bytes of a mesh file: `refused` and the number, or
- * counts, doubled areas, shares and corners. Shares are in ten-thousandths, and those of a mesh
- * with parts total 10,000: what rounding down leaves over goes to the largest remainders, lower
- * part number first on a tie. It has no refusal of its own. Answers how many bytes the text has;
- * they stand at the front of `text`, which has BEZINKWOLU_LISTING_ROOM places, always enough. */
+ * counts, doubled areas, shares and corners. It has no refusal of its own. Answers how many bytes
+ * the text has; they stand at the front of `text`, which has BEZINKWOLU_LISTING_ROOM places, always
+ * enough. */
 size_t bezinkwolu_listing(const uint8_t *bytes, size_t bytes_length, uint8_t text[BEZINKWOLU_LISTING_ROOM]) BEZINKWOLU_NONNULL;
 
 /* ---- the plane. Each refuses with 2 a coordinate not strictly between -2^30 and 2^30, with the

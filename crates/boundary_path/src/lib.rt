@@ -8,8 +8,7 @@ ghost use Rattle.std.specs.Prelude.{◌≡◌, cond, ◌+◌, ◌<◌, T, eqb, l
 ghost use Rattle.std.specs.Float.{binary64};
 ghost use Rattle.std.specs.Float.Ieee.{of_bits};
 ghost use Rattle.std.specs.Float.Ieee.Scale.{finite};
-ghost use Rattle.integers.specs.Lists.{every};
-ghost use Rattle.path.specs.Path.{reach, initial_point, path_counts, corners_left};
+ghost use Rattle.path.specs.Path.{every, reach, initial_point, path_counts, corners_left};
 ghost use Rattle.path.specs.Judging.{is_drawn, is_next, judged_whole};
 ghost use Rattle.path.specs.Writing.{write_from, Writable};
 ghost use Rattle.boundary_path.specs.Rows.{item_of, items_of, Ended};

@@ -1,3 +1,2 @@
--- Laws of the mesh file and of its listing.
+-- Laws of the mesh file.
 pub mod File
-pub mod Listing

@@ -1,10 +1,9 @@
--- The listing (document 01, "The file and its listing"; document 02, P2, "Shares that fill the
--- hide"): the bytes that the area program prints. Assumes nothing.
-use Rattle.std.specs.Prelude.{cond, ℕ, suc, ◌+◌, eqb, length, get_or, nat_abs}
-use mathlib.Core.List.{List, [], ◌∷◌, ◌++◌, map, flatten}
+-- The listing (document 01, "The file and its listing"): the bytes that the area program prints.
+-- Assumes nothing.
+use Rattle.std.specs.Prelude.{cond, ℕ, suc, ◌+◌, ◌*◌, ◌/◌, eqb, length, nat_abs}
+use mathlib.Core.List.{List, [], ◌∷◌, ◌++◌, flatten}
 use Rattle.plane.specs.Plane.{Pt}
 use Rattle.plane.specs.Contour.{contour_area}
-use Rattle.shares.specs.Shares.{shares_of}
 use Rattle.text.specs.Text.{decimal, space, newline, corners_word, corners_text, refusal}
 use Rattle.listing.specs.File.{file_fault, file_parts}
 
@@ -27,9 +26,9 @@ unfoldable pub total_area : List (List Pt) → ℕ
 total_area [] = 0
 total_area (p ∷ ps) = area_of p + total_area ps
 
--- all parts' shares, of the parts as they are listed
-abbrev pub part_shares : List (List Pt) → List ℕ
-part_shares ps = shares_of (map area_of ps)
+-- "share in ten-thousandths of the total rounded down"
+abbrev pub share_of : ℕ → ℕ → ℕ
+share_of total a = a * 10000 / total
 
 -- ---- the lines
 
@@ -40,16 +39,16 @@ head_line ps =
 
 -- "A part line gives number, corners, doubled area, share .., and the corners."
 unfoldable pub part_line : ℕ → ℕ → List Pt → List ℕ
-part_line share k p =
-    decimal k ++ (space ++ decimal (length p)) ++ (space ++ decimal (area_of p)) ++ (space ++ decimal share) ++ corners_text p ++ newline
+part_line total k p =
+    decimal k ++ (space ++ decimal (length p)) ++ (space ++ decimal (area_of p)) ++ (space ++ decimal (share_of total (area_of p)))
+    ++ corners_text p ++ newline
 
--- from number k on, each with its share of all
-unfoldable pub part_lines : List ℕ → ℕ → List (List Pt) → List ℕ
-part_lines shares k [] = []
-part_lines shares k (p ∷ ps) = part_line (get_or shares k 0) k p ++ part_lines shares (suc k) ps
+unfoldable pub part_lines : ℕ → ℕ → List (List Pt) → List ℕ
+part_lines total k [] = []
+part_lines total k (p ∷ ps) = part_line total k p ++ part_lines total (suc k) ps
 
 unfoldable pub listing_of : List (List Pt) → List ℕ
-listing_of ps = head_line ps ++ part_lines (part_shares ps) 0 ps
+listing_of ps = head_line ps ++ part_lines (total_area ps) 0 ps
 
 -- what the area program prints for a file
 unfoldable pub areas_of : List ℕ → List ℕ

@@ -1,6 +1,6 @@
 // The mesh file and its listing: the area program's input and output. The definitions are in
-// specs/; `strategy` reads the file's number of a split. Leans on split, for the parts' shares on
-// shares and for numbers as text on text.
+// specs/; `strategy` reads the file's number of a split. Leans on split and, for numbers as text,
+// on text.
 ghost use Rattle.std.specs.Prelude.{◌≡◌};
 ghost use Rattle.listing.specs.File.{strategy_of};
 

@@ -1,4 +1,3 @@
 -- Laws of the listing's areas.
 pub mod Wedges
 pub mod Totals
-pub mod Filling

@@ -1,7 +1,8 @@
 -- The parts of a table that can be listed: the areas added part by part (`totals_turn`), a part's
 -- area is above 0 and at most the total (`area_most`, `area_some`), part k can be measured
--- (`part_measurable`). Assumes nothing.
-use Rattle.std.proofs.Common.{◌≡◌, ℕ, zero, suc, ◌+◌, ◌^◌, ◌<◌, ◌≤◌, true, List, [], ◌∷◌, length, get_or, drop, ℤ, pos, nat_abs, sym, subst, add-one, arith, drop_of_length-le, drop-cons}
+-- (`part_measurable`); a share is the quotient (`share-is`). Assumes nothing.
+use Rattle.std.proofs.Common.{◌≡◌, ℕ, zero, suc, ◌+◌, ◌*◌, ◌^◌, ◌<◌, ◌≤◌, true, List, [], ◌∷◌, length, get_or, drop, ℤ, pos, nat_abs, sym, subst, add-one, arith, drop_of_length-le, drop-cons}
+use native.Mathlib.Nat.{div-eq_of_lt-le}
 use lib.Signed.{le_z, lt_z}
 use Rattle.integers.specs.Lists.{All}
 use Rattle.integers.proofs.Order.{<-≤}
@@ -15,7 +16,9 @@ use Rattle.table.specs.Table.{table_parts, part_count}
 use Rattle.table.specs.Shown.{part_numbers}
 use Rattle.table.proofs.Rules.{count_parts}
 use Rattle.table.proofs.Shown.{part_is, part_ranged}
-use Rattle.listing.specs.Listing.{area_of, total_area}
+use Rattle.wide_divide.specs.declared.Quotient.{Quotient}
+use Rattle.wide_divide.specs.Quotients.{Divided}
+use Rattle.listing.specs.Listing.{area_of, total_area, share_of}
 use Rattle.listing_areas.specs.Areas.{Measurable, Listable}
 
 -- ---- the total, part by part
@@ -58,3 +61,12 @@ part_measurable {starts = s} {corners = c} h {k} l =
   where
     above : (z : ℤ) → lt_z (pos 0) z ≡ true → le_z (pos 0) z ≡ true
     above z e = ≤-le_z {y = z} (<-≤ (lt_z-< (pos 0) z e))
+
+-- ---- a share
+
+-- the product's high word is below the total
+pub high_below : {a t : ℕ} {high : ℕ} (low : ℕ) → high * 2 ^ 64 + low ≡ a * 10000 → a ≤ t → 0 < t → high < t
+high_below low e h k = omega arith
+
+pub share-is : (a : ℕ) {t : ℕ} {q : Quotient} {n : ℕ} → n ≡ a * 10000 → Divided n t q → q.quotient ≡ share_of t a
+share-is a {t} {q} {n} e g = sym (div-eq_of_lt-le {k = q.quotient} t {m = a * 10000} (omega (arith, e, g.whole, g.rest)) (omega (arith, e, g.whole, g.rest)))

@@ -1,10 +1,10 @@
 -- Which part tables can be listed (document 01, "The file and its listing"), and sums that wrap.
 -- Assumes nothing.
-use Rattle.std.specs.Prelude.{◌≡◌, ℕ, ◌^◌, ◌<◌, true, false, List, length, ℤ, pos, ◌+ℤ◌, ◌*ℤ◌, int_le, int_lt, unsigned_abs}
+use Rattle.std.specs.Prelude.{◌≡◌, ℕ, ◌^◌, ◌<◌, true, false, List, ℤ, pos, ◌+ℤ◌, ◌*ℤ◌, int_le, int_lt, unsigned_abs}
 use Rattle.integers.specs.Lists.{All}
 use Rattle.plane.specs.Contour.{contour_area}
 use Rattle.corners.specs.Corners.{points_of, off_range}
-use Rattle.table.specs.Table.{table_parts, table_broken, part_count}
+use Rattle.table.specs.Table.{table_parts, table_broken}
 use Rattle.listing.specs.Listing.{total_area}
 
 -- r is z but for whole turns of 2^64
@@ -25,9 +25,3 @@ pub record Listable (starts : List ℕ) (corners : List ℤ) : Type 0 where
   pub ranged : off_range corners ≡ false
   pub above : All (λ p. int_lt (pos 0) (contour_area p) ≡ true) (table_parts starts corners)
   pub below : total_area (table_parts starts corners) < 2 ^ 63
-
--- and a place for each part's area and share
-pub record Shareable (starts : List ℕ) (corners : List ℤ) (areas shares : List ℕ) : Type 0 where
-  pub listable : Listable starts corners
-  pub areas_room : length areas ≡ part_count starts
-  pub shares_room : length shares ≡ part_count starts

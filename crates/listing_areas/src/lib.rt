@@ -1,16 +1,18 @@
-// The numbers of an area listing: a part's doubled area (`part_area`), and of all parts the shares,
-// in a lent work array, with the total (`fill_shares`), each equal to listing's definition, of a
-// part table that can be listed (`Listable`, specs/Areas.antt). Linear in the corners. Leans on
-// shares_fill, wide, walk_read and table_shown (a corner and a part of lent numbers) and plane.
-ghost use Rattle.std.specs.Prelude.{◌≡◌, ◌+◌, ◌<◌, false, [], map, length, pos, ◌+ℤ◌, slice_index_or};
+// The numbers of an area listing: a part's doubled area (`part_area`), the total of all parts
+// (`total_area`) and a part's share of it (`share`), each equal to listing's definition, of a part
+// table that can be listed (`Listable`, specs/Areas.antt). Linear in the corners. Leans on
+// wide_divide, wide, walk_read and table_shown (a corner and a part of lent numbers) and plane.
+ghost use Rattle.std.specs.Prelude.{◌≡◌, ◌+◌, ◌<◌, ◌≤◌, false, [], length, pos, ◌+ℤ◌, slice_index_or};
 ghost use Rattle.plane.specs.Plane.{area_two};
 ghost use Rattle.plane.specs.Machine.{CrossSize};
 ghost use Rattle.corners.specs.Corners.{points_of, off_range};
 ghost use Rattle.table.specs.Table.{table_parts, part_count};
 ghost use Rattle.pair.specs.Walk.{corner_at};
-ghost use Rattle.shares.specs.Shares.{remainders_of};
-ghost use Rattle.listing.specs.Listing.{area_of, total_area, part_shares};
-ghost use Rattle.listing_areas.specs.Areas.{Wraps, Measurable, Listable, Shareable};
+ghost use Rattle.listing.specs.Listing.{area_of, total_area, share_of};
+ghost use Rattle.listing_areas.specs.Areas.{Wraps, Measurable, Listable};
+
+// A share is in ten-thousandths of the total.
+pub const SHARES: u32 = 10000;
 
 // total + term, which may wrap.
 fn add_wrapped(total: u64, term: i64) -> u64
@@ -60,33 +62,27 @@ fn area_at(starts: &[u32], corners: &[i32], k: usize) -> u64
     part_area(table_shown::part_of(starts, corners, k))
 }
 
-// The doubled area of every part in its place; answers the total.
-fn fill_areas(starts: &[u32], corners: &[i32], areas: &mut [u64]) -> u64
-    requires { Listable starts.now corners.now × (length areas.old ≡ part_count starts.now) }
-    ensures total { result ≡ total_area (table_parts starts.now corners.now) }
-    ensures areas { areas.new ≡ map area_of (table_parts starts.now corners.now) }
+// The doubled areas of all parts, added.
+pub fn total_area(starts: &[u32], corners: &[i32]) -> u64
+    requires { Listable starts.now corners.now }
+    ensures { result ≡ total_area (table_parts starts.now corners.now) }
 {
     let parts = starts.len() - 1;
     let mut total: u64 = 0;
     let mut k: usize = 0;
     while k < parts {
-        let area = area_at(starts, corners, k);
-        areas[k] = area;
-        total += area;
+        total += area_at(starts, corners, k);
         k += 1;
     }
     total
 }
 
-// The share of every part in its place; answers the total doubled area. In the areas' places the
-// remainders are left.
-pub fn fill_shares(starts: &[u32], corners: &[i32], areas: &mut [u64], shares: &mut [u32]) -> u64
-    requires { Shareable starts.now corners.now areas.old shares.old }
-    ensures total { result ≡ total_area (table_parts starts.now corners.now) }
-    ensures shares { shares.new ≡ part_shares (table_parts starts.now corners.now) }
-    ensures remainders { areas.new ≡ remainders_of (map area_of (table_parts starts.now corners.now)) }
+// An area's share of the total, rounded down: the product has two words, its quotient one.
+pub fn share(area: u64, total: u64) -> u64
+    requires { (area ≤ total) × (0 < total) }
+    ensures { result ≡ share_of total area }
 {
-    let total = fill_areas(starts, corners, areas);
-    shares_fill::fill(areas, total, shares);
-    total
+    let product = wide::multiply_words(area, SHARES);
+    let divided = wide_divide::divide(product.high, product.low, total);
+    divided.quotient
 }

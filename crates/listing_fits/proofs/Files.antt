@@ -1,9 +1,8 @@
--- Any file: an accepted one's parts can be listed (`file_listable`), what is printed fits
--- (`listing_fits`), and what holds of shares holds of an accepted one's (`file_shares`). Assumes
--- nothing.
+-- Any file: an accepted one's parts can be listed (`file_listable`), and what is printed fits
+-- (`listing_fits`). Assumes nothing.
 use mathlib.Core.Path.{◌≡◌, refl, sym, ◌∙◌, ap, subst}
 use mathlib.Core.Bool.{true, false}
-use mathlib.Core.List.{List, [], append-nil, map, flatten}
+use mathlib.Core.List.{List, [], append-nil, flatten}
 use Prim.Native.Nat.{ℕ, ◌^◌, ◌≤◌, ◌<◌}
 use native.Mathlib.Omega.{arith}
 use borrow.Author.Tests.{eqb-true}
@@ -31,15 +30,14 @@ use Rattle.split.specs.Splitting.{split_parts}
 use Rattle.split.proofs.Sizes.{split_table}
 use Rattle.listing.specs.File.{file_fault, mesh_of, corner_limit, split_number, strategy_of, file_parts}
 use Rattle.listing.proofs.File.{accepted_mesh}
-use Rattle.shares.proofs.Fills.{shares_fill}
-use Rattle.listing.specs.Listing.{area_of, total_area, listing_of, areas_of}
+use Rattle.listing.specs.Listing.{total_area, listing_of, areas_of}
 use Rattle.convex_pairs.proofs.Convexity.{polygon_area}
 use Rattle.split_pairs.proofs.Theorem.{split_polygons, split_on_grid}
 use Rattle.corners.proofs.Range.{numbers_range}
 use Rattle.split_operand.proofs.Total.{listing_total}
 use Rattle.listing_areas.specs.Areas.{Listable}
-use Rattle.listing_fits.specs.Fits.{listing_room, ListingFits, FileListable, FileShares}
-use Rattle.listing_fits.proofs.Sizes.{Plain, refusal_size, total_some, listing_size}
+use Rattle.listing_fits.specs.Fits.{listing_room, ListingFits, FileListable}
+use Rattle.listing_fits.proofs.Sizes.{Plain, refusal_size, listing_size}
 
 -- ---- its parts
 
@@ -95,8 +93,3 @@ listing_fits bytes =
       split_fits (strategy_of (split_number bytes)) (corner_limit bytes) (mesh_of bytes) (accepted_mesh bytes (eqb-true (file_fault bytes) 0 e)),
     ))
     (λ e. omega (arith, ap length (areas_refused bytes e), refusal_size (file_fault bytes)))
-
-pub file_shares : FileShares
-file_shares bytes e n =
-    let h = accepted_mesh bytes e in
-    shares_fill (map area_of (file_parts bytes)) (total_some (file_parts bytes) (split_plain (strategy_of (split_number bytes)) (corner_limit bytes) (mesh_of bytes) h) n)

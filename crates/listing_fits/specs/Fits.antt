@@ -1,11 +1,10 @@
--- The listing of any file: how long it is at the most, that its parts can be listed (document 01,
--- "The file and its listing"), and what holds of their shares (document 02, P2). Assumes nothing.
-use Rattle.std.specs.Prelude.{◌≡◌, List, map, ℕ, ◌+◌, ◌*◌, ◌≤◌, ◌<◌, length}
+-- The listing of any file: how long it is at the most, and that its parts can be listed (document
+-- 01, "The file and its listing"). Assumes nothing.
+use Rattle.std.specs.Prelude.{◌≡◌, List, ℕ, ◌+◌, ◌*◌, ◌≤◌, length}
 use Rattle.mesh.specs.Mesh.{max_triangles}
 use Rattle.table.specs.Table.{max_parts, starts_of, corners_of, table_parts}
-use Rattle.shares.specs.Fills.{Filled}
 use Rattle.listing.specs.File.{file_fault, file_parts}
-use Rattle.listing.specs.Listing.{area_of, listing_of, areas_of}
+use Rattle.listing.specs.Listing.{listing_of, areas_of}
 use Rattle.listing_areas.specs.Areas.{Listable}
 
 -- the bytes of the longest listing: 50 of the first line, 36 of each part's line beside its
@@ -23,7 +22,3 @@ pub record FileListed (bytes : List ℕ) : Type 0 where
 
 abbrev pub FileListable : Type 0
 FileListable = (bytes : List ℕ) → file_fault bytes ≡ 0 → FileListed bytes
-
--- "Shares of a mesh with parts total exactly 10,000", and what else holds of shares
-abbrev pub FileShares : Type 0
-FileShares = (bytes : List ℕ) → file_fault bytes ≡ 0 → 0 < length (file_parts bytes) → Filled (map area_of (file_parts bytes))

@@ -1,12 +1,11 @@
 -- All pairs in one list, in order: how many (`pairs_length`), and pair p, q of them (`pairs_at`);
 -- so the contours and edges of two operands' walks (`contours_length`, `is_pair`), and a pair's
 -- corners as pair_chains has them (`as_fits`, `as_put`, `as_count`). Assumes nothing.
-use mathlib.Core.Path.{◌≡◌, sym, ◌∙◌, ap, subst, ap₂}
+use mathlib.Core.Path.{◌≡◌, refl, sym, ◌∙◌, ap, subst, ap₂}
 use mathlib.Core.List.{List, [], ◌∷◌, map, ◌++◌, flatten}
 use Prim.Native.Nat.{ℕ, zero, suc, ◌+◌, ◌*◌, ◌<◌, ◌-◌, ◌≤◌}
 use native.Mathlib.Omega.{arith}
 use lib.IntN.{ℤ}
-use Rattle.integers.proofs.Elements.{map_at}
 use Rattle.plane.specs.Plane.{Pt, ◌+ᵖ◌}
 use lib.ListN.{length, get_or, length-take, length-drop, length-map, length-append, get_or-append}
 use lib.Seq.{get_or-take, get_or-drop, get_or-append-add}
@@ -38,7 +37,12 @@ module _ {A B C : Type 0} (f : A → B → C) (rs : List B) where
   pairs_at (a ∷ ls) zero {q} x y d h k =
       let z : 0 * length rs + q ≡ q = omega arith in
       ap (λ n. get_or (map (f a) rs ++ pairs ls) n d) z ∙ get_or-append (map (f a) rs) (pairs ls) d q (omega (arith, length-map rs (f a)))
-      ∙ map_at (f a) rs y d k
+      ∙ in_row (f a) rs q y d k
+    where
+      in_row : {B C : Type 0} (g : B → C) (l : List B) (i : ℕ) (y : B) (d : C) → i < length l → get_or (map g l) i d ≡ g (get_or l i y)
+      in_row g [] i y d h = absurd (omega arith)
+      in_row g (b ∷ l) zero y d h = refl
+      in_row g (b ∷ l) (suc i) y d h = in_row g l i y d (omega arith)
   pairs_at (a ∷ ls) (suc p) {q} x y d h k =
       let z : suc p * length rs + q ≡ length (map (f a) rs) + (p * length rs + q) = omega (arith, length-map rs (f a)) in
       ap (λ n. get_or (map (f a) rs ++ pairs ls) n d) z ∙ get_or-append-add (map (f a) rs) (pairs ls) (p * length rs + q) d ∙ pairs_at ls p x y d (omega arith) k

@@ -9,7 +9,6 @@ use Prim.Native.Nat.{ℕ, ◌+◌}
 use native.Mathlib.Omega.{arith}
 use borrow.Author.Tests.{not-false}
 use Rattle.integers.specs.Lists.{All, sumℕ, links, neighbours}
-use Rattle.integers.proofs.Tests.{bit}
 use Rattle.integers.proofs.Elements.{all_map}
 use Rattle.plane.specs.Plane.{Pt, angle_cmp, is_greater}
 use Rattle.plane.proofs.Edges.{links_last}
@@ -18,6 +17,10 @@ use Rattle.pair.specs.Premise.{how_many}
 use Rattle.plane.specs.Contour.{last_of}
 use Rattle.pair.specs.Demand.{ascending}
 use Rattle.pair.proofs.Convex.{Sorted}
+
+-- 1 where a test passes
+abbrev pub bit : Bool → ℕ
+bit b = cond b 1 0
 
 module _ (t : Pt × Pt → Bool) where
   -- one pair more

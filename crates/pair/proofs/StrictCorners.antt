@@ -8,7 +8,7 @@ use Prim.Native.Nat.{◌+◌}
 use lib.Dec.{eqb}
 use Rattle.integers.specs.Lists.{links, neighbours}
 use Rattle.integers.proofs.Elements.{all_map}
-use Rattle.integers.proofs.Tests.{bit, <-lt_z}
+use Rattle.integers.proofs.Tests.{<-lt_z}
 use Rattle.plane.specs.Plane.{Pt, O, ◌+ᵖ◌, ◌-ᵖ◌}
 use Rattle.plane.specs.Contour.{edges}
 use Rattle.plane.proofs.Vectors.{+ᵖ_assoc, +ᵖ-zero}
@@ -22,7 +22,7 @@ use Rattle.pair.proofs.Convex.{Sorted, Convex}
 use Rattle.pair.proofs.Reaches.{convex_nonempty}
 use Rattle.pair.proofs.Gaps.{turns_left}
 use Rattle.pair.proofs.Repeats.{how_many_perm}
-use Rattle.pair.proofs.Counts.{count_cons, count_all, pass_all, perm_last, all_last, links_sorted}
+use Rattle.pair.proofs.Counts.{bit, count_cons, count_all, pass_all, perm_last, all_last, links_sorted}
 
 -- ---- the edges of the corners are the edges
 

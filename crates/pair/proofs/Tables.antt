@@ -15,7 +15,7 @@ use Rattle.integers.specs.Lists.{All, Any, sumℤ, links, neighbours}
 use Rattle.integers.proofs.Ring.{◌:+◌, ◌:≡◌, ◌:≡ᵖ◌, pt, int, ring, ringᵖ}
 use Rattle.integers.proofs.Order.{zarith, by_test}
 use Rattle.integers.proofs.Elements.{all_map, all_map2, any_map, all_any, all_append, all_perm, any_append}
-use Rattle.integers.proofs.Tests.{bit, differ, lt_z-<}
+use Rattle.integers.proofs.Tests.{differ, lt_z-<}
 use Rattle.plane.specs.Plane.{Pt, O, ◌+ᵖ◌, ◌-ᵖ◌, negᵖ, cross, is_equal}
 use Rattle.plane.specs.Contour.{edges, last_of}
 use Rattle.plane.proofs.Terms.{OE, ◌+E◌, ◌-E◌, cross_e}
@@ -30,7 +30,7 @@ use Rattle.pair.proofs.Convex.{In, Sorted, Convex, Outline}
 use Rattle.pair.proofs.Live.{live_by, live_nz, sum_live}
 use Rattle.pair.proofs.Reaches.{reach_same, convex_nonempty, corners_nonempty}
 use Rattle.pair.proofs.Repeats.{how_many_perm, RoundEdges}
-use Rattle.pair.proofs.Counts.{count_cons, all_count, all_pass, perm_last, all_last}
+use Rattle.pair.proofs.Counts.{bit, count_cons, all_count, all_pass, perm_last, all_last}
 use Rattle.pair.proofs.Windings.{crossings, winding_pos}
 
 -- ---- the way from p along m: its edges, and those of a closed contour

@@ -14,7 +14,6 @@ use lib.ListN.{length, length-map, get_or-map}
 use lib.IntN.{ℤ, pos}
 use lib.Signed.{◌<ℤ◌, lt_z}
 use Rattle.integers.specs.Lists.{All, sumℤ, sumℕ, rotate, neighbours, both}
-use Rattle.integers.proofs.Tests.{bit}
 use Rattle.integers.proofs.Ring.{con, ◌:≡◌, pt, ring}
 use Rattle.integers.proofs.Arith.{◌:<◌, ◌:=◌, ◌⇒◌, :⊥, arithℤ}
 use Rattle.integers.proofs.Elements.{all_map, all_map2, all_image}
@@ -36,7 +35,7 @@ use Rattle.pair.proofs.Start.{below_negᵖ}
 use Rattle.pair.proofs.Places.{backwards}
 use Rattle.pair.proofs.Repeats.{RoundEdges}
 use Rattle.pair.proofs.Live.{live_negᵖ, live_nz}
-use Rattle.pair.proofs.Counts.{count_cons, count_sum, all_pass, count_same, count_map}
+use Rattle.pair.proofs.Counts.{bit, count_cons, count_sum, all_pass, count_same, count_map}
 use Rattle.pair.proofs.Tables.{forward_cases}
 use Rattle.pair.proofs.Readings.{outline_on, winding_on, outline_back, winding_back}
 

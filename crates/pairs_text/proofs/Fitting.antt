@@ -2,7 +2,7 @@
 -- its fault: `first_refused`, `first_head`), a line (`piece_line`), and that its walks can be put
 -- (`puttable`). Assumes nothing.
 use mathlib.Core.Path.{◌≡◌, refl, sym, ◌∙◌, ap}
-use mathlib.Core.List.{List, []}
+use mathlib.Core.List.{List, [], ◌∷◌, map}
 use Prim.Native.Nat.{ℕ, zero, suc, ◌+◌, ◌*◌, ◌-◌, ◌/◌, ◌%◌, ◌<◌}
 use native.Mathlib.Nat.{mod-lt, div-lt_iff_lt-mul}
 use native.Mathlib.Omega.{arith}
@@ -12,7 +12,7 @@ use lib.ListN.{length, get_or, length-map}
 use lib.IntN.{ℤ}
 use Rattle.integers.specs.Lists.{up_to}
 use Rattle.integers.proofs.Order.{by_test}
-use Rattle.integers.proofs.Counting.{length-up_to, map-up_to_at}
+use Rattle.integers.proofs.Counting.{length-up_to, get_or-up_to}
 use Rattle.text.specs.Text.{refusal}
 use Rattle.pair_lines.specs.Lines.{pairs_head}
 use Rattle.pair_lines.specs.Putting.{Puttable}
@@ -42,7 +42,14 @@ module _ (x : Begun) (firsts : List ℕ) (points : List (List ℤ)) where
 
   line_at : {k : ℕ} → k < x.left * x.right → get_or (pieces_in x firsts points) (suc k) [] ≡ line_in x firsts points k
   unfolding pieces_in
-  line_at h = map-up_to_at (line_in x firsts points) [] h
+  line_at {k} h =
+      getD-map-inside (line_in x firsts points) (up_to (x.left * x.right)) k (omega (arith, length-up_to (x.left * x.right)))
+      ∙ ap (line_in x firsts points) (get_or-up_to (x.left * x.right) 0 h)
+    where
+      getD-map-inside : (f : ℕ → List ℕ) (l : List ℕ) (k : ℕ) → k < length l → get_or (map f l) k [] ≡ f (get_or l k 0)
+      getD-map-inside f [] k h = absurd (omega arith)
+      getD-map-inside f (y ∷ l) zero h = refl
+      getD-map-inside f (y ∷ l) (suc k) h = getD-map-inside f l k (omega arith)
 
   pub piece_line : (k : ℕ) → (k ≡ 0 → ⊥) → k < 1 + x.left * x.right → line_in x firsts points (k - 1) ≡ get_or (pieces_in x firsts points) k []
   piece_line zero d h = absurd (d refl)

@@ -10,7 +10,7 @@ use lib.IntN.{ℤ, pos, negsuc, nat_abs}
 use lib.Signed.{le_z, lt_z}
 use lib.ListN.{length, length-map}
 use lib.Ieee.Fits.{and_l, and_r}
-use Rattle.integers.specs.Lists.{All, every}
+use Rattle.integers.specs.Lists.{All}
 use Rattle.integers.proofs.Elements.{all_map2}
 use Rattle.integers.proofs.Order.{by_test}
 use Rattle.integers.proofs.Sizes.{abs_parts}
@@ -28,7 +28,7 @@ use Rattle.grid.proofs.Bound.{placed, coordinate_small}
 use Rattle.path.specs.declared.PathItem.{PathItem}
 use Rattle.path.specs.declared.Point.{Point}
 use Rattle.path.specs.declared.Frame.{Frame}
-use Rattle.path.specs.Path.{path_points, path_contour, framed, is_within, is_on_grid, path_fault, corner_of}
+use Rattle.path.specs.Path.{every, path_points, path_contour, framed, is_within, is_on_grid, path_fault, corner_of}
 use Rattle.path.specs.Accepted.{Near, AcceptedSure}
 use Rattle.path.proofs.Writing.{Sound, sound, sound_near, sound_framed}
 

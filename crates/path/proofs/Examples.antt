@@ -6,14 +6,13 @@ use Prim.Native.Nat.{ℕ}
 use lib.IntN.{pos, negsuc}
 use lib.Ieee.{Float, binary64, of_bits, fits, add, sub, mul}
 use Rattle.integers.specs.Faults.{first_fault}
-use Rattle.integers.specs.Lists.{every}
 use Rattle.corners.specs.Corners.{numbers_of}
 use Rattle.floats.specs.Floats.{number, multiple, nearest}
 use Rattle.grid.specs.Grid.{within_range, step_count, on_grid}
 use Rattle.path.specs.declared.PathItem.{PathItem}
 use Rattle.path.specs.declared.PathItem.TheVariants.{Move, Line, Horizontal, Vertical, RelativeLine, Close}
 use Rattle.path.specs.declared.Frame.{Frame}
-use Rattle.path.specs.Path.{points_from, lines_then_close, in_order, path_contour, path_fault}
+use Rattle.path.specs.Path.{every, points_from, lines_then_close, in_order, path_contour, path_fault}
 
 abbrev f64 : ℕ → Float
 f64 bits = of_bits binary64 bits

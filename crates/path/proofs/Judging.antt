@@ -14,7 +14,6 @@ use lib.Ieee.Fits.{and_i, and_l, and_r}
 use lib.Ieee.Bits.{is_true}
 use lib.Ieee.Scale.{finite}
 use Rattle.integers.specs.Faults.{first_fault}
-use Rattle.integers.specs.Lists.{every}
 use Rattle.integers.proofs.Order.{by_test}
 use Rattle.table.specs.Table.{max_contour}
 use Rattle.floats.proofs.Comparisons.{and_true}
@@ -28,7 +27,7 @@ use Rattle.path.specs.declared.Point.{Point}
 use Rattle.path.specs.declared.Frame.{Frame}
 use Rattle.path.specs.declared.Judged.{Judged}
 use Rattle.path.specs.declared.PathCounts.{PathCounts}
-use Rattle.path.specs.Path.{reach, points_from, initial_point, path_points, in_order, path_contour, is_given, framed, is_within, is_on_grid, path_fault, path_counts}
+use Rattle.path.specs.Path.{every, reach, points_from, initial_point, path_points, in_order, path_contour, is_given, framed, is_within, is_on_grid, path_fault, path_counts}
 use Rattle.path.specs.Judging.{is_closed, ordered_from, judge_item, judge_from, begun, is_ordered, broken, closed, judged_whole, judged_counts}
 use Rattle.path.proofs.Tests.{told_by}
 use Rattle.path.proofs.Order.{broken_order, opening_order, order_drawn}

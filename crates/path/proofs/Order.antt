@@ -7,13 +7,12 @@ use mathlib.Core.List.{List, [], ◌∷◌}
 use Prim.Native.Nat.{suc}
 use lib.Dec.{T}
 use lib.ListN.{length, take}
-use Rattle.integers.specs.Lists.{every}
 use Rattle.integers.proofs.Tests.{differ}
 use Rattle.path.specs.declared.PathItem.{PathItem}
 use Rattle.path.specs.declared.PathItem.TheVariants.{Move, Line, Horizontal, Vertical, RelativeLine, Close}
 use Rattle.path.specs.declared.Stage.TheVariants.{Opening, Inside, Closed, Broken}
 use Rattle.path.specs.declared.Point.{Point}
-use Rattle.path.specs.Path.{reach, closes, lines_then_close, in_order, points_from}
+use Rattle.path.specs.Path.{every, reach, closes, lines_then_close, in_order, points_from}
 use Rattle.path.specs.Judging.{stage_after, ordered_from}
 use Rattle.path.specs.Writing.{reached_from}
 

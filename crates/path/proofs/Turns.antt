@@ -10,14 +10,13 @@ use lib.ListN.{length, drop, get_or, drop_of_length-le}
 use lib.Seq.{drop-cons}
 use lib.IntN.{ℤ}
 use lib.Ieee.Fits.{and_l, and_r}
-use Rattle.integers.specs.Lists.{every}
 use Rattle.corners.specs.Corners.{with_corner}
 use Rattle.corners.proofs.Corners.{length_put}
 use Rattle.path.specs.declared.PathItem.{PathItem}
 use Rattle.path.specs.declared.Point.{Point}
 use Rattle.path.specs.declared.Frame.{Frame}
 use Rattle.path.specs.declared.Judged.{Judged}
-use Rattle.path.specs.Path.{reach, is_on_grid, corner_of}
+use Rattle.path.specs.Path.{every, reach, is_on_grid, corner_of}
 use Rattle.path.specs.Judging.{judge_item, judge_from}
 use Rattle.path.specs.Writing.{reached_from, write_from}
 

@@ -13,7 +13,6 @@ use lib.Dec.{T, eqb}
 use lib.ListN.{length, drop, get_or, drop_of_length-le}
 use lib.Ieee.Fits.{and_l, and_r}
 use lib.Ieee.Bits.{is_true}
-use Rattle.integers.specs.Lists.{every}
 use Rattle.integers.proofs.Order.{by_test}
 use Rattle.integers.proofs.Tests.{differ}
 use Rattle.floats.proofs.Comparisons.{and_true}
@@ -21,7 +20,7 @@ use Rattle.path.specs.declared.PathItem.{PathItem}
 use Rattle.path.specs.declared.PathItem.TheVariants.{Move, Line, Horizontal, Vertical, RelativeLine, Close}
 use Rattle.path.specs.declared.Point.{Point}
 use Rattle.path.specs.declared.Frame.{Frame}
-use Rattle.path.specs.Path.{reach, closes, points_from, initial_point, path_points, lines_then_close, in_order, is_given, is_within, is_on_grid}
+use Rattle.path.specs.Path.{every, reach, closes, points_from, initial_point, path_points, lines_then_close, in_order, is_given, is_within, is_on_grid}
 use Rattle.path.specs.Judging.{is_drawn, moves, is_next, is_ordered, broken, closed, judged_whole}
 use Rattle.path.proofs.Judging.{and_false, item_given}
 use Rattle.path.proofs.Turns.{drop_turn}

@@ -4,17 +4,16 @@
 use mathlib.Core.Path.{◌≡◌, refl, sym, ◌∙◌, ap, subst}
 use mathlib.Core.Bool.{Bool, true, false, cond, not, ◌&&◌}
 use mathlib.Core.List.{List, [], ◌∷◌, ◌++◌, map, append_assoc, append-nil}
-use Prim.Native.Nat.{ℕ, suc, ◌+◌, ◌*◌, ◌/◌, ◌≤◌}
+use Prim.Native.Nat.{ℕ, zero, suc, ◌+◌, ◌*◌, ◌/◌, ◌≤◌, ◌<◌}
 use native.Mathlib.Omega.{arith}
 use borrow.Author.Tests.{ltb-false, eqb-true, not-false}
 use lib.Dec.{T, eqb, ltb}
-use lib.ListN.{length, take, length-append, length-map}
+use lib.ListN.{length, take, get_or, length-append, length-map}
 use lib.Seq.{length-take-le}
 use lib.IntN.{ℤ}
-use lib.Ieee.Fits.{and_l, and_r}
+use lib.Ieee.Fits.{and_i, and_l, and_r}
 use lib.Ieee.Bits.{is_true}
-use Rattle.integers.specs.Lists.{every, overlay}
-use Rattle.integers.proofs.Elements.{every_take, every_both}
+use Rattle.integers.specs.Lists.{overlay}
 use Rattle.integers.proofs.Order.{by_test}
 use Rattle.integers.proofs.Faults.{first_none}
 use Rattle.integers.proofs.Overlay.{overlay_nil, overlay_two}
@@ -26,7 +25,7 @@ use Rattle.path.specs.declared.Stage.TheVariants.{Opening}
 use Rattle.path.specs.declared.Point.{Point}
 use Rattle.path.specs.declared.Frame.{Frame}
 use Rattle.path.specs.declared.PathCounts.{PathCounts}
-use Rattle.path.specs.Path.{reach, closes, initial_point, path_points, in_order, corner_of, path_contour, is_given, framed, is_within, is_on_grid, is_path, path_fault, path_counts, corners_left}
+use Rattle.path.specs.Path.{every, reach, closes, initial_point, path_points, in_order, corner_of, path_contour, is_given, framed, is_within, is_on_grid, is_path, path_fault, path_counts, corners_left}
 use Rattle.path.specs.Judging.{is_drawn}
 use Rattle.path.specs.Writing.{reached_from, write_from, Writable}
 use Rattle.path.proofs.Order.{order_drawn}
@@ -45,6 +44,24 @@ written_front f (i ∷ is) p k done old {out} e h l =
     ∙ ap (λ d. overlay d old) (append_assoc done two (numbers_of (map (corner_of f) (reached_from (reach p i) is))))
 
 -- ---- what is told allows the writing
+
+every_both : (f g : PathItem → Bool) (l : List PathItem) → T (every f l) → T (every g l) → T (every (λ i. f i && g i) l)
+unfolding every
+every_both f g [] t u = tt
+every_both f g (i ∷ l) t u =
+    and_i (f i && g i) (every (λ i. f i && g i) l) (and_i (f i) (g i) (and_l (f i) (every f l) t) (and_l (g i) (every g l) u)) (every_both f g l (and_r (f i) (every f l) t) (and_r (g i) (every g l) u))
+
+pub every_at : (f : PathItem → Bool) (l : List PathItem) (i : ℕ) (d : PathItem) → i < length l → T (every f l) → T (f (get_or l i d))
+unfolding every
+every_at f [] i d h t = absurd (omega (arith, h))
+every_at f (x ∷ l) zero d h t = and_l (f x) (every f l) t
+every_at f (x ∷ l) (suc i) d h t = every_at f l i d (omega (arith, h)) (and_r (f x) (every f l) t)
+
+every_take : (f : PathItem → Bool) (n : ℕ) (l : List PathItem) → T (every f l) → T (every f (take n l))
+unfolding every
+every_take f zero l t = tt
+every_take f (suc n) [] t = tt
+every_take f (suc n) (i ∷ l) t = and_i (f i) (every f (take n l)) (and_l (f i) (every f l) t) (every_take f n l (and_r (f i) (every f l) t))
 
 -- what is known where there is no fault
 pub record Sound (f : Frame) (is : List PathItem) (room : ℕ) : Type 0 where

@@ -1,7 +1,6 @@
 -- A path judged item by item, and as a whole, as the code does it. Assumes nothing.
 use Rattle.std.specs.Prelude.{Bool, true, false, cond, not, ◌&&◌, List, [], ◌∷◌, ℕ, ◌-◌, ◌/◌, eqb, ltb}
 use Rattle.integers.specs.Faults.{first_fault, fault_path, fault_rules, fault_range, fault_corner_room}
-use Rattle.integers.specs.Lists.{every}
 use Rattle.table.specs.Table.{max_contour}
 use Rattle.path.specs.declared.PathItem.{PathItem}
 use Rattle.path.specs.declared.PathItem.TheVariants.{Move, Line, Horizontal, Vertical, RelativeLine, Close}
@@ -11,7 +10,7 @@ use Rattle.path.specs.declared.Point.{Point}
 use Rattle.path.specs.declared.Frame.{Frame}
 use Rattle.path.specs.declared.Judged.{Judged}
 use Rattle.path.specs.declared.PathCounts.{PathCounts}
-use Rattle.path.specs.Path.{reach, closes, initial_point, path_points, in_order, is_given, framed, is_within, is_on_grid, counts_of}
+use Rattle.path.specs.Path.{every, reach, closes, initial_point, path_points, in_order, is_given, framed, is_within, is_on_grid, counts_of}
 
 -- the stage behind a move, behind a line of any kind, behind a close
 abbrev pub moved : Stage → Stage

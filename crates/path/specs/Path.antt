@@ -5,7 +5,6 @@ use Rattle.std.specs.Float.{fin, binary64}
 use Rattle.std.specs.Float.Ieee.{add}
 use Rattle.std.specs.Float.Ieee.Scale.{finite}
 use Rattle.integers.specs.Faults.{Kind, first_fault, fault_path, fault_rules, fault_range, fault_corner_room}
-use Rattle.integers.specs.Lists.{every}
 use Rattle.plane.specs.Plane.{Pt}
 use Rattle.corners.specs.Corners.{numbers_of}
 use Rattle.table.specs.Table.{max_contour, written}
@@ -16,6 +15,11 @@ use Rattle.path.specs.declared.PathItem.TheVariants.{Move, Line, Horizontal, Ver
 use Rattle.path.specs.declared.Point.{Point}
 use Rattle.path.specs.declared.Frame.{Frame}
 use Rattle.path.specs.declared.PathCounts.{PathCounts}
+
+-- f passes at each element
+unfoldable pub every : {A : Type 0} → (A → Bool) → List A → Bool
+every f [] = true
+every f (x ∷ l) = f x && every f l
 
 -- ---- the points reached
 

@@ -1,11 +1,10 @@
 -- A path's corners written item by item, as the code does it. Assumes nothing.
 use Rattle.std.specs.Prelude.{List, [], ◌∷◌, ℕ, ◌+◌, ◌≤◌, T, length, take, ℤ}
-use Rattle.integers.specs.Lists.{every}
 use Rattle.corners.specs.Corners.{points_of, with_corner}
 use Rattle.path.specs.declared.PathItem.{PathItem}
 use Rattle.path.specs.declared.Point.{Point}
 use Rattle.path.specs.declared.Frame.{Frame}
-use Rattle.path.specs.Path.{reach, is_on_grid, corner_of}
+use Rattle.path.specs.Path.{every, reach, is_on_grid, corner_of}
 
 -- the point that each of the items reaches, a close too
 unfoldable pub reached_from : Point → List PathItem → List Point

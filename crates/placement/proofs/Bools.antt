@@ -6,6 +6,14 @@ pub or_none : (b : Bool) → cond b true false ≡ b
 or_none true = refl
 or_none false = refl
 
+pub or-all : (b : Bool) → cond b true true ≡ true
+or-all true = refl
+or-all false = refl
+
+pub and_none : (b : Bool) → cond b false false ≡ false
+and_none true = refl
+and_none false = refl
+
 pub and_and : (a b c : Bool) → cond a (cond b c false) false ≡ cond (cond a b false) c false
 and_and true b c = refl
 and_and false b c = refl

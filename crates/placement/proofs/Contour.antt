@@ -12,17 +12,17 @@ use lib.ListN.{length, drop, get_or, drop_of_length-le}
 use lib.Seq.{drop-cons}
 use lib.IntN.{ℤ, pos}
 use lib.Signed.{le_z, lt_z, ◌<ℤ◌}
-use Rattle.integers.specs.Lists.{every, some, links, neighbours}
+use Rattle.integers.specs.Lists.{links, neighbours}
 use Rattle.integers.proofs.Order.{by_test, zarith, <-≤}
-use Rattle.integers.proofs.Tests.{cond_same, lt_z-<, lt_z-≤, <-le_z, ≤-le_z, ≤-lt_z}
+use Rattle.integers.proofs.Tests.{lt_z-<, lt_z-≤, <-le_z, ≤-le_z, ≤-lt_z}
 use Rattle.plane.specs.Plane.{Pt, O, area_two, eq_pt}
 use Rattle.plane.specs.Contour.{last_of}
 use Rattle.plane.proofs.Edges.{links_last, ≢-eq_pt}
 use Rattle.plane.proofs.Sides.{area_first}
 use Rattle.pair.specs.Walk.{corner_at}
-use Rattle.placement.proofs.Bools.{or_none, and_and, or_or}
+use Rattle.placement.proofs.Bools.{or_none, or-all, and_none, and_and, or_or}
 use Rattle.placement.specs.declared.Contact.TheVariants.{Apart, Touching, Overlapping}
-use Rattle.placement.specs.Placement.{side, on_or_left, left_or_none, left_of, among, inside_at, strictly_inside_at, contact_in}
+use Rattle.placement.specs.Placement.{every, some, side, on_or_left, left_or_none, left_of, among, inside_at, strictly_inside_at, contact_in}
 
 -- the last corner stands last
 last_at : (p : Pt) (l : List Pt) → get_or (p ∷ l) (length l) O ≡ last_of p l
@@ -35,12 +35,12 @@ module _ (t : Pt × Pt → Bool) (e : Pt × Pt) where
   every_last : (l : List (Pt × Pt)) → every t (l ++ (e ∷ [])) ≡ every t (e ∷ l)
   unfolding every
   every_last [] = refl
-  every_last (f ∷ l) = by_test (t f) (λ h. rw h (every_last l)) (λ h. rw h (sym (cond_same (t e) false)))
+  every_last (f ∷ l) = by_test (t f) (λ h. rw h (every_last l)) (λ h. rw h (sym (and_none (t e))))
 
   some_last : (l : List (Pt × Pt)) → some t (l ++ (e ∷ [])) ≡ some t (e ∷ l)
   unfolding some
   some_last [] = refl
-  some_last (f ∷ l) = by_test (t f) (λ h. rw h (sym (cond_same (t e) true))) (λ h. rw h (some_last l))
+  some_last (f ∷ l) = by_test (t f) (λ h. rw h (sym (or-all (t e)))) (λ h. rw h (some_last l))
 
 -- what holds of the edges in either order
 round : (P : List (Pt × Pt) → Bool) → ((e : Pt × Pt) (m : List (Pt × Pt)) → P (m ++ (e ∷ [])) ≡ P (e ∷ m)) → (l : List Pt) → (length l ≡ 0 → ⊥)
@@ -113,7 +113,7 @@ module _ (z : Pt) (l : List Pt) where
         let below = lt_z-< s (pos 0) f in
         let w : every (on_or_left z) (neighbours l) ≡ false = t.weakly ∙ every_next (on_or_left z) _ h ∙ rw (← e, <-le_z below) in
         let v : every (left_or_none z) (neighbours l) ≡ false =
-        t.strictly ∙ ap (λ b. cond strict b false) (every_next (left_or_none z) _ h ∙ rw (← e, ≤-lt_z (<-≤ below), apart_of (corner_at l i) (corner_at l k) (subst (λ x. x <ℤ pos 0) e below))) ∙ cond_same strict false in
+        t.strictly ∙ ap (λ b. cond strict b false) (every_next (left_or_none z) _ h ∙ rw (← e, ≤-lt_z (<-≤ below), apart_of (corner_at l i) (corner_at l k) (subst (λ x. x <ℤ pos 0) e below))) ∙ and_none strict in
         rw (v, w)
       where
         apart_of : (a b : Pt) → area_two a b z <ℤ pos 0 → eq_pt a b ≡ false

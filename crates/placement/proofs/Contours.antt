@@ -11,17 +11,15 @@ use borrow.Author.Tests.{eq-eqb, ne_eqb}
 use lib.ListN.{length, drop, get_or, drop_of_length-le}
 use lib.Seq.{drop-cons}
 use lib.IntN.{ℤ}
-use Rattle.integers.specs.Lists.{some}
-use Rattle.integers.proofs.Tests.{cond_same}
 use Rattle.plane.specs.Plane.{Pt}
 use Rattle.corners.specs.Corners.{points_of, corners_between}
 use Rattle.table.specs.Table.{parts_of, table_parts, part_count}
 use Rattle.table.proofs.Parts.{length_parts}
 use Rattle.table.proofs.Rules.{result_ascends}
 use Rattle.table.proofs.Shown.{part_is, numbers_between}
-use Rattle.placement.proofs.Bools.{or_none}
+use Rattle.placement.proofs.Bools.{or_none, or-all}
 use Rattle.placement.specs.declared.Contact.TheVariants.{Apart, Touching, Overlapping}
-use Rattle.placement.specs.Placement.{inside_at, strictly_inside_at, contact_in, contact_by, place_fault, placed_of, Placeable}
+use Rattle.placement.specs.Placement.{some, inside_at, strictly_inside_at, contact_in, contact_by, place_fault, placed_of, Placeable}
 use Rattle.placement.specs.declared.Placed.TheVariants.{At, Refused}
 
 -- what the answer of one contour says of the tests
@@ -80,7 +78,7 @@ module _ (z : Pt) (ps : List (List Pt)) where
         let t = told_touching z (get_or ps k []) e in
         record {
           strictly = b.strictly ∙ some_turn (strictly_inside_at z) h ∙ rw t.0;
-          weakly = b.weakly ∙ ap (λ x. cond touches true x) (some_turn (inside_at z) h ∙ rw t.1) ∙ cond_same touches true;
+          weakly = b.weakly ∙ ap (λ x. cond touches true x) (some_turn (inside_at z) h ∙ rw t.1) ∙ or-all touches;
         }
 
     pub overlapped : contact_in z (get_or ps k []) ≡ Overlapping → Overlapping ≡ contact_by z ps

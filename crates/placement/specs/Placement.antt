@@ -7,7 +7,7 @@
 use Rattle.std.specs.Prelude.{◌≡◌, Bool, true, false, cond, List, [], ◌∷◌, ℕ, ◌<◌, eqb, length, ℤ, pos}
 use Rattle.std.specs.Int.Signed.{le_z, lt_z}
 use Rattle.integers.specs.Faults.{first_fault, fault_rules, fault_range}
-use Rattle.integers.specs.Lists.{every, some, neighbours}
+use Rattle.integers.specs.Lists.{neighbours}
 use Rattle.plane.specs.Plane.{Pt, area_two, eq_pt}
 use Rattle.corners.specs.Corners.{points_of, off_range}
 use Rattle.table.specs.Table.{table_parts, result_broken}
@@ -15,6 +15,16 @@ use Rattle.placement.specs.declared.Contact.{Contact}
 use Rattle.placement.specs.declared.Contact.TheVariants.{Apart, Touching, Overlapping}
 use Rattle.placement.specs.declared.Placed.{Placed}
 use Rattle.placement.specs.declared.Placed.TheVariants.{At, Refused}
+
+module _ {A : Type 0} where
+  -- whether a test holds of every element, and of some
+  unfoldable pub every : (A → Bool) → List A → Bool
+  every t [] = true
+  every t (x ∷ l) = cond (t x) (every t l) false
+
+  unfoldable pub some : (A → Bool) → List A → Bool
+  some t [] = false
+  some t (x ∷ l) = cond (t x) true (some t l)
 
 -- ---- one contour, counter-clockwise and convex as those of meshes' parts are
 

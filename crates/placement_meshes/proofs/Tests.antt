@@ -7,7 +7,7 @@ use mathlib.Core.List.{List, [], ◌∷◌}
 use mathlib.Core.Logic.{◌⊎◌, inl, inr, ⊎_elim, ◌↔◌}
 use lib.IntN.{ℤ, pos, neg_ℤ, ◌+ℤ◌, ◌*ℤ◌, ◌-ℤ◌}
 use lib.Signed.{◌≤ℤ◌, ◌<ℤ◌, le_z, lt_z}
-use Rattle.integers.specs.Lists.{All, every, some, neighbours}
+use Rattle.integers.specs.Lists.{All, neighbours}
 use Rattle.integers.proofs.Ring.{con, ◌:+◌, ◌:*◌, ◌:-◌, :neg, ◌:≡◌, int, pt, ring}
 use Rattle.integers.proofs.Order.{zarith, by_test, add_parts, neg_parts, neg_mono_<}
 use Rattle.integers.proofs.Elements.{all_map}
@@ -24,7 +24,7 @@ use Rattle.cover.proofs.Fan.{Hull}
 use Rattle.cover.proofs.Sides.{Turning, round_wide}
 use Rattle.cover.proofs.Covers.{inside_hull, hull_form}
 use Rattle.cover.proofs.Strict.{no_length}
-use Rattle.placement.specs.Placement.{on_or_left, left_or_none, left_of, among, inside_at, strictly_inside_at}
+use Rattle.placement.specs.Placement.{every, some, on_or_left, left_or_none, left_of, among, inside_at, strictly_inside_at}
 
 -- ---- edge by edge
 

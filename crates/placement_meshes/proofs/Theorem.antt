@@ -10,7 +10,7 @@ use Prim.Native.Nat.{ℕ}
 use native.Mathlib.Omega.{arith}
 use lib.ListN.{length}
 use lib.IntN.{pos}
-use Rattle.integers.specs.Lists.{All, Any, some}
+use Rattle.integers.specs.Lists.{All, Any}
 use Rattle.integers.proofs.Order.{zarith, by_test}
 use Rattle.integers.proofs.Tests.{differ}
 use Rattle.integers.proofs.Elements.{all_map, all_flatten, any_map, any_iff}
@@ -40,7 +40,7 @@ use Rattle.cover.proofs.Strict.{strict_inside}
 use Rattle.cover_parts.specs.Placed.{Placed}
 use Rattle.cover_parts.proofs.Placed.{meshes_placed}
 use Rattle.placement.specs.declared.Contact.TheVariants.{Apart, Touching, Overlapping}
-use Rattle.placement.specs.Placement.{inside_at, strictly_inside_at, contact_by, placed_of}
+use Rattle.placement.specs.Placement.{some, inside_at, strictly_inside_at, contact_by, placed_of}
 use Rattle.placement.specs.declared.Placed.TheVariants.{At}
 use Rattle.placement.proofs.Faults.{told_none}
 use Rattle.placement.proofs.Contours.{told_at}

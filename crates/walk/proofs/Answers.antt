@@ -14,7 +14,7 @@ use lib.ListN.{length}
 use lib.IntN.{ℤ}
 use Rattle.integers.proofs.Faults.{first_none}
 use Rattle.integers.proofs.Order.{by_test}
-use Rattle.integers.proofs.Tests.{either_false, cond_same}
+use Rattle.integers.proofs.Tests.{either_false}
 use Rattle.plane.specs.Plane.{Pt}
 use Rattle.corners.specs.Corners.{points_of}
 use Rattle.table.specs.Table.{max_contour}
@@ -158,7 +158,11 @@ step_placed l w h = rw (h, advance_placed (length (points_of l)) w (accepted l w
 
 valid_placed : {n : ℕ} {w : Place} → Valid n w → misplaced n w ≡ false
 unfolding misplaced
-valid_placed {n} {w} v = rw (lt-leb n w.index v.index, lt-leb n w.start v.start, lt-leb n w.end v.end, cond_same w.segment false)
+valid_placed {n} {w} v = rw (lt-leb n w.index v.index, lt-leb n w.start v.start, lt-leb n w.end v.end, neither w.segment)
+  where
+    neither : (s : Bool) → cond s false false ≡ false
+    neither true = refl
+    neither false = refl
 
 pub begin_placed : (reflected : Bool) (l : List Pt) → 0 < length l → misplaced (length l) (begin reflected l) ≡ false
 begin_placed reflected l h = valid_placed (valid_begin reflected l h)

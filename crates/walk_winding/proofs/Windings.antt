@@ -3,8 +3,8 @@
 -- (`wound_total`, `wound_left`). Assumes nothing.
 use mathlib.Core.Path.{◌≡◌, refl, sym, ◌∙◌, ap}
 use mathlib.Core.Bool.{true, false, cond}
-use mathlib.Core.List.{List, [], ◌∷◌}
-use Prim.Native.Nat.{ℕ, suc, ◌+◌, ◌-◌, ◌≤◌, ◌<◌}
+use mathlib.Core.List.{List, [], ◌∷◌, map}
+use Prim.Native.Nat.{ℕ, zero, suc, ◌+◌, ◌-◌, ◌≤◌, ◌<◌}
 use native.Mathlib.Numerals.{add-one}
 use native.Mathlib.Omega.{arith}
 use borrow.Author.Tests.{ltb-true, ltb-false, eqb-true, eqb-false, lt-ltb, le-ltb}
@@ -14,7 +14,6 @@ use lib.Seq.{drop-cons}
 use lib.IntN.{ℤ, pos, ◌+ℤ◌}
 use Rattle.integers.specs.Lists.{sumℤ, rotate, neighbours}
 use Rattle.integers.proofs.Order.{by_test}
-use Rattle.integers.proofs.Elements.{map_at}
 use Rattle.integers.proofs.Ring.{con, ◌:+◌, ◌:≡◌, int, ring}
 use Rattle.integers.proofs.Rotation.{length_rotate, get_or_rotate, get_or_rotate_past}
 use Rattle.integers.proofs.Neighbours.{length_neighbours, get_or_neighbours, get_or_neighbours_last}
@@ -60,6 +59,11 @@ ring_after l {s} {k} h g =
 
 -- ---- terms
 
+map_at : {A B : Type 0} (f : A → B) (l : List A) (i : ℕ) (d : A) (e : B) → i < length l → get_or (map f l) i e ≡ f (get_or l i d)
+map_at f [] i d e h = absurd (omega arith)
+map_at f (x ∷ l) zero d e h = refl
+map_at f (x ∷ l) (suc i) d e h = map_at f l i d e (omega arith)
+
 pub length_terms : (s : ℕ) (l : List Pt) → length (winding_terms s l) ≡ length l
 unfolding winding_terms
 length_terms s l = length-map (neighbours (rotate s l)) _ ∙ length_neighbours (rotate s l) ∙ length_rotate s l
@@ -67,7 +71,7 @@ length_terms s l = length-map (neighbours (rotate s l)) _ ∙ length_neighbours 
 pub term_is : (l : List Pt) {s k : ℕ} → s < length l → k < length l → get_or (winding_terms s l) k (pos 0) ≡ cross (corner_at l (round_to (length l) (s + k)) -ᵖ corner_at l s) (corner_at l (round_to (length l) (s + k + 1)) -ᵖ corner_at l s)
 unfolding winding_terms
 term_is l {s} {k} h g =
-    map_at seen (neighbours (rotate s l)) (O, O) (pos 0) (omega (arith, length_neighbours (rotate s l), length_rotate s l)) ∙ ap seen (ring_after l h g)
+    map_at seen (neighbours (rotate s l)) k (O, O) (pos 0) (omega (arith, length_neighbours (rotate s l), length_rotate s l)) ∙ ap seen (ring_after l h g)
   where
     seen : Pt × Pt → ℤ
     seen = λ e. cross (e.0 -ᵖ corner_at l s) (e.1 -ᵖ corner_at l s)

@@ -91,10 +91,6 @@ module _ (h l d s : ℕ) (hd : h < d) (fl : l < 2 ^ 64) (n : Normal d s) where
   scaled : two_words top ((l * P) % 2 ^ 64) ≡ two_words h l * P
   scaled = joined (h * P) (l * P) top_is (ap (λ n. l * P / n) (word ∙ mul_comm P W) ∙ mul-div-mul_right {m = P} l W (pow_pos s)) ∙ gathered h l P
 
-  -- a quotient of 31 bits leaves a top of 31: N P < d 2^31 P < 2^95
-  pub top_small : two_words h l < d * 2 ^ 31 → top < 2 ^ 31
-  top_small g = omega (arith, scaled, mul-le-mul_right P g, n.word)
-
   pub unscaled : {q : Quotient} → Divided (two_words top ((l * P) % 2 ^ 64)) ((d * P) % 2 ^ 64) q → Divided (two_words h l) d (record { quotient = q.quotient; remainder = q.remainder / P })
   unscaled {q} g =
       let f : Divided (two_words h l * P) (d * P) q = subst (λ n. Divided n (d * P) q) scaled (subst (λ v. Divided (two_words top ((l * P) % 2 ^ 64)) v q) divisor_kept g) in

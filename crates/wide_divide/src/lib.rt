@@ -1,7 +1,6 @@
-// A number of two words divided by one word: whole, with what is left (`divide`; `divide_short`
-// where the quotient has at most 31 bits, in half the time), and rounded to nearest
-// (`divide_with_rounding`). Each is the quotient of the numbers in ℕ (specs/Quotients.antt). Leans
-// on wide.
+// A number of two words divided by one word: whole, with what is left (`divide`), and rounded to
+// nearest (`divide_with_rounding`). Each is the quotient of the numbers in ℕ
+// (specs/Quotients.antt). Leans on wide.
 ghost use Rattle.std.specs.Prelude.{◌≡◌, ◌+◌, ◌*◌, ◌^◌, ◌≤◌, ◌<◌};
 ghost use Rattle.wide.specs.Words.{two_words};
 ghost use Rattle.wide_divide.specs.Quotients.{Divided, Normal, nearest};
@@ -57,14 +56,6 @@ fn divide_normal(high: u64, low: u64, v: u64) -> Quotient
     }
 }
 
-// (high, low) by v, whose top bit is set, where high has at most 31 bits: one digit.
-fn divide_one(high: u64, low: u64, v: u64) -> Quotient
-    requires { (2 ^ 63 ≤ v) × (high < 2 ^ 31) }
-    ensures { Divided (two_words high low) v result }
-{
-    divide_digit(high * HALF + low / HALF, low % HALF, v)
-}
-
 // How often d is to be doubled until its top bit is set.
 fn doublings(d: u64) -> u32
     requires { 0 < d }
@@ -89,26 +80,6 @@ pub fn divide(high: u64, low: u64, d: u64) -> Quotient
     let s = doublings(d);
     let top = (high << s) + ((low >> 1) >> (63 - s));
     let q = divide_normal(top, low << s, d << s);
-    Quotient {
-        quotient: q.quotient,
-        remainder: q.remainder >> s,
-    }
-}
-
-// The same where the quotient has at most 31 bits: one division, whatever high is.
-pub fn divide_short(high: u64, low: u64, d: u64) -> Quotient
-    requires { (high < d) × (two_words high low < d * 2 ^ 31) }
-    ensures { Divided (two_words high low) d result }
-{
-    if high == 0 {
-        return Quotient {
-            quotient: low / d,
-            remainder: low % d,
-        };
-    }
-    let s = doublings(d);
-    let top = (high << s) + ((low >> 1) >> (63 - s));
-    let q = divide_one(top, low << s, d << s);
     Quotient {
         quotient: q.quotient,
         remainder: q.remainder >> s,

@@ -1,5 +1,5 @@
-//! The topic of crates `listing` and `shares`: a mesh file's fault and the shares of parts,
-//! beside the judge, and the bytes that the area program prints, beside the oracle's `areas`.
+//! The topic of crate `listing`: a mesh file's fault, beside the judge, and the
+//! bytes that the area program prints, beside the oracle's `areas`.
 
 use crate::antt;
 use crate::parts::good;
@@ -8,18 +8,16 @@ use cli::answers::parts_of_file;
 use inputs::mesh_damage::{damaged, ORDER};
 use inputs::meshes::{self, Mesh};
 use inputs::rng::Rng;
-use inputs::shares::{self, Areas, GREATEST};
 use inputs::stored;
 use inputs::text;
 use judge::file::{self, MeshFile, Split};
-use judge::listing::{listing, refusal, WHOLE};
+use judge::listing::{listing, refusal};
 use judge::Fault;
 
 /// The definitions' names, here and in `DECLARATIONS`.
 const USES: &str = "\
 use Rattle·listing.specs.File.{fileFault}
 use Rattle·listing.specs.Listing.{areasOf}
-use Rattle·shares.specs.Shares.{sharesOf}
 use Rattle·text.specs.Text.{digits}
 ";
 
@@ -28,13 +26,11 @@ data Case : Type 0 where
   prints : List ℕ → ℕ → List ℕ → Case
   faulted : List ℕ → ℕ → Case
   written : ℕ → ℕ → List ℕ → Case
-  shared : List ℕ → List ℕ → Case
 
 abbrev holds : Case → Bool
 holds (prints file f said) = both (eqb (fileFault file) f) (eqNats (areasOf file) said)
 holds (faulted file f) = eqb (fileFault file) f
 holds (written most n said) = eqNats (digits most n []) said
-holds (shared areas said) = eqNats (sharesOf areas) said
 ";
 
 /// How many triangles a file has at the most.
@@ -43,11 +39,8 @@ const MOST: usize = 7;
 /// More digits than any number of a listing has.
 const DIGITS: usize = 25;
 
-/// How many parts a list of areas has at the most.
-const PARTS: usize = 12;
-
-/// Files of good meshes, damaged meshes and damaged headers, and of triangles apart by which
-/// shares are tried; lists of areas; and numbers of every size.
+/// Files of good meshes, damaged meshes and damaged headers; and numbers of every
+/// size.
 pub fn topic(rng: &mut Rng, amount: Amount) -> Topic {
     let count = amount.random;
     let mut cases = limits();
@@ -61,10 +54,6 @@ pub fn topic(rng: &mut Rng, amount: Amount) -> Topic {
         cases.push(prints(&file::encode(&MeshFile { mesh, ..file })));
         let number = rng.word() >> rng.below(64);
         cases.push(written(number));
-        cases.push(prints(&apart(&shares::any(rng, MOST))));
-    }
-    for _ in 0..count / 4 {
-        cases.push(shared(&shares::any(rng, PARTS)));
     }
     Topic {
         name: "Listing",
@@ -76,9 +65,8 @@ pub fn topic(rng: &mut Rng, amount: Amount) -> Topic {
 }
 
 /// Document 01's dart and an empty mesh; bytes under 20; each field of the header one below
-/// what it must be, at it and one beyond, and two that are wrong; shares that leave a rest,
-/// ties among them, of triangles apart, of split parts and of lists of areas; numbers about a
-/// power of ten.
+/// what it must be, at it and one beyond, and two that are wrong; shares that leave a rest;
+/// numbers about a power of ten.
 fn limits() -> Vec<Case> {
     let of = |limit: u32, split: Split, mesh: Mesh| file::encode(&MeshFile { limit, split, mesh });
     let dart = meshes::linked(&[[(0, 0), (4, 0), (0, 4)], [(4, 0), (10, -2), (0, 4)]]);
@@ -124,22 +112,6 @@ fn limits() -> Vec<Case> {
             .collect();
         cases.push(prints(&of(0, Split::Ear, meshes::linked(&apart))));
     }
-    cases.extend(shares::LISTED.map(|areas| prints(&apart(areas))));
-    // a square in four parts by its centre, and in two, beside triangles
-    let square = meshes::linked(&[[(0, 0), (4, 0), (4, 4)], [(0, 0), (4, 4), (0, 4)]]);
-    for (split, areas) in [
-        (Split::Centroid, vec![]),
-        (Split::Centroid, vec![1, 2]),
-        (Split::Centroid, vec![8, 8, 8]),
-        (Split::Ear, vec![16]),
-        (Split::Fan, vec![4, 5]),
-    ] {
-        let mesh = [square.clone(), shares::apart(&areas)].concat();
-        cases.push(prints(&of(3, split, mesh)));
-    }
-    for areas in shares_listed() {
-        cases.push(shared(&areas));
-    }
     for number in [
         0,
         1,
@@ -157,31 +129,6 @@ fn limits() -> Vec<Case> {
         cases.push(written(number));
     }
     cases
-}
-
-/// Areas by hand: no parts; those of the inputs; a part without area; twenty-eight equal parts;
-/// the greatest total in one part and in two; very small parts; all left over but one.
-fn shares_listed() -> Vec<Areas> {
-    let mut lists = vec![vec![], vec![0, 1, 1, 1], vec![3; 28], vec![GREATEST]];
-    lists.extend(shares::LISTED.map(<[i128]>::to_vec));
-    lists.push(vec![1, GREATEST - 1]);
-    let (great, unit) = (1 << 62, (1 << 62) / WHOLE);
-    lists.push(vec![1, great, 1, 2]);
-    lists.push(vec![unit, great - 3 * unit, unit, unit]);
-    lists.push(vec![unit - 1, great, unit + 1, unit / 2, unit / 2 + 1]);
-    // each is some ten-thousandths and 7 in 8 of one
-    let most = [0, 2_000, 1, 3_000, 1_000, 993, 2_000, 999];
-    lists.push(most.map(|share| share * 8 + 7).to_vec());
-    lists
-}
-
-/// Triangles apart with these doubled areas.
-fn apart(areas: &[i128]) -> Vec<u8> {
-    file::encode(&MeshFile {
-        limit: 0,
-        split: Split::Ear,
-        mesh: shares::apart(areas),
-    })
 }
 
 fn any(rng: &mut Rng) -> MeshFile {
@@ -224,18 +171,5 @@ fn written(number: u64) -> Case {
     Case::new(
         format!("written {DIGITS} {number} {}", antt::bytes(text.as_bytes())),
         format!("digits {DIGITS} {number} is {text:?}"),
-    )
-}
-
-fn shared(areas: &[i128]) -> Case {
-    let shares = judge::listing::shares(areas);
-    let naturals = |list: &[i128]| {
-        let each: Vec<String> = list.iter().map(i128::to_string).collect();
-        (antt::list(&each), each.join(" "))
-    };
-    let ((areas, asked), (shares, told)) = (naturals(areas), naturals(&shares));
-    Case::new(
-        format!("shared {areas} {shares}"),
-        format!("sharesOf {asked} is {told}"),
     )
 }

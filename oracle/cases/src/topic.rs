@@ -103,12 +103,7 @@ pub mod layers {
     }
 
     pub fn listing() -> Vec<Module> {
-        let own = [
-            ("text", "Text"),
-            ("shares", "Shares"),
-            ("listing", "File"),
-            ("listing", "Listing"),
-        ];
+        let own = [("text", "Text"), ("listing", "File"), ("listing", "Listing")];
         over(split(), &own)
     }
 

@@ -30,6 +30,7 @@ mod archive {
     use super::{HandedFrame, Item, ToldBounds, ToldCorners};
     use super::{Bounds, Counts, Place, Places, Row, Told, ToldLength, ToldPairs, ToldPart};
     use super::{ToldEdge, ToldNext, ToldPair, ToldPlace, ToldPlacement, ToldPoint, ToldStep};
+    use crate::listing::TEXT;
 
     extern "C" {
         pub fn bezinkwolu_cross_product(
@@ -195,7 +196,7 @@ mod archive {
         pub fn bezinkwolu_listing(
             bytes: *const u8,
             bytes_length: usize,
-            out: *mut u8,
+            out: *mut [u8; TEXT],
         ) -> usize;
         pub fn bezinkwolu_difference_parts(
             left_starts: *const u32,
@@ -565,5 +566,5 @@ pub fn import_path(path: Handed<Item>, frame: HandedFrame, corners: Handed<i32>)
 // Safe: the lent text is as long as the function's array.
 fn listing(bytes: Handed<u8>, out: Handed<u8>) -> usize {
     assert_eq!(out.length, TEXT);
-    unsafe { archive::bezinkwolu_listing(bytes.at, bytes.length, out.at) }
+    unsafe { archive::bezinkwolu_listing(bytes.at, bytes.length, out.at.cast()) }
 }

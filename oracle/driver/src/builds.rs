@@ -2,7 +2,6 @@
 //! `BENCH_BEFORE` names its archive (oracle/peers/archive).
 
 use crate::lent::Handed;
-use crate::listing::TEXT;
 use crate::mesh::Row;
 use crate::pairs::{Bounds, HandedOperand, ToldPairs};
 use crate::placement::ToldPlacement;
@@ -17,7 +16,6 @@ pub struct Build {
     split: Split,
     sums: Sums,
     place: Place,
-    list: List,
 }
 
 type Join = unsafe extern "C" fn(*const Row, usize, *mut u32, usize, *mut i32, usize) -> Counts;
@@ -44,11 +42,9 @@ type Sums = unsafe extern "C" fn(
 
 type Place = unsafe extern "C" fn(*const u32, usize, *const i32, usize, i32, i32) -> ToldPlacement;
 
-type List = unsafe extern "C" fn(*const u8, usize, *mut u8) -> usize;
-
-/// A build by the names of its five functions.
+/// A build by the names of its four functions.
 macro_rules! build {
-    ($join:literal, $split:literal, $sums:literal, $place:literal, $list:literal) => {{
+    ($join:literal, $split:literal, $sums:literal, $place:literal) => {{
         extern "C" {
             #[link_name = $join]
             fn join(
@@ -96,15 +92,12 @@ macro_rules! build {
                 x: i32,
                 y: i32,
             ) -> ToldPlacement;
-            #[link_name = $list]
-            fn list(b: *const u8, n: usize, t: *mut u8) -> usize;
         }
         Build {
             join,
             split,
             sums,
             place,
-            list,
         }
     }};
 }
@@ -114,8 +107,7 @@ pub fn this() -> Build {
         "bezinkwolu_to_convex_polygons",
         "bezinkwolu_to_convex_polygons_with_max_vertices",
         "bezinkwolu_sum_parts",
-        "bezinkwolu_placement",
-        "bezinkwolu_listing"
+        "bezinkwolu_placement"
     )
 }
 
@@ -126,14 +118,13 @@ pub fn earlier() -> Option<Build> {
         "before_bezinkwolu_to_convex_polygons",
         "before_bezinkwolu_to_convex_polygons_with_max_vertices",
         "before_bezinkwolu_sum_parts",
-        "before_bezinkwolu_placement",
-        "before_bezinkwolu_listing"
+        "before_bezinkwolu_placement"
     ));
     #[cfg(not(before))]
     None
 }
 
-// Safe, all five: a function reads and writes no more than what is handed to it.
+// Safe, all four: a function reads and writes no more than what is handed to it.
 impl Build {
     pub fn to_convex_polygons(
         &self,
@@ -203,9 +194,5 @@ impl Build {
     pub fn placement(&self, table: HandedTable, (x, y): Point) -> ToldPlacement {
         let HandedTable { starts, corners } = table;
         unsafe { (self.place)(starts.at, starts.length, corners.at, corners.length, x, y) }
-    }
-
-    pub fn listing(&self, bytes: &[u8], text: &mut [u8; TEXT]) -> usize {
-        unsafe { (self.list)(bytes.as_ptr(), bytes.len(), text.as_mut_ptr()) }
     }
 }

@@ -1,10 +1,10 @@
 //! The entry point of the area program: the bytes of a mesh file, to the text that is
-//! printed for them, on the front of lent text. Refusals and shares are the judge's, parts
-//! the Rust's (`cli`'s answers, as the oracle's own `areas` prints them).
+//! printed for them, on the front of lent text. Refusals are the judge's, parts the
+//! Rust's (`cli`'s answers, as the oracle's own `areas` prints them).
 
 use crate::entry::EntryPoint;
 use crate::lent::{Handed, Lent};
-use crate::mesh::{self, any, SHARE};
+use crate::mesh::{any, SHARE};
 use cli::answers::parts_of_file;
 use inputs::mesh_damage::damaged;
 use inputs::meshes::{self, Mesh};
@@ -57,7 +57,7 @@ impl Printed {
     }
 }
 
-/// What documents 01 and 02 and the Rust print for a file.
+/// What document 01 and the Rust print for a file.
 pub fn printed(bytes: &[u8]) -> Printed {
     Printed::whole(match file::decode(bytes).and_then(|f| parts_of_file(&f)) {
         Ok(parts) => listing(&parts),
@@ -199,35 +199,16 @@ fn any_file(rng: &mut Rng) -> Vec<u8> {
     }
 }
 
-/// All of the above.
-fn fixed() -> impl Iterator<Item = Vec<u8>> {
-    let misshapen = every_length().chain(wrong_headers());
-    misshapen.chain(limits()).chain(contours_listed())
-}
-
 /// All of the above, and so many random ones.
 pub(crate) fn files(rng: &mut Rng, count: u64) -> Box<dyn Iterator<Item = Vec<u8>> + '_> {
     let random = (0..count).map(move |_| any_file(rng));
-    Box::new(fixed().chain(random))
+    let fixed = every_length().chain(wrong_headers());
+    let fixed = fixed.chain(limits()).chain(contours_listed());
+    Box::new(fixed.chain(random))
 }
 
-/// For so many random files there is one more by which shares are tried.
-const SHARED: u64 = 4;
-
-/// The same, and files by which shares are tried.
-fn listed(rng: &mut Rng, count: u64) -> Box<dyn Iterator<Item = Vec<u8>> + '_> {
-    let random = (0..count + count / SHARED).map(move |k| match k % (SHARED + 1) {
-        SHARED => inputs::shares::any_file(rng),
-        _ => any_file(rng),
-    });
-    Box::new(fixed().chain(inputs::shares::fixed()).chain(random))
-}
-
-/// How many triangles a mesh has at the most where more is tried than to leave some out.
-const FEW: usize = 64;
-
-/// Shorter files, a good one also with fewer records and its header to match, or with simpler
-/// triangles; then words that are 0.
+/// Shorter files, a good one also with a record fewer and its header to match; then words
+/// that are 0.
 pub(crate) fn simpler_file(bytes: &[u8]) -> Vec<Vec<u8>> {
     let mut out: Vec<Vec<u8>> = Vec::new();
     if let Ok(file) = file::decode(bytes) {
@@ -235,9 +216,6 @@ pub(crate) fn simpler_file(bytes: &[u8]) -> Vec<Vec<u8>> {
         let halves = [file.mesh.len() / 2, file.mesh.len().saturating_sub(1)];
         let halves = halves.into_iter().filter(|&k| k < file.mesh.len());
         out.extend(halves.map(|k| fewer(meshes::apart(k))));
-        if file.mesh.len() <= FEW {
-            out.extend(mesh::simpler(&file.mesh).into_iter().map(fewer));
-        }
     }
     out.extend(simpler_bytes(bytes));
     out
@@ -279,7 +257,7 @@ where
     }
 
     fn inputs<'a>(&self, rng: &'a mut Rng, count: u64) -> Box<dyn Iterator<Item = Vec<u8>> + 'a> {
-        listed(rng, count / SHARE / 10)
+        files(rng, count / SHARE / 10)
     }
 
     fn rattle(&self, bytes: &Vec<u8>) -> Printed {
@@ -309,13 +287,13 @@ mod tests {
     use super::*;
     use crate::entry::{run, Report};
     use crate::lent::overruns::{self, plant, seen};
-    use inputs::share_slips::{Shares, INEXACT, SLIPS};
-    use judge::listing::{area_two, listing_by, shares};
 
     const COUNT: u64 = 100_000;
 
+    type WritesListing = fn(&[u8], &mut [u8]) -> usize;
+
     /// A function on slices as the entry point asks it. Safe: the memory is lent.
-    fn asked(f: impl Fn(&[u8], &mut [u8]) -> usize) -> impl Fn(Handed<u8>, Handed<u8>) -> usize {
+    fn asked(f: WritesListing) -> impl Fn(Handed<u8>, Handed<u8>) -> usize {
         move |bytes, out| unsafe { f(bytes.slice(), out.slice()) }
     }
 
@@ -355,7 +333,7 @@ mod tests {
         }
     }
 
-    fn caught(wrong: impl Fn(&[u8], &mut [u8]) -> usize) -> String {
+    fn caught(wrong: WritesListing) -> String {
         let report: Report = run(&listing_beside(asked(wrong)), 1, COUNT);
         assert!(report.differ > 0 && !report.passed());
         report.smallest.expect("a difference is shown")
@@ -396,81 +374,12 @@ mod tests {
         assert!(small.starts_with("0 bytes"), "{small}");
     }
 
-    /// The whole listing, right but for its shares.
-    fn by(shares: Shares) -> impl Fn(&[u8], &mut [u8]) -> usize {
-        move |bytes, out| match file::decode(bytes).and_then(|f| parts_of_file(&f)) {
-            Ok(parts) => put(&listing_by(&parts, shares), out),
-            Err(fault) => put(&refusal(fault), out),
-        }
-    }
-
     #[test]
-    fn wrong_shares_are_caught() {
-        let small = caught(by(|areas| {
-            let total: i128 = areas.iter().sum();
-            areas.iter().map(|area| area * 10_000 / total).collect()
-        }));
-        assert!(small.contains("parts 2 corners 6"), "{small}");
-        let (_, higher_first) = SLIPS[0];
-        let small = caught(by(higher_first));
-        assert!(small.contains("3334"), "{small}");
-    }
-
-    fn areas_of(bytes: &[u8]) -> Option<Vec<i128>> {
-        let parts = file::decode(bytes).and_then(|f| parts_of_file(&f)).ok()?;
-        Some(parts.iter().map(area_two).collect())
-    }
-
-    /// It prints how many of the fixed inputs and of the random ones find each.
-    #[test]
-    fn every_slip_of_shares_is_found() {
-        let mut rng = Rng::new(1);
-        let all: Vec<Vec<u8>> = listed(&mut rng, COUNT / SHARE / 10).collect();
-        let first = all.len() - (COUNT / SHARE / 8) as usize;
-        let lists = [&all[..first], &all[first..]].map(|files| -> Vec<_> {
-            let areas = files.iter().filter_map(|bytes| areas_of(bytes));
-            areas.map(|areas| (shares(&areas), areas)).collect()
+    fn a_share_rounded_up_is_caught() {
+        let small = caught(|bytes, out| {
+            let text = printed(bytes).front.replace(" 3333 ", " 3334 ");
+            put(&text, out)
         });
-        for (name, slip) in SLIPS.into_iter().chain(INEXACT) {
-            let finds = |(right, areas): &&(Vec<i128>, Vec<i128>)| slip(areas) != *right;
-            let found = lists
-                .each_ref()
-                .map(|lists| lists.iter().filter(finds).count());
-            println!("{name}: {found:?} of {:?}", lists.each_ref().map(Vec::len));
-            assert!(found[0] >= 5, "{name}: {found:?}");
-        }
-    }
-
-    /// Of the fixed files: as many parts as there may be, and as many left over.
-    #[test]
-    fn shares_are_tried_at_their_limits() {
-        let fixed = inputs::shares::fixed();
-        let lists = fixed.map(|bytes| areas_of(&bytes).expect("accepted"));
-        let all: Vec<Vec<i128>> = lists.map(|areas| shares(&areas)).collect();
-        assert!(all
-            .iter()
-            .all(|shares| shares.iter().sum::<i128>() == 10_000));
-        let has = |parts: usize| all.iter().any(|shares| shares.len() == parts);
-        assert!([1, 1_023, 1_024, 1_025, 2_044, 2_045, 2_046, 2_048]
-            .into_iter()
-            .all(has));
-        let equal = [vec![5; 1_808], vec![4; 240]].concat();
-        assert!(all.contains(&equal));
-        let most = [vec![10; 785], vec![9; 238], vec![8; 1]].concat();
-        assert!(all.contains(&most));
-        let quartered = [vec![5; 1_812], vec![4; 232], vec![3; 4]].concat();
-        assert!(all.contains(&quartered));
-    }
-
-    /// What the program areas is tried with: two are left over.
-    #[test]
-    fn stored_listings_are_the_judges() {
-        let stored = include_str!("../../../crates/areas/stdout");
-        let file = include_bytes!("../../../crates/areas/stdin");
-        assert_eq!(printed(file).front, stored);
-        let areas = areas_of(file).expect("accepted");
-        let total: i128 = areas.iter().sum();
-        let down: i128 = areas.iter().map(|area| area * 10_000 / total).sum();
-        assert_eq!(down, 9_998);
+        assert!(small.contains("3333"), "{small}");
     }
 }

@@ -14,8 +14,6 @@
 //! - `placements`: what is asked of `placement`, of contours and of two meshes
 //! - `measures`: what is asked of the calls that measure
 //! - `paths`: what is asked of `import_path`: paths, frames and room, good and damaged
-//! - `shares`: areas by which the shares of a listing are tried, and files of them;
-//!   `share_slips`: shares that are wrong in one way each, which those have to find
 //! - `stored`: stored tables and mesh files, good and damaged
 //! - `two_files`: two mesh files one behind the other; `shards`: part numbers and a pair
 //!   job, for the programs that read them
@@ -38,8 +36,6 @@ pub mod plane;
 pub mod rng;
 pub mod rooms;
 pub mod shards;
-pub mod share_slips;
-pub mod shares;
 pub mod stored;
 pub mod table_calls;
 pub mod tables;

@@ -1,7 +1,7 @@
 //! The judge of faults, written from document 01 alone: independent of the
 //! Rattle crates (`specs/`, `src/`) and of the given Rust, which has no refusal
-//! but 10; of paths and of shares, from document 02. Sums and products that could leave
-//! 64 bits are formed in 128.
+//! but 10; of paths, from document 02. Sums and products that could leave 64 bits
+//! are formed in 128.
 //!
 //! Every judging function answers the number of the first fault in document
 //! 01's order, or 0. Each kind is tried over the whole input before the next.
@@ -23,7 +23,7 @@
 //! - `triangles`: whether two triangles meet, and whether they overlap
 //! - `room`: 22 and 21, once the answer's size is known
 //! - `round`: once round a convex area above zero; strictly convex
-//! - `listing`: the text of the area program, and the shares of parts (document 02)
+//! - `listing`: the text of the area program
 //! - `two_files`: two mesh files one behind the other, the left's numbers and then the
 //!   right's; the bounds of a mesh
 //! - `shard`: the pair job of some of the left parts, 13 and 7

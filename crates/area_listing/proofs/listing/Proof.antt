@@ -44,7 +44,7 @@ put-listing-requires c κs =
     let e = c.before.before.before.before.before.before.before.before.split-file.ensures in
     let z = c.before.before.before.before.before.before.if1.false in
     let f = c.before.front.ensures in
-    record { listable = parts_listable b _ _ e z f; room = omega (arith, listed_room b _ _ e z f) }
+    (parts_listable b _ _ e z f, omega (arith, listed_room b _ _ e z f))
 
 returns-2 : tie.Need-returns-2
 returns-2 c = answered (put_as (parts_listed c.before.before.before.before.before.before.before.before.before.before.before.before.before.args.bytes.now _ _ c.before.before.before.before.before.before.before.before.before.split-file.ensures c.before.before.before.before.before.before.before.if1.false c.before.before.front.ensures) c.put-listing.ensures)

@@ -1,4 +1,5 @@
 -- `listing_lines::put_part` meets its contract: six pieces, one after another. Assumes nothing.
+use native.Mathlib.Omega.{arith}
 use borrow.Author.Rules.{rules}
 use Rattle.listing_lines.proofs.Putting.{putting_room, putting_step, putting_end}
 use Rattle.listing_lines.proofs.Lines.{part_start}
@@ -11,10 +12,13 @@ corner-count-requires c κs = search rules
 part-area-requires : tie.Need-part-area-requires
 part-area-requires c κs = c.before.before.requires.measurable
 
+share-requires : tie.Need-share-requires
+share-requires c κs = let s = c.before.before.before in (omega (arith, c.part-area.ensures, s.requires.within), omega (arith, s.requires.some))
+
 put-decimal-requires : tie.Need-put-decimal-requires
 put-decimal-requires c κs =
-    let s = c.before.before.before in
-    putting_room (part_start s.before.requires c.before.before.corner-count.ensures c.before.part-area.ensures)
+    let s = c.before.before.before.before in
+    putting_room (part_start s.before.requires c.before.before.before.corner-count.ensures c.before.before.part-area.ensures c.before.share.ensures)
 
 slice-aggregate-put-word-decimal : tie.Need-slice-aggregate-put-word-decimal
 slice-aggregate-put-word-decimal c = search rules
@@ -23,7 +27,7 @@ put-word-decimal-requires : tie.Need-put-word-decimal-requires
 put-word-decimal-requires c κs =
     let a = c.before.before.before.before in
     let z = a.before.before in
-    putting_room (putting_step (part_start z.before.before.before.requires z.before.corner-count.ensures z.part-area.ensures) a.put-decimal.ensures)
+    putting_room (putting_step (part_start z.before.before.before.before.requires z.before.before.corner-count.ensures z.before.part-area.ensures z.share.ensures) a.put-decimal.ensures)
 
 slice-aggregate-put-word-decimal-2 : tie.Need-slice-aggregate-put-word-decimal-2
 slice-aggregate-put-word-decimal-2 c = search rules
@@ -34,7 +38,7 @@ put-word-decimal-requires-2 c κs =
     let a = b.before.before.before.before.before in
     let z = a.before.before in
     putting_room
-    (putting_step (putting_step (part_start z.before.before.before.requires z.before.corner-count.ensures z.part-area.ensures) a.put-decimal.ensures) b.put-word-decimal.ensures)
+    (putting_step (putting_step (part_start z.before.before.before.before.requires z.before.before.corner-count.ensures z.before.part-area.ensures z.share.ensures) a.put-decimal.ensures) b.put-word-decimal.ensures)
 
 slice-aggregate-put-word-decimal-3 : tie.Need-slice-aggregate-put-word-decimal-3
 slice-aggregate-put-word-decimal-3 c = search rules
@@ -47,7 +51,7 @@ put-word-decimal-requires-3 c κs =
     let z = a.before.before in
     putting_room
     (putting_step
-    (putting_step (putting_step (part_start z.before.before.before.requires z.before.corner-count.ensures z.part-area.ensures) a.put-decimal.ensures) b.put-word-decimal.ensures)
+    (putting_step (putting_step (part_start z.before.before.before.before.requires z.before.before.corner-count.ensures z.before.part-area.ensures z.share.ensures) a.put-decimal.ensures) b.put-word-decimal.ensures)
     d.put-word-decimal2.ensures)
 
 put-corners-requires : tie.Need-put-corners-requires
@@ -60,7 +64,7 @@ put-corners-requires c κs =
     putting_room
     (putting_step
     (putting_step
-    (putting_step (putting_step (part_start z.before.before.before.requires z.before.corner-count.ensures z.part-area.ensures) a.put-decimal.ensures) b.put-word-decimal.ensures)
+    (putting_step (putting_step (part_start z.before.before.before.before.requires z.before.before.corner-count.ensures z.before.part-area.ensures z.share.ensures) a.put-decimal.ensures) b.put-word-decimal.ensures)
     d.put-word-decimal2.ensures)
     e.put-word-decimal3.ensures)
 
@@ -79,7 +83,7 @@ put-bytes-requires c κs =
     (putting_step
     (putting_step
     (putting_step
-    (putting_step (putting_step (part_start z.before.before.before.requires z.before.corner-count.ensures z.part-area.ensures) a.put-decimal.ensures) b.put-word-decimal.ensures)
+    (putting_step (putting_step (part_start z.before.before.before.before.requires z.before.before.corner-count.ensures z.before.part-area.ensures z.share.ensures) a.put-decimal.ensures) b.put-word-decimal.ensures)
     d.put-word-decimal2.ensures)
     e.put-word-decimal3.ensures)
     f.put-corners.ensures)
@@ -101,7 +105,7 @@ returns c =
     (putting_step
     (putting_step
     (putting_step
-    (putting_step (putting_step (part_start z.before.before.before.requires z.before.corner-count.ensures z.part-area.ensures) a.put-decimal.ensures) b.put-word-decimal.ensures)
+    (putting_step (putting_step (part_start z.before.before.before.before.requires z.before.before.corner-count.ensures z.before.part-area.ensures z.share.ensures) a.put-decimal.ensures) b.put-word-decimal.ensures)
     d.put-word-decimal2.ensures)
     e.put-word-decimal3.ensures)
     f.put-corners.ensures)
@@ -113,6 +117,7 @@ put_part_spec =
     (tie.spec
     corner-count-requires
     part-area-requires
+    share-requires
     put-decimal-requires
     slice-aggregate-put-word-decimal
     put-word-decimal-requires

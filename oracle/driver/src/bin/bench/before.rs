@@ -1,14 +1,12 @@
 //! This build's calls beside an earlier build's, on the same inputs: joining, splitting, all
-//! pairs, a place by contours and listings. A row is timed some times over, so that one sees how
-//! far its runs differ; with this very build as the earlier one, what its place in memory does.
+//! pairs and a place by contours. A row is timed some times over, so that one sees how far its
+//! runs differ; with this very build as the earlier one, what its place in memory does.
 
-use crate::listings;
 use crate::meshes::{self, Kind};
 use crate::pairs::{self, Size, Subject};
 use crate::placement;
 use crate::timing::{median, timed};
 use driver::builds::{self, Build};
-use driver::listing::TEXT;
 use driver::mesh::{rows, Row};
 use driver::table::HandedTable;
 use inputs::rng::Rng;
@@ -21,21 +19,21 @@ const RUNS: usize = 5;
 /// About how many corners or triangles are asked of between two looks at the clock.
 const WORK: usize = 4_096;
 
-/// All of them but listings.
 pub fn builds(rounds: usize) {
-    let Some(beside) = Beside::told(rounds) else {
+    let Some(earlier) = builds::earlier() else {
+        println!("before: BENCH_BEFORE names no earlier build");
         return;
+    };
+    println!("this build's time over the earlier one's: the least, the middle and the greatest");
+    println!("of {RUNS} runs");
+    let beside = Beside {
+        builds: [builds::this(), earlier],
+        rounds: (rounds / RUNS).max(51),
     };
     beside.joining();
     beside.splits();
     beside.pairs();
     beside.placements();
-}
-
-pub fn listings(rounds: usize) {
-    if let Some(beside) = Beside::told(rounds) {
-        beside.listings();
-    }
 }
 
 struct Beside {
@@ -44,22 +42,6 @@ struct Beside {
 }
 
 impl Beside {
-    /// The two builds, where an earlier one is linked.
-    fn told(rounds: usize) -> Option<Self> {
-        let Some(earlier) = builds::earlier() else {
-            println!("before: BENCH_BEFORE names no earlier build");
-            return None;
-        };
-        println!(
-            "this build's time over the earlier one's: the least, the middle and the greatest"
-        );
-        println!("of {RUNS} runs");
-        Some(Self {
-            builds: [builds::this(), earlier],
-            rounds: (rounds / RUNS).max(51),
-        })
-    }
-
     /// Prints a row: so many calls between two looks at the clock. The two builds go first by
     /// turns, for what comes second finds the lent memory near.
     fn row(&self, name: &str, calls: usize, mut call: impl FnMut(&Build, usize) -> u32) {
@@ -171,17 +153,6 @@ impl Beside {
                     });
                 }
             }
-        }
-    }
-
-    fn listings(&self) {
-        let mut text = Box::new([0; TEXT]);
-        for (name, files) in listings::files() {
-            let calls = (WORK / files[0].len().div_ceil(36)).clamp(1, files.len());
-            self.row(&name, calls, |build, k| {
-                let bytes = black_box(&files[k % files.len()][..]);
-                build.listing(bytes, black_box(&mut text)) as u32
-            });
         }
     }
 }

@@ -1,11 +1,10 @@
-//! `bench [ROUNDS [TOPIC]]`, the topic one of those below: times our calls, the Rust's and, of all
-//! pairs, of a place by contours and of paths, C++ ones from this one program on the same inputs,
-//! in turn, and prints our time over theirs; `before` and `listing`, over an earlier build's.
-//! docs/BENCHMARKS.md says what they show.
+//! `bench [ROUNDS [joining|structs|splits|pairs|placement|paths|crate|contours|before]]`: times our
+//! calls, the Rust's and, of all pairs, of a place by contours and of paths, C++ ones from this one
+//! program on the same inputs, in turn, and prints our time over theirs; `before`, over an earlier
+//! build's. docs/BENCHMARKS.md says what they show.
 
 mod before;
 mod bindings;
-mod listings;
 mod meshes;
 mod pairs;
 mod paths;
@@ -25,7 +24,7 @@ fn main() {
     let rounds = words.first().and_then(|word| word.parse().ok());
     let rounds = rounds.unwrap_or(ROUNDS);
     let only = words.get(1).map(String::as_str);
-    let topics: [(&str, fn(usize)); 10] = [
+    let topics: [(&str, fn(usize)); 9] = [
         ("joining", meshes::joining),
         ("structs", meshes::structs),
         ("splits", meshes::splits),
@@ -35,7 +34,6 @@ fn main() {
         ("crate", bindings::crate_calls),
         ("contours", programs::programs),
         ("before", before::builds),
-        ("listing", before::listings),
     ];
     for (name, topic) in topics {
         if only.is_none() || only == Some(name) {
