@@ -196,8 +196,19 @@ def clashes(turn, fields):
                 yield path, new, olds
 
 
+def of_libraries(text, crates):
+    """The names that a file takes from a library of the kit, which keep their spelling."""
+    names = set()
+    for m in re.finditer(r"use (\S+?)\.\{([^}]*)\}", text):
+        path = m.group(1).split(".")
+        if path[0] != "Rattle" or path[1] not in crates:
+            names.update(w.strip().split(" as ")[0] for w in m.group(2).split(","))
+    return names
+
+
 def main(argv):
     check = "--check" in argv
+    crates = set(os.listdir("crates"))
     # a lemma that would have its function's name
     lemmas = {}
     turn, fields = table(lemmas)
@@ -219,7 +230,8 @@ def main(argv):
             text = text.replace(old, moved)
         if path == "crates/walk/specs/Lib.antt":
             text = text.replace("mod Contracts\n", "mod Clauses\n")
-        own = {**turn, **OWN_IN.get(path, {})}
+        kept = of_libraries(text, crates)
+        own = {k: v for k, v in {**turn, **OWN_IN.get(path, {})}.items() if k not in kept}
         new = turn_antt(text, own, fields) if path.endswith(".antt") else turn_rt(text, own, fields)
         if new != read(path) and not check:
             with open(path, "w", encoding="utf-8") as f:

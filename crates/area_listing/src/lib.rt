@@ -3,6 +3,8 @@
 // front is `areas_of` of the bytes (listing/specs/Listing.antt), places past it are kept, and the
 // answer is how many there are. That nothing longer can come is listing_fits' law, and that more
 // input changes nothing is specs/MoreInput.antt. Leans on file_parts, listing_lines and text.
+#![tactic(auto)]
+
 ghost use Rattle.std.specs.Prelude.{◌≡◌, length};
 ghost use Rattle.io.specs.Counts.{IsPrefixLen};
 ghost use Rattle.integers.specs.Lists.{overlay};

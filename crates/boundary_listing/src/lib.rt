@@ -1,6 +1,8 @@
 // The area listing, exported to C for the package (./package) and the runs beside the Rust
 // (oracle/beside): area_listing's `listing`, with the same contract and no `requires`. Leans on
 // area_listing.
+#![tactic(auto)]
+
 ghost use Rattle.std.specs.Prelude.{◌≡◌, length};
 ghost use Rattle.integers.specs.Lists.{overlay};
 ghost use Rattle.listing.specs.Listing.{areas_of};

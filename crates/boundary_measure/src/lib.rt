@@ -1,6 +1,8 @@
 // Doubled areas and bounds, exported to C for the package (./package) and the runs beside the judge
 // (oracle/beside): one thin function over each call, with no `requires`. The answers are the
 // calls', measure/specs/Measured.antt, as they are. Leans on measure.
+#![tactic(auto)]
+
 ghost use Rattle.std.specs.Prelude.{◌≡◌};
 ghost use Rattle.measure.specs.Measured.{contour_measured, part_measured, table_measured, bounds_told};
 

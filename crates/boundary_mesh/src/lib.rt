@@ -2,6 +2,8 @@
 // the same contract. The package (./package) and the runs beside the Rust (oracle/beside) link
 // these same functions. A mesh is lent as rows of nine numbers. Leans on convex_join and
 // mesh_faults.
+#![tactic(auto)]
+
 ghost use Rattle.std.specs.Prelude.{◌≡◌};
 ghost use Rattle.integers.specs.Faults.{first_fault};
 ghost use Rattle.mesh.specs.Mesh.{mesh_kinds};

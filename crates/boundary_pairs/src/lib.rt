@@ -3,6 +3,8 @@
 // and a length, bounds by value. The answer and both lent buffers as the call returns equal the
 // definitions of minkowski/specs/Pairs.antt; bounds and answer are laid out for C
 // (specs/Told.antt). Leans on minkowski_parts.
+#![tactic(auto)]
+
 ghost use Rattle.std.specs.Prelude.{◌≡◌, false, true};
 ghost use Rattle.minkowski.specs.Pairs.{pairs_counts, pairs_starts, pairs_corners};
 ghost use Rattle.boundary_pairs.specs.Told.{rect_of, lent, told_counts};
@@ -12,7 +14,7 @@ use table::IntRect;
 
 // table::IntRect for C.
 #[repr(C)]
-#[derive(Drop)]
+#[derive(Clone, Copy)]
 pub struct Bounds {
     pub min_x: i32,
     pub max_x: i32,
@@ -22,7 +24,7 @@ pub struct Bounds {
 
 // minkowski::PairCounts for C.
 #[repr(C)]
-#[derive(Drop)]
+#[derive(Clone, Copy)]
 pub struct ToldPairs {
     pub fault: u32,
     pub contours: u32,

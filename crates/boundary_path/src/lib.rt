@@ -4,6 +4,8 @@
 // path's definitions of those items, as path_import's is. Rows are judged and written without
 // making their items, and without a jump for each kind, which took twice as long and more. Leans on
 // path.
+#![tactic(auto)]
+
 ghost use Rattle.std.specs.Prelude.{◌≡◌, cond, ◌+◌, ◌<◌, T, eqb, length, take, get_or};
 ghost use Rattle.std.specs.Float.{binary64};
 ghost use Rattle.std.specs.Float.Ieee.{of_bits};

@@ -1,6 +1,8 @@
 // Where a place lies by the contours of a pair result, exported to C for the package (./package)
 // and the runs beside the judge (oracle/beside): one thin function, with no `requires`, whose
 // answer is the call's, laid out for C (specs/Told.antt). Leans on placement.
+#![tactic(auto)]
+
 ghost use Rattle.std.specs.Prelude.{◌≡◌};
 ghost use Rattle.placement.specs.Placement.{contact_number, placed_of};
 ghost use Rattle.boundary_place.specs.Told.{told_placed};
@@ -9,7 +11,7 @@ use placement::{Contact, Placed};
 
 // The fault number, 0 for none, and 0 apart, 1 touching, 2 overlapping; 0 where there is a fault.
 #[repr(C)]
-#[derive(Drop)]
+#[derive(Clone, Copy)]
 pub struct ToldPlacement {
     pub fault: u32,
     pub placement: u32,

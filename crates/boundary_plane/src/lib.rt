@@ -2,6 +2,8 @@
 // one thin function over each function that is compared, on plain numbers, with no `requires`. A
 // coordinate not strictly between -2^30 and 2^30 is refused with 2, as document 01 numbers it, and
 // the value 0. Leans on plane.
+#![tactic(auto)]
+
 ghost use Rattle.std.specs.Prelude.{◌≡◌, [], ◌∷◌};
 ghost use Rattle.plane.specs.Machine.{point};
 ghost use Rattle.boundary_plane.specs.Told.{all_on, order_number, told_cross, told_area, told_angle};
@@ -10,7 +12,7 @@ use plane::{IntPoint, Ordering};
 
 // The fault number, 0 for none, and the value, 0 where there is a fault.
 #[repr(C)]
-#[derive(Drop)]
+#[derive(Clone, Copy)]
 pub struct Told {
     pub fault: u32,
     pub value: i64,

@@ -3,6 +3,8 @@
 // document 01's file has for it and refuses any other number with 13. Its answer and both lent
 // buffers as it returns are those of `NumberedAnswered` of specs/Told.antt. Leans on split_parts
 // and, for the numbers, on listing.
+#![tactic(auto)]
+
 ghost use Rattle.mesh.specs.Rows.{rows_mesh};
 ghost use Rattle.boundary_split.specs.Told.{NumberedAnswered};
 

@@ -5,6 +5,8 @@
 // they are; what writing and showing answer is laid out for C (specs/Told.antt), and as an exported
 // function returns no slice, the part shown is told by its place in the lent corners. Leans on
 // table_read, table_write and table_shown.
+#![tactic(auto)]
+
 ghost use Rattle.std.specs.Prelude.{◌≡◌, false, cond, ◌+◌, ◌*◌, ◌<◌, get_or};
 ghost use Rattle.std.proofs.Math.Seq.{slice};
 ghost use Rattle.table.specs.Table.{table_broken, part_count};
@@ -17,7 +19,7 @@ use table::Counts;
 
 // A fault number, 0 for none, and how many bytes were written.
 #[repr(C)]
-#[derive(Drop)]
+#[derive(Clone, Copy)]
 pub struct ToldLength {
     pub fault: u32,
     pub length: usize,
@@ -26,7 +28,7 @@ pub struct ToldLength {
 // A fault number, 0 for none, and the part shown: where its numbers begin in the lent corners, and
 // how many they are.
 #[repr(C)]
-#[derive(Drop)]
+#[derive(Clone, Copy)]
 pub struct ToldPart {
     pub fault: u32,
     pub offset: usize,

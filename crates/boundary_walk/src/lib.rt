@@ -2,6 +2,8 @@
 // (oracle/beside): one thin function over each, with no `requires`. A contour passes as a pointer
 // and a length, places by value; the answer is the call's, laid out for C (specs/Told.antt). Leans
 // on walk_begin, walk_step, walk_pair and walk_next.
+#![tactic(auto)]
+
 ghost use Rattle.std.specs.Prelude.{◌≡◌, true, false};
 ghost use Rattle.walk.specs.Calls.{begun_of, pointed_of, edged_of, advanced_of, stepped_of, paired_of, pair_stepped_of};
 ghost use Rattle.boundary_walk.specs.Told.{nowhere, told_begun, told_pointed, told_edged, told_advanced, told_stepped, told_paired, told_next};
@@ -11,14 +13,14 @@ use walk::{Advanced, Begun, Edged, Next, Paired, Pointed, Stepped};
 
 // Each has the fault number, 0 for none, and the values, 0 where there are none.
 #[repr(C)]
-#[derive(Drop)]
+#[derive(Clone, Copy)]
 pub struct ToldPlace {
     pub fault: u32,
     pub place: Place,
 }
 
 #[repr(C)]
-#[derive(Drop)]
+#[derive(Clone, Copy)]
 pub struct ToldPoint {
     pub fault: u32,
     pub x: i32,
@@ -26,7 +28,7 @@ pub struct ToldPoint {
 }
 
 #[repr(C)]
-#[derive(Drop)]
+#[derive(Clone, Copy)]
 pub struct ToldEdge {
     pub fault: u32,
     pub x: i64,
@@ -34,7 +36,7 @@ pub struct ToldEdge {
 }
 
 #[repr(C)]
-#[derive(Drop)]
+#[derive(Clone, Copy)]
 pub struct ToldStep {
     pub fault: u32,
     pub x: i64,
@@ -43,7 +45,7 @@ pub struct ToldStep {
 }
 
 #[repr(C)]
-#[derive(Drop)]
+#[derive(Clone, Copy)]
 pub struct ToldPair {
     pub fault: u32,
     pub places: ConvexSum,
@@ -51,7 +53,7 @@ pub struct ToldPair {
 
 // `corners` is 1 where a corner is handed out, 0 at the end.
 #[repr(C)]
-#[derive(Drop)]
+#[derive(Clone, Copy)]
 pub struct ToldNext {
     pub fault: u32,
     pub corners: u32,

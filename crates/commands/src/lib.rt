@@ -1,8 +1,11 @@
 // What the programs that write bytes share: an argument read as a number, and what is told on
 // standard error in place of an answer. It has no contracts, as nothing can be said of arguments or
 // of what is written: proved is that it is safe and ends. What a number is, is field_numbers'; a
-// refusal's text is text's. Leans on os, io, field_numbers and text.
+// refusal's text is text's. Leans on std's `Env`, io, field_numbers and text.
+#![tactic(auto)]
+
 use field_numbers::Reading;
+use std::rt::Env;
 
 // The bytes of an argument that is read, and of a refusal: more than those of the greatest number
 // of 32 bits.
@@ -15,10 +18,12 @@ const LAST_WORD: u32 = 4294967295;
 const STANDARD_ERROR: i32 = 2;
 
 // Argument i as a number of 32 bits; one that is missing or longer than the place for it is none.
-pub fn number_argument(i: usize) -> Reading {
+pub fn number_argument(rt: &impl Env, i: usize) -> Reading {
     let mut digits = [0u8; ARGUMENT];
-    let n = os::arg(i, &mut digits);
-    field_numbers::number(&digits[..n], LAST_WORD)
+    match rt.arg(i, &mut digits) {
+        Ok(n) => field_numbers::number(&digits[..n], LAST_WORD),
+        Err(_) => field_numbers::no_number(),
+    }
 }
 
 // Tells a refusal by its number.

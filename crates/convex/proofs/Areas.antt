@@ -3,7 +3,7 @@
 -- Not here: the parts, whose corners of turn 0 are dropped (`Parts`). Assumes an accepted mesh
 -- where it says so.
 use mathlib.Core.Path.{◌≡◌, sym, ◌∙◌, ap, ap₂}
-use mathlib.Core.List.{List, [], ◌∷◌, ◌++◌, map, map-map, map_append}
+use mathlib.Core.List.{List, [], ◌∷◌, ◌++◌, map, map-map, map-append}
 use Prim.Native.Nat.{ℕ, ◌<◌}
 use native.Mathlib.Nat.{le_refl}
 use lib.ListN.{length}
@@ -35,7 +35,7 @@ module _ (m : Mesh) (ok : Accepted m) where
     where
       join : (t : List ℕ) (j : ℕ) (x p b b0 : Pt) (l : List Pt) → Joint m j (last_of b0 l) x p b b0 → contour_area (x ∷ b ∷ b0 ∷ l) ≡ sumℤ (map area_at t)
           → contour_area (x ∷ p ∷ b ∷ b0 ∷ l) ≡ sumℤ (map area_at (t ++ (j ∷ [])))
-      join t j x p b b0 l u h = contour_insert x p b (b0 ∷ l) ∙ ap₂ ◌+ℤ◌ h u.area ∙ sym (ap sumℤ (map_append area_at t (j ∷ [])) ∙ sum_snoc (map area_at t) (area_at j))
+      join t j x p b b0 l u h = contour_insert x p b (b0 ∷ l) ∙ ap₂ ◌+ℤ◌ h u.area ∙ sym (ap sumℤ (map-append area_at t (j ∷ [])) ∙ sum_snoc (map area_at t) (area_at j))
 
   -- the same of every region of the mesh
   pub all_areas : All (λ r. contour_area (map (λ c. c.point) r.contour) ≡ sumℤ (map (λ j. triangle_area (triangle_at m j)) r.taken)) (regions m)

@@ -5,7 +5,7 @@
 -- put after another (`put_after_lem`); the place of a corner (`place_of_lem`). Assumes nothing.
 use mathlib.Core.Path.{◌≡◌, refl, sym, ◌∙◌, ap}
 use mathlib.Core.Bool.{false, cond}
-use mathlib.Core.List.{List, [], ◌∷◌, ◌++◌, map, map-map, map_append, append-nil}
+use mathlib.Core.List.{List, [], ◌∷◌, ◌++◌, map, map-map, map-append, append-nil}
 use Prim.Native.Nat.{ℕ, zero, suc, ◌+◌, ◌-◌, ◌≤◌, ◌<◌}
 use native.Mathlib.Omega.{arith}
 use borrow.Author.Tests.{eqb-true, eq-eqb}
@@ -54,7 +54,7 @@ look_swap n (e ∷ a) b h = by_test (eqb e.0 n)
 -- n stands once at the most, so where the list starts does not matter
 look_rotate : (n k : ℕ) (l : List (ℕ × Pt)) → count n (keys l) ≤ 1 → look n (rotate k l) ≡ look n l
 look_rotate n k l h =
-    let e : keys (take k l) ++ keys (drop k l) ≡ keys l = sym (map_append (λ e. e.0) (take k l) (drop k l)) ∙ ap keys (take-append-drop k l) in
+    let e : keys (take k l) ++ keys (drop k l) ≡ keys l = sym (map-append (λ e. e.0) (take k l) (drop k l)) ∙ ap keys (take-append-drop k l) in
     ap (look n) (rotate_eq k l)
     ∙ look_swap n (take k l) (drop k l) (omega (arith, count_append n (keys (take k l)) (keys (drop k l)), ap (count n) e)) ∙ ap (look n) (take-append-drop k l)
 

@@ -6,7 +6,7 @@
 use mathlib.Core.Path.{◌≡◌, refl, sym, ◌∙◌, ap, subst}
 use mathlib.Core.Bool.{Bool, true, false, cond}
 use mathlib.Core.List.Permᴰ
-use mathlib.Core.List.{List, [], ◌∷◌, ◌++◌, map, map_append, append_assoc}
+use mathlib.Core.List.{List, [], ◌∷◌, ◌++◌, map, map-append, append_assoc}
 use Prim.Native.Nat.{ℕ, ◌+◌, ◌<◌}
 use native.Mathlib.Omega.{arith}
 use lib.ListN.{length}
@@ -74,7 +74,7 @@ cycle_split d f n G p = ap (λ l. (d, f) ∷ (f, n) ∷ l) (ap (links n) (append
 -- descents round p, K, and the edges between
 descents_around : (K : List (Pt × Pt)) (t : Pt × Pt) → sumℕ (map descent_at (K ++ (t ∷ []))) ≡ sumℕ (map descent_at K) + descent_at t
 unfolding sumℕ
-descents_around K t = ap sumℕ (map_append descent_at K (t ∷ [])) ∙ sumℕ_append (map descent_at K) (descent_at t ∷ []) ∙ omega arith
+descents_around K t = ap sumℕ (map-append descent_at K (t ∷ [])) ∙ sumℕ_append (map descent_at K) (descent_at t ∷ []) ∙ omega arith
 
 -- e is d and then f, with d × f > 0, d × e > 0, e × f > 0; p × d and f × n are not below 0
 pub round_split : {e : Pt} (d f : Pt) {n : Pt} (G : List Pt) (p : Pt) → pos 0 <ℤ cross d e → pos 0 <ℤ cross e f → pos 0 <ℤ cross d f → pos 0 ≤ℤ cross p d → pos 0 ≤ℤ cross f n
@@ -117,7 +117,7 @@ abbrev pub way : Pt → List Pt → List Pt
 way q l = map (λ e. e.1 -ᵖ e.0) (links q l)
 
 edges_way : (q : Pt) (l : List Pt) (x : Pt) → way q (l ++ (x ∷ [])) ≡ way q l ++ ((x -ᵖ last_of q l) ∷ [])
-edges_way q l x = ap (map (λ e. e.1 -ᵖ e.0)) (links_last q l x) ∙ map_append (λ e. e.1 -ᵖ e.0) (links q l) ((last_of q l, x) ∷ [])
+edges_way q l x = ap (map (λ e. e.1 -ᵖ e.0)) (links_last q l x) ∙ map-append (λ e. e.1 -ᵖ e.0) (links q l) ((last_of q l, x) ∷ [])
 
 edges_before : (x b b0 : Pt) (l : List Pt) → edges (x ∷ b ∷ b0 ∷ l) ≡ (b -ᵖ x) ∷ (b0 -ᵖ b) ∷ (way b0 l ++ ((x -ᵖ last_of b0 l) ∷ []))
 unfolding edges neighbours links

@@ -8,7 +8,7 @@
 -- both (`match_step`); the end; all regions. Assumes an accepted mesh where it says so.
 use mathlib.Core.Path.{◌≡◌, refl, sym, ◌∙◌, ap, ap₂, subst}
 use mathlib.Core.Bool.{Bool, true, false, cond}
-use mathlib.Core.List.{List, [], ◌∷◌, ◌++◌, map, map-map, map_append, reverse, reverse_aux, reverse_aux-eq, reverse-cons, append_assoc}
+use mathlib.Core.List.{List, [], ◌∷◌, ◌++◌, map, map-map, map-append, reverse, reverse_aux, reverse_aux-eq, reverse-cons, append_assoc}
 use Prim.Native.Nat.{ℕ, zero, suc, ◌+◌, ◌*◌, ◌-◌, ◌≤◌, ◌<◌}
 use native.Mathlib.Omega.{arith}
 use borrow.Author.Tests.{eqb-true, eqb-false, eq-eqb, ne_eqb, ltb-true, ltb-false}
@@ -84,7 +84,7 @@ count_put : (i n : ℕ) (a b : List ℕ) → count i (a ++ n ∷ b) ≡ cond (eq
 count_put i n a b = omega (arith, count_append i a (n ∷ b), count_append i a b, count_cons i n b)
 
 count_split : (i : ℕ) (a b : List Corner) → count i (numbers (a ++ b)) ≡ count i (numbers a) + count i (numbers b)
-count_split i a b = ap (count i) (map_append (λ c. c.number) a b) ∙ count_append i (numbers a) (numbers b)
+count_split i a b = ap (count i) (map-append (λ c. c.number) a b) ∙ count_append i (numbers a) (numbers b)
 
 -- n more
 once_put : {n : ℕ} (a b : List ℕ) → ExactlyOnce n (a ++ b) → ExactlyOnce (suc n) (a ++ n ∷ b)
@@ -108,7 +108,7 @@ head_top done s ss h =
 
 ring_points : (done : List Corner) (ss : List Numbered) → points (done ++ reverse (corners ss)) ≡ ring (slots_of ss) (points done)
 ring_points done ss =
-    map_append (λ c. c.point) done (reverse (corners ss))
+    map-append (λ c. c.point) done (reverse (corners ss))
     ∙ ap (λ l. points done ++ l) (map-reverse (λ c. c.point) (corners ss) ∙ ap reverse (map-map (λ c. c.point) corner_of ss ∙ sym (map-map (λ s. s.corner) (λ s. s.slot) ss)))
 
 -- ---- a step: s is the top pending corner, ss the others
@@ -245,9 +245,9 @@ module _ (r : Region) (z : Zipper) (s : Numbered) (ss : List Numbered) (done : L
 
         put_once : ExactlyOnce (suc n) (numbers (front ++ corner_of s ∷ c ∷ done))
         put_once =
-            subst (ExactlyOnce (suc n)) (append_assoc (numbers front) (s.number ∷ []) (n ∷ numbers done) ∙ sym (map_append (λ c. c.number) front (corner_of s ∷ c ∷ done)))
+            subst (ExactlyOnce (suc n)) (append_assoc (numbers front) (s.number ∷ []) (n ∷ numbers done) ∙ sym (map-append (λ c. c.number) front (corner_of s ∷ c ∷ done)))
             (once_put (numbers front ++ (s.number ∷ [])) (numbers done)
-            (subst (ExactlyOnce n) (ap numbers split ∙ map_append (λ c. c.number) front (corner_of s ∷ done) ∙ sym (append_assoc (numbers front) (s.number ∷ []) (numbers done))) once))
+            (subst (ExactlyOnce n) (ap numbers split ∙ map-append (λ c. c.number) front (corner_of s ∷ done) ∙ sym (append_assoc (numbers front) (s.number ∷ []) (numbers done))) once))
 
         same_next : e.b ≡ head_number (done ++ reverse (corners (p ∷ x ∷ ss)))
         same_next = eb ∙ sym (head_top done p (x ∷ ss) (omega (arith, length-append done (reverse (corners (x ∷ ss))), length-reverse (corners (x ∷ ss)))))

@@ -6,7 +6,7 @@
 -- are one round (`ran_whole`). Assumes nothing.
 use mathlib.Core.Path.{◌≡◌, refl, sym, ◌∙◌, ap, ap₂, subst}
 use mathlib.Core.Bool.{Bool, true, false, not, cond}
-use mathlib.Core.List.{List, [], ◌∷◌, ◌++◌, map, map_append, append_assoc, append-nil}
+use mathlib.Core.List.{List, [], ◌∷◌, ◌++◌, map, map-append, append_assoc, append-nil}
 use Prim.Native.Nat.{ℕ, suc, ◌+◌, ◌-◌, ◌≤◌, ◌<◌}
 use native.Mathlib.Numerals.{add-one}
 use native.Mathlib.Omega.{arith}
@@ -45,7 +45,7 @@ contour_zipper {cs} {p} {z} e₀ placed h =
     let settled : z.fresh ≡ false = by_test z.fresh (λ t. absurd (omega (arith, h.fresh t))) (λ t. t) in
     let e : length z.done - z.last ≡ k = omega (arith, ap length h.done, length_done cs p.done, e₀, h.last settled) in
     let n : p.done + k ≡ p.last - 1 = omega arith in
-    (λ i. rotate (e i) (h.done i)) ∙ rotate_eq k (map corner_of l) ∙ ap₂ ◌++◌ (sym (map-drop corner_of k l)) (sym (map-take corner_of k l)) ∙ sym (map_append corner_of (drop k l) (take k l))
+    (λ i. rotate (e i) (h.done i)) ∙ rotate_eq k (map corner_of l) ∙ ap₂ ◌++◌ (sym (map-drop corner_of k l)) (sym (map-take corner_of k l)) ∙ sym (map-append corner_of (drop k l) (take k l))
     ∙ ap (λ r. map corner_of (r ++ take k l)) (drop-drop k p.done cs ∙ ap (λ j. drop j cs) n)
 
 -- ---- the corners at some places
@@ -66,7 +66,7 @@ module _ (cs : List (List ℤ)) where
       let f : i + (j - i) ≡ j = omega arith in
       ap (λ n. map corner_of (take n l)) e
       ∙ ap (map corner_of) (take-suc l (j - i) [] (omega (arith, length-drop i cs)) ∙ ap (λ c. take (j - i) l ++ (c ∷ [])) (get_or-drop i cs (j - i) [] ∙ ap (λ n. get_or cs n []) f))
-      ∙ map_append corner_of (take (j - i) l) (get_or cs j [] ∷ [])
+      ∙ map-append corner_of (take (j - i) l) (get_or cs j [] ∷ [])
 
   -- the same, by the place after the last
   between_last : {i j : ℕ} → i < j → j ≤ length cs → between cs i j ≡ between cs i (j - 1) ++ (corner_in cs (j - 1) ∷ [])
@@ -205,7 +205,7 @@ module _ {cs : List (List ℤ)} {p : Progress} (w : Whole cs p) where
   contour_shape =
       let e : suc (p.last - 1) ≡ p.last = omega (arith, w.placed) in
       let tail = take (p.last - 1 - p.done) (drop p.done cs) in
-      map_append corner_of (drop (p.last - 1) cs) tail
+      map-append corner_of (drop (p.last - 1) cs) tail
       ∙ ap (λ l. map corner_of l ++ map corner_of tail)
       (drop-cons cs (p.last - 1) [] (omega (arith, w.placed, w.ended)) ∙ ap (λ l. get_or cs (p.last - 1) [] ∷ l) (ap (λ n. drop n cs) e ∙ sym (take_all (length cs - p.last) (drop p.last cs) (omega (arith, length-drop p.last cs)))))
 

@@ -2,6 +2,8 @@
 // the points of the parts before it (`append_contour`). It is run along once, in two stretches of
 // the buffer, and each way from corner to corner is computed once. Leans on convex_ring, points and
 // plane.
+#![tactic(auto)]
+
 ghost use Rattle.std.specs.Prelude.{◌≡◌, ◌+◌, ◌<◌, ◌≤◌, length};
 ghost use Rattle.plane.specs.Machine.{point, vector, Short};
 ghost use Rattle.convex.specs.Joining.{without_straight};
@@ -13,7 +15,7 @@ use plane::{IntPoint, IntVector};
 
 // What a run along the contour carries on: the corner that is judged next, the way to it from the
 // one before, and how many points there are.
-#[derive(Drop)]
+#[derive(Clone, Copy)]
 pub struct Run {
     pub corner: IntPoint,
     pub way: IntVector,

@@ -3,7 +3,7 @@
 -- (`starts_refused`, `corners_refused`, `handed`); the same after a mesh's own faults
 -- (`mesh_refused`, `mesh_answered`). Assumes nothing.
 use mathlib.Core.Path.{◌≡◌, refl, sym, ◌∙◌, ap, subst}
-use mathlib.Core.List.{List, [], ◌∷◌, ◌++◌, map, map_append, flatten}
+use mathlib.Core.List.{List, [], ◌∷◌, ◌++◌, map, map-append, flatten}
 use Prim.Native.Nat.{ℕ, ◌+◌, ◌*◌, ◌-◌, ◌/◌, ◌≤◌, ◌<◌}
 use native.Mathlib.Numerals.{add-one}
 use native.Mathlib.Omega.{arith}
@@ -37,7 +37,7 @@ length_first points i h = length-map (take i points) corner_of ∙ length-take-l
 numbers_more : (points : List (List ℤ)) {i : ℕ} → i < length points → numbers_of (first_points (i + 1) points) ≡ numbers_of (first_points i points) ++ ((corner_in points i).x ∷ (corner_in points i).y ∷ [])
 unfolding numbers_of
 numbers_more points {i} h =
-    ap (λ l. numbers_of (map corner_of l)) (ap (λ n. take n points) (add-one i) ∙ take-suc points i [] h) ∙ ap numbers_of (map_append corner_of (take i points) (get_or points i [] ∷ []))
+    ap (λ l. numbers_of (map corner_of l)) (ap (λ n. take n points) (add-one i) ∙ take-suc points i [] h) ∙ ap numbers_of (map-append corner_of (take i points) (get_or points i [] ∷ []))
     ∙ numbers_append (first_points i points) (corner_in points i ∷ [])
 
 pub points_turn : (points : List (List ℤ)) (to₀ : List ℤ) {to to' : List ℤ} {i : ℕ} → i < length points → i < length (points_of to₀) → to ≡ overlay (numbers_of (first_points i points)) to₀ → to' ≡ with_corner to i (corner_in points i) → to' ≡ overlay (numbers_of (first_points (i + 1) points)) to₀

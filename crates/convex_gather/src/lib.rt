@@ -1,6 +1,8 @@
 // Parts gathered in work buffers are handed out to the lent ones once there is room (`hand_out`,
 // which tells 22 and 21 before its first store). What is gathered is said in points' specs/. Leans
 // on points, table and corners.
+#![tactic(auto)]
+
 ghost use Rattle.std.specs.Prelude.{◌≡◌, ◌+◌, ◌<◌, ◌≤◌, ◌*◌, ◌^◌, length, get_or, set, take};
 ghost use Rattle.integers.specs.Lists.{overlay};
 ghost use Rattle.corners.specs.Corners.{points_of, numbers_of, with_corner};

@@ -1,6 +1,8 @@
 // A region grown from its first triangle until nothing is pending (`grow`, the Rust's inner loop in
 // advanced/convex.rs): its buffers then hold the whole contour, done (specs/Growing.antt). Leans on
 // convex_ring and mesh.
+#![tactic(auto)]
+
 ghost use Rattle.std.specs.Prelude.{◌≡◌, false, ◌∷◌, [], ◌-◌, ◌<◌, ◌≤◌, length, get_or, set};
 ghost use Rattle.plane.specs.Machine.{point};
 ghost use Rattle.mesh.specs.Mesh.{vertex, neighbour, before};

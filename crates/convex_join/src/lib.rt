@@ -3,6 +3,8 @@
 // convex/specs/Joining.antt. The parts are gathered in local buffers, of one of four sizes by the
 // mesh's, and handed out once there is room. Leans on mesh_faults, convex_regions and
 // convex_gather.
+#![tactic(auto)]
+
 ghost use Rattle.std.specs.Prelude.{◌≡◌, ◌*◌, ◌^◌, ◌<◌, ◌≤◌, length};
 ghost use Rattle.integers.specs.Faults.{first_fault};
 ghost use Rattle.mesh.specs.Mesh.{max_triangles, mesh_kinds};

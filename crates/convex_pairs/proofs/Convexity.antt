@@ -76,10 +76,10 @@ module _ (c : Pt) {E : List Pt} (k : Convex E) where
   ascends_from : {a : Pt} {A : List Pt} (p : Pt) (r : List Pt) → Split Lt E (a ∷ A) (steps p (r ++ (c ∷ []))) → sumᵖ (a ∷ A) ≡ p -ᵖ c
       → All (λ q. Up (q -ᵖ c)) (p ∷ r) × Sorted (Left c) (p ∷ r)
   unfolding links
-  ascends_from p [] s e = ((subst Up e (up_corner k (split_le s)), tt), (tt, tt))
+  ascends_from {a} {A} p [] s e = ((subst Up e (up_corner k (split_le s)), tt), (tt, tt))
   ascends_from {a} {A} p (q ∷ r) s e =
       let on : sumᵖ ((q -ᵖ p) ∷ a ∷ A) ≡ q -ᵖ c = sum_cons (q -ᵖ p) (a ∷ A) ∙ ap (λ v. (q -ᵖ p) +ᵖ v) e ∙ way_on c p q in
-      let i = ascends_from q r (split_next s) on in
+      let i = ascends_from {a = q -ᵖ p} {A = a ∷ A} q r (split_next s) on in
       let u : Up (p -ᵖ c) = subst Up e (up_corner k (split_le s)) in
       let h : Left c p q = next_left p q r s e in
       ((u, i.0), ((h, all_map2 r (λ x v g. up_trans_< u i.0.0 v h g) i.0.1 i.1.0), i.1))

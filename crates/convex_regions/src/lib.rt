@@ -3,6 +3,8 @@
 // mesh asks for, in four sizes, so that a small mesh does not wait for the filling of large ones.
 // What is gathered is said in specs/Parts.antt. Leans on convex_grow, convex_contour and
 // convex_gather.
+#![tactic(auto)]
+
 ghost use Rattle.std.specs.Prelude.{◌≡◌, false, [], ◌<◌, ◌≤◌, ◌*◌, length, get_or};
 ghost use Rattle.integers.specs.Faults.{first_fault};
 ghost use Rattle.mesh.specs.Mesh.{max_triangles, mesh_kinds};

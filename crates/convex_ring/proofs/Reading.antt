@@ -5,7 +5,7 @@
 -- `around_back`); what they ask, of sound buffers (`around_of`). Assumes nothing.
 use mathlib.Core.Path.{◌≡◌, refl, sym, ◌∙◌, ap, ap₂}
 use mathlib.Core.Bool.{Bool, true}
-use mathlib.Core.List.{List, [], ◌∷◌, ◌++◌, map, map_append, reverse, reverse-cons}
+use mathlib.Core.List.{List, [], ◌∷◌, ◌++◌, map, map-append, reverse, reverse-cons}
 use Prim.Native.Nat.{ℕ, zero, suc, ◌+◌, ◌-◌, ◌≤◌, ◌<◌}
 use native.Mathlib.Numerals.{add-one}
 use native.Mathlib.Omega.{arith}
@@ -54,11 +54,11 @@ module _ (cs : List (List ℤ)) (es : List (List ℕ)) where
   unfolding pending_of
   pending_corners zero h = refl
   pending_corners (suc n) h =
-      reverse-cons (corner_in cs n) (map (λ s. s.corner) (pending_of cs es n)) ∙ ap (λ l. l ++ (corner_in cs n ∷ [])) (pending_corners n (omega arith)) ∙ sym (ap (map corner_of) (take-suc cs n [] h) ∙ map_append corner_of (take n cs) (get_or cs n [] ∷ []))
+      reverse-cons (corner_in cs n) (map (λ s. s.corner) (pending_of cs es n)) ∙ ap (λ l. l ++ (corner_in cs n ∷ [])) (pending_corners n (omega arith)) ∙ sym (ap (map corner_of) (take-suc cs n [] h) ∙ map-append corner_of (take n cs) (get_or cs n [] ∷ []))
 
   pub around_ring : {n : ℕ} (d : ℕ) → n ≤ length cs → ring (pending_of cs es (n - 1)) (done_of cs d) ≡ around cs n d
   unfolding around
-  around_ring {n} d h = ap (λ l. done_of cs d ++ l) (pending_corners (n - 1) (omega arith)) ∙ sym (map_append corner_of (drop d cs) (take (n - 1) cs))
+  around_ring {n} d h = ap (λ l. done_of cs d ++ l) (pending_corners (n - 1) (omega arith)) ∙ sym (map-append corner_of (drop d cs) (take (n - 1) cs))
 
 -- ---- done
 

@@ -3,6 +3,8 @@
 // this is the paper's contour). Here it is read: the corners round the edge on top, and whether a
 // point joins there (`joins_over`). The buffer is as long as its lender made it. Leans on points,
 // plane and convex's definitions.
+#![tactic(auto)]
+
 ghost use Rattle.std.specs.Prelude.{◌≡◌, ◌-◌, ◌<◌, length, get_or, set};
 ghost use Rattle.plane.specs.Plane.{O};
 ghost use Rattle.plane.specs.Machine.{point, OnGrid};
@@ -14,7 +16,7 @@ use plane::IntPoint;
 
 // Where a region stands: how many corners are pending, where the done ones begin, and where they
 // began when the last corner was put: that corner is done right before that place.
-#[derive(Drop)]
+#[derive(Clone, Copy)]
 pub struct Progress {
     pub pending: usize,
     pub done: usize,

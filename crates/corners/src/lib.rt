@@ -4,6 +4,8 @@
 // that is made and for a list in bytes.
 // The definitions are in specs/Corners.antt, their laws in proofs/ (proofs/Lib.antt is the index).
 // Leans on plane and integers.
+#![tactic(auto)]
+
 ghost use Rattle.std.specs.Prelude.{◌≡◌, true, cond, ◌+◌, ◌*◌, ◌<◌, ◌≤◌, length, get_or};
 ghost use Rattle.plane.specs.Plane.{O, in_range};
 ghost use Rattle.plane.specs.Machine.{point};

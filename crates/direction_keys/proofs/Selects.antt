@@ -21,7 +21,7 @@ use Rattle.direction_keys.specs.Keys.{one, fraction, turned_as, turned_back, key
 
 -- a short number is read back as it was
 pub read : {z : ℤ} → Extent z → to_z w64 (of_z w64 z) ≡ z
-read e = kept (fits_size (omega (arith, e.abs)))
+read {z = z} e = kept {w = w64} {z = z} (fits_size (omega (arith, e.abs)))
 
 -- ---- the sign of both extents
 

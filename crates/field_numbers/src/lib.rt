@@ -1,6 +1,8 @@
 // A field read as a number in decimal, or as a coordinate: whether it is one, and its 32 bits. Each
 // equals its definition in specs/Numbers.antt, of any bytes; what is none has `right` false and
 // `bits` 0. An inner layer of mesh_lines. Leans on fields and integers.
+#![tactic(auto)]
+
 ghost use Rattle.std.specs.Prelude.{◌≡◌, true, false, ◌-◌, ◌<◌, ◌≤◌, length, pos, neg_ℤ};
 ghost use Rattle.integers.specs.Word.{unsigned};
 ghost use Rattle.fields.specs.Fields.{is_digit, run_length};
@@ -9,7 +11,7 @@ ghost use Rattle.field_numbers.specs.Numbers.{value_of, number_read, coordinate_
 use fields::Run;
 
 // What a field was read as: whether it is a number, and its 32 bits.
-#[derive(Drop)]
+#[derive(Clone, Copy)]
 pub struct Reading {
     pub right: bool,
     pub bits: u32,

@@ -1,12 +1,14 @@
 // Lines and fields of a text: where a run of bytes of one kind ends, and field k of a line. Each
 // equals its definition in specs/Fields.antt, of any bytes. An inner layer of field_numbers,
 // mesh_lines and mesh_text. Leans on nothing but the kit.
+#![tactic(auto)]
+
 ghost use Rattle.std.specs.Prelude.{◌≡◌, not, ◌+◌, ◌≤◌, length, drop};
 ghost use Rattle.fields.specs.Fields.{is_blank, is_digit, in_run, run_length, fields_from, field_of};
 
 // What a run is of: blanks, the bytes of a field, digits, the bytes of a line, the bytes before a
 // comma.
-#[derive(Drop)]
+#[derive(Clone, Copy)]
 pub enum Run {
     Blanks,
     Field,

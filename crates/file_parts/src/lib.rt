@@ -4,6 +4,8 @@
 // the parts of any mesh, so that 22 and 21 cannot be. Its answer and both arrays are equations with
 // `file_fault` and `file_parts` of listing/specs/File.antt. `front` takes the corners that are told
 // of from the array. Leans on mesh_file, split_parts and corners.
+#![tactic(auto)]
+
 ghost use Rattle.std.specs.Prelude.{◌≡◌, ◌≤◌, length};
 ghost use Rattle.corners.specs.Corners.{points_of, front_corners};
 ghost use Rattle.table.specs.Table.{starts_of, corners_of, counts_of, written};

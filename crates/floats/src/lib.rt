@@ -2,3 +2,4 @@
 // (specs/Floats.antt) and laws alone. In such numbers the comparisons, sums, differences, products
 // by a power of two, whole parts and rounding of f64 are those of integers, with one rounding where
 // f64 rounds (proofs/Lib.antt is the index). Leans on integers.
+#![tactic(auto)]

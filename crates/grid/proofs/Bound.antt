@@ -11,7 +11,7 @@ use lib.Dec.{T, ltb, ltb→lt, lit<, lit≤}
 use lib.IntN.{ℤ, pos, nat_abs, ◌+ℤ◌, ◌-ℤ◌, ◌*ℤ◌}
 use lib.Pow.{pow-add, pow_pos}
 use lib.Ieee.{Float, nan, inf, fin, binary64, fits, sub, mul}
-use lib.Ieee.Fits.{and_r, sub_fits, mul_fits}
+use lib.Ieee.Fits.{and_r, sub-fits, mul-fits}
 use lib.Ieee.Bits.{is_true}
 use lib.Ieee.Scale.{finite}
 use Rattle.integers.proofs.Ring.{◌:+◌, ◌:-◌, ◌:*◌, ◌:≡◌, int, ring}
@@ -55,7 +55,7 @@ grown a {t} h l =
 -- d is E * 2 ^ -1074, rounded once, and d 2 ^ t is on the grid
 module _ {E : ℤ} {d : Float} {t : ℕ} (R : RoundOf E d) (F : T (fits binary64 d)) (l : t < 11) (g : T (on_grid (mul binary64 d (power t)))) where
   v_fits : fits binary64 (mul binary64 d (power t)) ≡ true
-  v_fits = is_true (fits binary64 (mul binary64 d (power t))) (mul_fits binary64 d (power t))
+  v_fits = is_true (fits binary64 (mul binary64 d (power t))) (mul-fits binary64 d (power t))
 
   v_finite : T (finite (mul binary64 d (power t)))
   v_finite = grid_finite (mul binary64 d (power t)) v_fits g
@@ -111,12 +111,12 @@ module _ (x o : Float) (t : ℕ) (X : Number x) (O : Number o) (l : t < 11) (g :
   at = nearest (multiple (scaled x o (power t)))
 
   at_near : nat_abs (at *ℤ pos (2 ^ 1074) -ℤ E *ℤ pos (count (power t))) ≤ 2 ^ 1073 + 2 ^ 1051
-  at_near = subst (λ n. nat_abs (at *ℤ pos (2 ^ 1074) -ℤ E *ℤ pos n) ≤ 2 ^ 1073 + 2 ^ 1051) (sym (count_power t)) (within_half (sub_round X O) (sub_fits binary64 x o) l g)
+  at_near = subst (λ n. nat_abs (at *ℤ pos (2 ^ 1074) -ℤ E *ℤ pos n) ≤ 2 ^ 1073 + 2 ^ 1051) (sym (count_power t)) (within_half (sub_round X O) (sub-fits binary64 x o) l g)
 
   placed_power : Placed x o (power t) at
   placed_power = record {
     near = at_near;
-    rounded = ap nearest (product (sub_round X O) (sub_fits binary64 x o) l g ∙ ap (λ n. multiple (sub binary64 x o) *ℤ pos n) (sym (count_power t)));
+    rounded = ap nearest (product (sub_round X O) (sub-fits binary64 x o) l g ∙ ap (λ n. multiple (sub binary64 x o) *ℤ pos n) (sym (count_power t)));
     whole = λ n e. same_whole at n (subst (λ z. nat_abs (at *ℤ pos (2 ^ 1074) -ℤ z) ≤ 2 ^ 1073 + 2 ^ 1051) e at_near) (lit< tt);
   }
 

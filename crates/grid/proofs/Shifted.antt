@@ -12,7 +12,7 @@ use lib.Dec.{T, lit<, lit≤}
 use lib.IntN.{pos, negsuc, nat_abs, ◌+ℤ◌, ◌-ℤ◌}
 use lib.Pow.{pow_pos}
 use lib.Ieee.{Float, fin, binary64, fits, lt, eq, neg, add, sub, sum, of_int, to_signed, in_signed}
-use lib.Ieee.Fits.{add_fits, sub_fits}
+use lib.Ieee.Fits.{add-fits, sub-fits}
 use lib.Ieee.Nearest.{closest}
 use lib.Ieee.Scale.{finite}
 use Rattle.integers.specs.Test.{eq_z}
@@ -168,7 +168,7 @@ module _ (v : Float) (s : Bool) (n : ℕ) (h : Number v) (e : multiple v ≡ sig
 
   added_number : Number (add binary64 v shift)
   added_number = record {
-    fitting = add_fits binary64 v shift;
+    fitting = add-fits binary64 v shift;
     finite = finite_below added (subst (λ k. k < 2 ^ 2098) (sym added_rounded) (lt_of_lt_of_le (sum_below (q * 2 ^ 1074) q_near.above N_high (lit≤ tt)) (lit≤ tt)));
   }
 
@@ -191,7 +191,7 @@ module _ (v : Float) (s : Bool) (n : ℕ) (h : Number v) (e : multiple v ≡ sig
   near_exact = small_exact less 1074 (lt_of_lt_of_le k_below (lit≤ tt)) (abs_signed s (k * 2 ^ 1074)) (lt_of_lt_of_le (mul-lt-mul_of_pos_right k_below (pow_pos 1074)) (lit≤ tt))
 
   near_number : Number (near v)
-  near_number = record { fitting = sub_fits binary64 (add binary64 v shift) shift; finite = near_exact.0 }
+  near_number = record { fitting = sub-fits binary64 (add binary64 v shift) shift; finite = near_exact.0 }
 
   near_is : near v ≡ of_int binary64 (signed s k)
   near_is = go (eq-zero-or-pos k)
@@ -221,7 +221,7 @@ module _ (v : Float) (s : Bool) (n : ℕ) (h : Number v) (e : multiple v ≡ sig
       (lt_of_lt_of_le (mul-lt-mul_of_pos_right m (pow_pos 1073)) (lit≤ tt))
 
   test : eq v (add binary64 (near v) (half s)) ≡ eq_z (signed s n) (signed s (k * 2 ^ 1074) +ℤ signed s (2 ^ 1073))
-  test = eq_multiple v (add binary64 (near v) (half s)) h (record { fitting = add_fits binary64 (near v) (half s); finite = edge_exact.0 }) ∙ ap₂ eq_z e edge_exact.1
+  test = eq_multiple v (add binary64 (near v) (half s)) h (record { fitting = add-fits binary64 (near v) (half s); finite = edge_exact.0 }) ∙ ap₂ eq_z e edge_exact.1
 
   tie : eq v (add binary64 (near v) (half s)) ≡ true → signed s k +ℤ signed s 1 ≡ nearest (multiple v)
   tie t = sym (nearest_tie s n k (eq_z_true (signed s n) (signed s (k * 2 ^ 1074) +ℤ signed s (2 ^ 1073)) (sym test ∙ t))) ∙ ap nearest (sym e)

@@ -2,6 +2,8 @@
 // the origin, rounded once, times the step count, to the nearest whole number, halves away from
 // zero. The definitions are in specs/Grid.antt; proofs/Bound.antt shows that a coordinate lies
 // within one half plus 2^-23 of the exact one, and is exact where that is whole. Leans on floats.
+#![tactic(auto)]
+
 ghost use Rattle.std.specs.Prelude.{◌≡◌, false, T, pos, negsuc};
 ghost use Rattle.std.specs.Float.{fin};
 ghost use Rattle.std.specs.Float.Ieee.{lt};

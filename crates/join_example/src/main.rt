@@ -2,6 +2,8 @@
 // join, then the same mesh refused, once for want of a place for the last start and once for a
 // neighbour that is not there; and a square, whose two triangles do join. What it prints is its
 // file `stdout`. Leans on convex_join, part_lines and lines.
+#![tactic(auto)]
+
 use mesh::Row;
 
 // Joins the mesh into the lent places and writes what the call told and what it left there.

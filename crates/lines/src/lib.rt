@@ -3,6 +3,8 @@
 // equations with specs/Text.antt, and where there is no room it answers 0 and changes nothing.
 // `print` writes that text, the other functions numbers and lists of them; what is written is in
 // io's hands, and each program's is held to its file `stdout`. Leans on text, io and integers.
+#![tactic(auto)]
+
 ghost use Rattle.lines.specs.Text.{Text};
 
 // Puts the name, the number and the end on the front of the lent bytes and answers how many there

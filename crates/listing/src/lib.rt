@@ -1,6 +1,8 @@
 // The mesh file and its listing: the area program's input and output. The definitions are in
 // specs/; `strategy` reads the file's number of a split. Leans on split and, for numbers as text,
 // on text.
+#![tactic(auto)]
+
 ghost use Rattle.std.specs.Prelude.{◌≡◌};
 ghost use Rattle.listing.specs.File.{strategy_of};
 

@@ -2,6 +2,8 @@
 // (`total_area`) and a part's share of it (`share`), each equal to listing's definition, of a part
 // table that can be listed (`Listable`, specs/Areas.antt). Linear in the corners. Leans on
 // wide_divide, wide, walk_read and table_shown (a corner and a part of lent numbers) and plane.
+#![tactic(auto)]
+
 ghost use Rattle.std.specs.Prelude.{◌≡◌, ◌+◌, ◌<◌, ◌≤◌, false, [], length, pos, ◌+ℤ◌, slice_index_or};
 ghost use Rattle.plane.specs.Plane.{area_two};
 ghost use Rattle.plane.specs.Machine.{CrossSize};

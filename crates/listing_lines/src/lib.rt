@@ -2,6 +2,8 @@
 // `put_listing` leaves exactly listing's `listing_of` of a part table that can be listed, and every
 // byte past it as it was; the caller has shown that there is room. The total is added up once, and
 // each part's area once for its line. Leans on listing_areas, text, table_shown and corners.
+#![tactic(auto)]
+
 ghost use Rattle.std.specs.Prelude.{[], ◌≤◌, length, get_or};
 ghost use Rattle.corners.specs.Corners.{points_of};
 ghost use Rattle.table.specs.Table.{table_parts};

@@ -5,6 +5,8 @@
 // table do not bind. An area is exact and has a sign, below 0 where contours run clockwise; one
 // that leaves signed 64 bits is refused with 11. Leans on table_areas, mesh_bounds (bounds that a
 // point is brought into), corners and table.
+#![tactic(auto)]
+
 ghost use Rattle.std.specs.Prelude.{◌≡◌, pos, neg_ℤ};
 ghost use Rattle.wide.specs.Words.{value};
 ghost use Rattle.corners.specs.Corners.{points_of};
@@ -17,7 +19,7 @@ use wide::SignedProduct;
 
 // The fault number, 0 for none, and a doubled area, 0 where there is a fault.
 #[repr(C)]
-#[derive(Drop)]
+#[derive(Clone, Copy)]
 pub struct Measured {
     pub fault: u32,
     pub area_two: i64,
@@ -25,7 +27,7 @@ pub struct Measured {
 
 // The fault number, 0 for none, and the least and greatest x and y, 0 where there is a fault.
 #[repr(C)]
-#[derive(Drop)]
+#[derive(Clone, Copy)]
 pub struct Bounded {
     pub fault: u32,
     pub min_x: i32,

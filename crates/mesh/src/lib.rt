@@ -1,6 +1,8 @@
 // The triangle mesh: how a row of nine numbers is read, and how it is seen over the side that names
 // a neighbour (geom/triangle.rs, index.rs). The definitions of the mesh and its faults are in
 // specs/Mesh.antt, those of rows in specs/Rows.antt. Leans on plane.
+#![tactic(auto)]
+
 ghost use Rattle.std.specs.Prelude.{◌≡◌, ◌<◌};
 ghost use Rattle.plane.specs.Machine.{point, CrossSize};
 ghost use Rattle.mesh.specs.Mesh.{vertex, neighbour, after, before, opposite, triangle_area};
@@ -44,7 +46,7 @@ pub fn neighbor_of(row: Row, i: usize) -> usize
 
 // A triangle as it is seen over one of its sides: the far vertex, and the neighbours over the two
 // edges there, first the one that ends in it.
-#[derive(Drop)]
+#[derive(Clone, Copy)]
 pub struct Far {
     pub vertex: IntPoint,
     pub first: usize,

@@ -2,6 +2,8 @@
 // `mesh_bounds`, of any rows; those of an empty mesh are 0. Its answer is `mesh_bounds` of
 // specs/Bounds.antt; that each bound is a vertex's and no vertex is past one is `MeshBounded`
 // there. Leans on mesh and table.
+#![tactic(auto)]
+
 ghost use Rattle.std.specs.Prelude.{◌≡◌};
 ghost use Rattle.plane.specs.Machine.{point};
 ghost use Rattle.mesh.specs.Rows.{row_triangle, rows_mesh};

@@ -4,6 +4,8 @@
 // neighbour to neighbour cost little. The second compares each shared edge once, from its later
 // triangle, and counts: where no more sides name a later triangle than were compared, each of those
 // was met (proofs/Pairing.antt). Leans on mesh_sound and mesh.
+#![tactic(auto)]
+
 ghost use Rattle.std.specs.Prelude.{◌≡◌, cond, ◌+◌, ◌<◌, ◌≤◌, ◌^◌, length};
 ghost use Rattle.plane.specs.Plane.{Pt};
 ghost use Rattle.mesh.specs.Mesh.{vertex, triangle_at, max_triangles};
@@ -59,7 +61,7 @@ fn names_back(far: Row, k: usize, a: u64, b: u64) -> bool
 
 // What the second pass has seen so far: whether every edge that it asked for is shared, and how
 // many sides name a triangle before their own, and after it.
-#[derive(Drop)]
+#[derive(Clone, Copy)]
 pub struct Seen {
     pub shared: bool,
     pub before: usize,

@@ -3,6 +3,8 @@
 // and only where it is not clean are the passes made that tell the number: 3, 4 and 5 are one
 // (mesh_neighbors), 2, 6 and 11 one each, which may ask what those before it have shown. Leans on
 // mesh_clean, mesh_sound, mesh_neighbors and mesh.
+#![tactic(auto)]
+
 ghost use Rattle.std.specs.Prelude.{◌≡◌, false};
 ghost use Rattle.integers.specs.Faults.{first_fault};
 ghost use Rattle.mesh.specs.Mesh.{off_grid, flat, too_large, mesh_kinds};

@@ -3,6 +3,8 @@
 // definition in specs/Entries.antt, of any bytes; what a put leaves is `Put` of specs/Put.antt: a
 // field that is wrong is told by false. An inner layer of mesh_lines: callers show that there is
 // room. Leans on field_numbers and fields.
+#![tactic(auto)]
+
 ghost use Rattle.std.specs.Prelude.{◌≡◌, [], ◌∷◌, ◌⊎◌, ◌+◌, ◌<◌, ◌≤◌, length};
 ghost use Rattle.field_numbers.specs.Numbers.{told};
 ghost use Rattle.mesh_fields.specs.Entries.{same_bytes, is_number_or_none, number_or_none, is_split, split_of, comma_of, is_point, point_read, point_words};

@@ -1,7 +1,7 @@
 -- A file's records as rows. In order: a word's bits; a row by its nine numbers; a record more; the
 -- rows read, one more and all; the file's mesh. Assumes nothing.
 use mathlib.Core.Path.{◌≡◌, refl, sym, ◌∙◌, ap}
-use mathlib.Core.List.{List, [], ◌∷◌, ◌++◌, map, map_append}
+use mathlib.Core.List.{List, [], ◌∷◌, ◌++◌, map, map-append}
 use Prim.Native.Nat.{ℕ, zero, suc, ◌+◌, ◌*◌, ◌^◌, ◌<◌}
 use native.Mathlib.Numerals.{add-one}
 use native.Mathlib.Omega.{arith}
@@ -68,7 +68,7 @@ module _ (ws : List ℕ) (rows : List (List ℤ)) where
       → rows_mesh (take (k + 1) (set rows k v)) ≡ records_of (k + 1) ws
   unfolding rows_mesh
   row_more {k} h p v q =
-      rw (add-one, take-suc-set rows k v h, map_append, q, records_more k ws) (ap (λ l. l ++ (record_of (drop (row_width * k) ws) ∷ [])) p)
+      rw (add-one, take-suc-set rows k v h, map-append, q, records_more k ws) (ap (λ l. l ++ (record_of (drop (row_width * k) ws) ∷ [])) p)
 
   pub rows_all : {n k : ℕ} → k ≡ n → length rows ≡ n → rows_mesh (take k rows) ≡ records_of k ws → rows_mesh rows ≡ records_of n ws
   rows_all e l p = sym (ap (λ m. rows_mesh (take m rows)) (e ∙ sym l) ∙ ap rows_mesh (take-length rows)) ∙ p ∙ ap (λ m. records_of m ws) e

@@ -3,6 +3,8 @@
 // definition in listing's specs/File.antt. `header_fault` takes any bytes; the others read a header
 // that is there, and records that are. Leans on table_words (words of bytes), mesh (rows) and
 // listing (the file).
+#![tactic(auto)]
+
 ghost use Rattle.std.specs.Prelude.{◌≡◌, ◌+◌, ◌*◌, ◌≤◌, length, drop};
 ghost use Rattle.integers.specs.Word.{unsigned};
 ghost use Rattle.integers.specs.Faults.{first_fault};

@@ -3,6 +3,8 @@
 // definition in specs/Lines.antt, of any bytes; a line that is not as it should be is told by
 // false. An inner layer of mesh_text: callers show that there is room. Leans on mesh_fields and
 // fields.
+#![tactic(auto)]
+
 ghost use Rattle.std.specs.Prelude.{◌≡◌, [], ◌∷◌, ◌+◌, ◌≤◌, length};
 ghost use Rattle.mesh.specs.Rows.{row_width};
 ghost use Rattle.fields.specs.Fields.{field_of};

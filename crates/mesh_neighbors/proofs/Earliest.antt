@@ -142,13 +142,13 @@ module _ (m : Mesh) where
     b = or j.b (misnaming k (triangle_at m k));
     c = or j.c (mismatching k (triangle_at m k));
     told = p ∙ (λ i. earlier (j.told i) (e i)) ∙ sym (both_told j.a j.b j.c (straying k (triangle_at m k)) (misnaming k (triangle_at m k)) (mismatching k (triangle_at m k)));
-    strays_left = left_turn straying j.a h j.strays-left;
-    misnames_left = left_turn misnaming j.b h j.misnames-left;
-    mismatches_left = left_turn mismatching j.c h j.mismatches-left;
+    strays_left = left_turn straying j.a h j.strays_left;
+    misnames_left = left_turn misnaming j.b h j.misnames_left;
+    mismatches_left = left_turn mismatching j.c h j.mismatches_left;
   }
 
   pub judged_end : {f : ℕ} {k : ℕ} → length m ≤ k → Judged k f → f ≡ neighbour_fault m
   unfolding neighbour_fault stray_neighbour misnamed mismatched
   judged_end h j =
       j.told
-      ∙ sym (λ i. first_fault (neighbour_kinds (left_end straying j.a h j.strays-left i) (left_end misnaming j.b h j.misnames-left i) (left_end mismatching j.c h j.mismatches-left i)))
+      ∙ sym (λ i. first_fault (neighbour_kinds (left_end straying j.a h j.strays_left i) (left_end misnaming j.b h j.misnames_left i) (left_end mismatching j.c h j.mismatches_left i)))

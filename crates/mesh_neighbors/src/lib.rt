@@ -1,5 +1,7 @@
 // The faults of a mesh's neighbours, 3, 4 and 5, in one pass: each side tells the first that holds
 // of it, and the earliest that any side tells is the mesh's (`neighbor_fault`). Leans on mesh.
+#![tactic(auto)]
+
 ghost use Rattle.std.specs.Prelude.{◌≡◌, ◌<◌, length};
 ghost use Rattle.plane.specs.Machine.{point};
 ghost use Rattle.mesh.specs.Mesh.{triangle_at};

@@ -2,6 +2,8 @@
 // (specs/Operand.antt). `take_operand` takes any bytes; `file_bounds` reads the bounds of an
 // accepted file. That pairs do not refuse such an operand for itself is `FileIsOperand` there.
 // Leans on file_parts, mesh_bounds and split_operand.
+#![tactic(auto)]
+
 ghost use Rattle.std.specs.Prelude.{◌≡◌};
 ghost use Rattle.listing.specs.File.{mesh_of, file_fault};
 ghost use Rattle.mesh_bounds.specs.Bounds.{mesh_bounds};
@@ -12,7 +14,7 @@ use table::IntRect;
 
 // What `take_operand` answers: the fault number, 0 for none, how many parts and corners were
 // written, and the bounds; 0 where it refused.
-#[derive(Drop)]
+#[derive(Clone, Copy)]
 pub struct Taken {
     pub fault: u32,
     pub parts: usize,

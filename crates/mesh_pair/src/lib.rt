@@ -2,6 +2,8 @@
 // header's total says, and the right one is all the rest (specs/Files.antt). `take_two` takes any
 // bytes; what it answers and leaves in the lent arrays is either file's operand, or the fault of
 // the left file or, where that has none, of the right. Leans on mesh_operand.
+#![tactic(auto)]
+
 ghost use Rattle.mesh_pair.specs.Files.{Cut, TwoTaken};
 
 use file_parts::{NUMBERS, STARTS};
@@ -9,7 +11,7 @@ use mesh_operand::Taken;
 use table_words::{WORD, word_at};
 
 // What `take_two` answers: the fault number, 0 for none, and what is told of either file.
-#[derive(Drop)]
+#[derive(Clone, Copy)]
 pub struct Two {
     pub fault: u32,
     pub left: Taken,

@@ -42,7 +42,7 @@ sound_rows {z} (t ∷ l) g h =
     let s = sumℤ (map triangle_area l) in
     let e = both_true (sound t) _ h in
     let f = not_then (lt_z (pos 9223372036854775807) (z +ℤ triangle_area t)) (sound_from (z +ℤ triangle_area t) l) e.1 in
-    let r = sound_rows l (lt_z-≤ _ _ f.0) f.1 in
+    let r = sound_rows {z = z +ℤ triangle_area t} l (lt_z-≤ _ _ f.0) f.1 in
     (at e.0 r.0, omega (zarith, r.1, add_parts (z +ℤ triangle_area t) s, add_parts z (triangle_area t), add_parts z (triangle_area t +ℤ s), add_parts (triangle_area t) s))
   where
     at : sound t ≡ true → ((i : ℕ) → i < length l → Sound (triangle_at l i)) → (i : ℕ) → i < suc (length l) → Sound (triangle_at (t ∷ l) i)

@@ -1,6 +1,8 @@
 // What a mesh is asked of each row by itself: on the grid, a doubled area above 0, and what the
 // areas add up to. `all_sound` asks it of all rows in one pass, in order; the tests of one row and
 // the sum are those by which mesh_faults tells 2, 6 and 11. Leans on mesh.
+#![tactic(auto)]
+
 ghost use Rattle.std.specs.Prelude.{◌≡◌, pos, ◌+ℤ◌, ◌≤ℤ◌};
 ghost use Rattle.std.specs.Int.Signed.{le_z};
 ghost use Rattle.mesh.specs.Mesh.{triangle_off, triangle_area};
@@ -32,7 +34,7 @@ pub fn row_flat(row: Row) -> bool
 }
 
 // The sum of a total and an area, or whether it is past 2^63 - 1.
-#[derive(Drop)]
+#[derive(Clone, Copy)]
 pub enum Added {
     Total(i64),
     Past,

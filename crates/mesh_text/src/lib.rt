@@ -3,6 +3,8 @@
 // that is not as a mesh is written is refused by its first wrong line and changes nothing. The
 // words are gathered line by line and written once the whole text is judged. What is told of a
 // refusal is mesh_told's. Leans on mesh_lines, fields, table_write and table_words.
+#![tactic(auto)]
+
 ghost use Rattle.std.specs.Prelude.{◌≡◌, ◌∷◌, ◌+◌, ◌*◌, ◌-◌, ◌≤◌, length};
 ghost use Rattle.integers.specs.Lists.{overlay};
 ghost use Rattle.table.specs.Stored.{word_bytes};
@@ -36,7 +38,7 @@ const FEWER: usize = ROW - 2;
 
 // What a text was turned into: a file of so many bytes; or what it was refused by: its first wrong
 // line, counted from 1, or its length.
-#[derive(Drop)]
+#[derive(Clone, Copy)]
 pub enum Converted {
     Written(usize),
     Wrong(usize),
@@ -44,14 +46,14 @@ pub enum Converted {
 }
 
 // A line was taken, or is wrong; and how many lines that say something have been taken with it.
-#[derive(Drop)]
+#[derive(Clone, Copy)]
 pub struct Step {
     pub right: bool,
     pub count: usize,
 }
 
 // The first wrong line, 0 for none, and how many lines said something.
-#[derive(Drop)]
+#[derive(Clone, Copy)]
 pub struct Reading {
     pub wrong: usize,
     pub count: usize,

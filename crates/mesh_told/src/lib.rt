@@ -2,6 +2,8 @@
 // line is wrong, what stands there and what should; or that it is too long. `put_told` puts it into
 // lent bytes; what it puts is `told_of` of specs/Told.antt, of any text and any answer of
 // to_mesh_file. Leans on mesh_wrong, mesh_text, mesh_lines, fields and text.
+#![tactic(auto)]
+
 ghost use Rattle.std.specs.Prelude.{◌≡◌, true, cond, ◌+◌, ◌≤◌, length};
 ghost use Rattle.io.specs.Counts.{IsPrefixLen};
 ghost use Rattle.text.specs.Put.{PutText};
@@ -20,7 +22,7 @@ pub const TOLD_ROOM: usize = 128;
 const MAX_SHOWN: usize = 40;
 
 // Where a line stands in a text, if it does, and how many lines before it say something.
-#[derive(Drop)]
+#[derive(Clone, Copy)]
 pub struct Found {
     pub there: bool,
     pub from: usize,

@@ -1,13 +1,15 @@
 // Which field of a wrong line of a mesh as text is wrong: what each field of a line should be, and
 // the first that is not. Each function equals its definition in specs/Wanted.antt, of any bytes. An
 // inner layer of mesh_told. Leans on mesh_fields and fields.
+#![tactic(auto)]
+
 ghost use Rattle.std.specs.Prelude.{◌≡◌};
 ghost use Rattle.mesh_fields.specs.Entries.{is_point};
 ghost use Rattle.mesh_wrong.specs.Wanted.{wanted_at, is_wanted, wrong_field};
 
 // What stands in a line: the word `limit`, the corner limit, the split, a point, a neighbour,
 // nothing more.
-#[derive(Drop)]
+#[derive(Clone, Copy)]
 pub enum Wanted {
     Name,
     Limit,

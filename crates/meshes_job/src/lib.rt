@@ -3,6 +3,8 @@
 // their front the job (pairs_job/specs/Job.antt) of the two files' split parts with their meshes'
 // own bounds, or tells a fault and writes nothing. What is printed of it is `contours_text` of
 // specs/Job.antt. Leans on mesh_pair, pairs_job and table_write.
+#![tactic(auto)]
+
 ghost use Rattle.std.specs.Prelude.{◌≡◌, map, ◌+◌, ◌*◌, ◌≤◌, length};
 ghost use Rattle.io.specs.Counts.{IsPrefixLen};
 ghost use Rattle.integers.specs.Word.{unsigned};

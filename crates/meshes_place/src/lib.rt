@@ -3,6 +3,8 @@
 // `put_placed` puts that as a line of text. What they answer are equations with specs/Placed.antt;
 // that it is so of the meshes is specs/Rightly.antt. Leans on mesh_pair, pairs_place, placement and
 // text.
+#![tactic(auto)]
+
 ghost use Rattle.std.specs.Prelude.{◌≡◌, length, ◌≤◌};
 ghost use Rattle.io.specs.Counts.{IsPrefixLen};
 ghost use Rattle.plane.specs.Machine.{point};

@@ -2,6 +2,8 @@
 // (22, then 21), or all pairs written into the lent starts and corners (`hand_out`). Corners are
 // counted only where the most that there can be have no room. Leans on minkowski_rows and
 // minkowski_count.
+#![tactic(auto)]
+
 ghost use Rattle.std.specs.Prelude.{◌≡◌, ltb, length};
 ghost use mathlib.Core.List.{flatten};
 ghost use Rattle.pair_walks.specs.Walks.{contours_in};

@@ -2,6 +2,8 @@
 // `append_keyed` puts their contours, four pairs side by side, on the front of lent starts and
 // corners. What is put is what minkowski_rows puts. Leans on minkowski_order, pair_chains,
 // minkowski_rows (definitions and laws of contours put) and convex_gather.
+#![tactic(auto)]
+
 ghost use Rattle.std.specs.Prelude.{◌∷◌, [], ◌+◌, ◌*◌, ◌-◌, ◌<◌, ◌≤◌, length};
 ghost use Rattle.pair_walks.specs.Walks.{contours_in};
 ghost use Rattle.pair_numbers.specs.Numbers.{Keyed};

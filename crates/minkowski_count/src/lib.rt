@@ -1,6 +1,8 @@
 // How many corners all pairs of two operands' walks have (`count_all`), for fault 21 where the
 // bound on corners does not tell: each pair is merged into one work buffer (`count_pair`), by the
 // same code that puts them into the lent one. Leans on minkowski_rows and pair_walks' definitions.
+#![tactic(auto)]
+
 ghost use Rattle.std.specs.Prelude.{◌≡◌, ◌+◌, ◌*◌, ◌<◌, ◌≤◌, ◌^◌, length};
 ghost use mathlib.Core.List.{flatten};
 ghost use Rattle.table.specs.Table.{max_contour};

@@ -1,6 +1,8 @@
 // How many corners all pairs of two operands' walks have, by numbers alone (pair_chains):
 // `no_room_keyed` and `count_keyed`. A bound on them is lowered pair by pair, four side by side,
 // and no further than the question asks. Leans on minkowski_order and pair_chains.
+#![tactic(auto)]
+
 ghost use Rattle.std.specs.Prelude.{◌≡◌, ◌+◌, ◌*◌, ◌-◌, ◌<◌, ◌≤◌, ◌^◌, ltb, length};
 ghost use Rattle.integers.specs.Lists.{sumℕ};
 ghost use Rattle.pair_walks.specs.Walks.{contours_in};

@@ -2,6 +2,8 @@
 // (`result_fault`) with the result's bounds (`result_bounds`), as int/minkowski.rs has them in
 // `validate_bounds`. Each equals its list of kinds in specs/Kinds.antt. Leans on table and
 // minkowski's definitions.
+#![tactic(auto)]
+
 ghost use Rattle.std.specs.Prelude.{◌≡◌, false, ◌++◌, ◌∷◌, [], eqb, ◌+ℤ◌, ◌-ℤ◌};
 ghost use Rattle.integers.specs.Faults.{first_fault, fault_empty, fault_result};
 ghost use Rattle.plane.specs.Machine.{Coordinate};

@@ -2,6 +2,8 @@
 // `pairs_over`, with a number a point made once (pair_numbers) and four pairs merged side by side
 // (minkowski_chains). `pairs_keyed` has the answer of `pairs_over`, word for word. Leans on
 // minkowski_work, pair_numbers, minkowski_chains and minkowski_counted.
+#![tactic(auto)]
+
 ghost use Rattle.std.specs.Prelude.{◌≤◌, length};
 ghost use Rattle.pair_numbers.specs.Numbers.{Keyed};
 ghost use Rattle.minkowski_answer.specs.Answer.{Unrolleds, WalksAnswered};

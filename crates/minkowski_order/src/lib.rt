@@ -3,6 +3,8 @@
 // `merge_pair` puts one pair's contour into a work buffer. Walks lie in one buffer, the left
 // operand's first (pair_walks), with a number a point (pair_numbers). Leans on pair_chains,
 // pair_walks and pair_numbers.
+#![tactic(auto)]
+
 ghost use Rattle.std.specs.Prelude.{◌≡◌, ◌+◌, ◌-◌, ◌<◌, ◌≤◌, ◌^◌, length, get_or};
 ghost use Rattle.pair_merge.specs.Putting.{RoomAfter, CornersPut};
 ghost use Rattle.pair_walks.specs.Walks.{pair_in};
@@ -13,7 +15,7 @@ use pair_chains::{Pair, Pairs};
 
 // Where all pairs have come to: left walk p and right walk q are next, pair n in order, after k
 // corners.
-#[derive(Drop)]
+#[derive(Clone, Copy)]
 pub struct Place {
     pub p: usize,
     pub q: usize,
@@ -22,7 +24,7 @@ pub struct Place {
 }
 
 // Four pairs, and the place after them.
-#[derive(Drop)]
+#[derive(Clone, Copy)]
 pub struct Next {
     pub x: Pairs,
     pub s: Place,

@@ -3,7 +3,7 @@
 -- (`pairs_shard`). Assumes nothing.
 use mathlib.Core.Path.{◌≡◌, refl, sym, ◌∙◌, ap, subst}
 use mathlib.Core.Bool.{Bool, true}
-use mathlib.Core.List.{List, [], map, map_append, flatten}
+use mathlib.Core.List.{List, [], map, map-append, flatten}
 use Prim.Native.Nat.{ℕ, ◌+◌, ◌*◌, ◌<◌}
 use lib.ListN.{length, get_or}
 use lib.IntN.{ℤ}
@@ -40,4 +40,4 @@ table_de_berg l r s c h i j hi hj a b =
 
 pub pairs_shard : PairsShard
 unfolding pairs_of
-pairs_shard reflected ls ms rs = ap flatten (map_append (λ a. map (pair_contour reflected a) rs) ls ms) ∙ flatten_append (map (λ a. map (pair_contour reflected a) rs) ls) (map (λ a. map (pair_contour reflected a) rs) ms)
+pairs_shard reflected ls ms rs = ap flatten (map-append (λ a. map (pair_contour reflected a) rs) ls ms) ∙ flatten_append (map (λ a. map (pair_contour reflected a) rs) ls) (map (λ a. map (pair_contour reflected a) rs) ms)

@@ -2,6 +2,8 @@
 // `requires`. Their answer and both lent buffers equal `pairs_counts`, `pairs_starts` and
 // `pairs_corners` of minkowski/specs/Pairs.antt. Each is the answer of the size that the operands
 // have, by minkowski_sizes, on which they lean.
+#![tactic(auto)]
+
 ghost use Rattle.std.specs.Prelude.{◌≡◌, false, true};
 ghost use Rattle.minkowski.specs.Pairs.{pairs_counts, pairs_starts, pairs_corners};
 ghost use Rattle.minkowski_faults.specs.Kinds.{operand};

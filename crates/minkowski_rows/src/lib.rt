@@ -3,6 +3,8 @@
 // contours on the front of lent starts and corners; `merge_walks` merges any two of them. By the
 // law `merged-pairs` of pair_walks these are the pairs' contours. Leans on pair_merge, points and
 // pair_walks' definitions.
+#![tactic(auto)]
+
 ghost use Rattle.std.specs.Prelude.{◌≡◌, ◌∷◌, [], ◌+◌, ◌<◌};
 ghost use Rattle.pair_merge.specs.Putting.{RoomAfter, CornersPut};
 ghost use Rattle.pair_walks.specs.Walks.{Walks, contours_in};

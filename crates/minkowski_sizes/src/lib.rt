@@ -2,6 +2,8 @@
 // two medium, small or tiny ones, which are faster to set up; by numbers, but for tiny operands and
 // few pairs. Each size answers as `Answers` of minkowski_work/specs/Scratch.antt says, with its
 // refusals. Leans on minkowski_faults, minkowski_work and minkowski_keyed.
+#![tactic(auto)]
+
 ghost use Rattle.std.specs.Prelude.{◌≡◌, false, true};
 ghost use Rattle.minkowski_work.specs.Scratch.{call_of, Accepted, Answers};
 ghost use Rattle.minkowski_sizes.specs.Sizes.{tiny_places, small_places, medium_places, FitsIn, few_pairs, FewAsked};

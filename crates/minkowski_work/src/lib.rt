@@ -3,6 +3,8 @@
 // `walks_fault`, which leaves the walks there, the left operand's first (`WalksTold` of
 // specs/Scratch.antt); `pairs_over` merges the pairs into the lent buffers once there is room (22,
 // 21), its answer being `Answers`. Leans on minkowski_faults, pair_unroll_all and minkowski_answer.
+#![tactic(auto)]
+
 ghost use Rattle.std.specs.Prelude.{◌≡◌, false, ◌+◌, ◌*◌, ◌/◌, length};
 ghost use Rattle.table.specs.Table.{table_broken, part_count};
 ghost use Rattle.minkowski_work.specs.Scratch.{call_of, Answers, AcceptedWithRoom, WalksTold};

@@ -180,10 +180,10 @@ runs_is {d} {s} (f ∷ l) nd ns e nl dl al =
     (λ k. let t : Same s f = same_trans ns nd nl.0 e k in
     let a : AddSame s f = add_same ns nl.0 t in
     grouped_two ns nl.0 t
-    (runs_is l nd a.nonzero (same_trans a.nonzero nl.0 nd a.same (same_sym k)) nl.1 dl.1 al.1))
+    (runs_is {d = d} {s = s +ᵖ f} l nd a.nonzero (same_trans a.nonzero nl.0 nd a.same (same_sym k)) nl.1 dl.1 al.1))
     (λ k. let t : Lt s f = same_lt ns nd nl.0 e k in
     grouped_next ns (t, all_map2 l (λ x n m. lt_le_trans ns nl.0 n t m) nl.1 al.0)
-    (runs_is l nl.0 nl.0 (same_refl f) nl.1 al.0 al.1))
+    (runs_is {d = f} {s = f} l nl.0 nl.0 (same_refl f) nl.1 al.0 al.1))
 
 -- any weakly ascending list
 pub grouped_is : {l : List Pt} → All Nz l → Sorted Le l → Grouped l (grouped l)

@@ -164,9 +164,9 @@ module _ {r : Pt} (nr : Nz r) (P : Pt) {E : List Pt} (c : Convex E) where
   bound_from : {A B : List Pt} {q : Pt} → Split Le E A B → q ≡ P +ᵖ sumᵖ A → All (λ p. cross p r ≤ℤ cross (P +ᵖ cut r E) r) (corners_from q B)
   unfolding corners_from
   bound_from {B = []} s e = tt
-  bound_from {A} {B = b ∷ B} s e = (
+  bound_from {A = A} {B = b ∷ B} {q = q} s e = (
     subst (λ v. cross v r ≤ℤ cross (P +ᵖ cut r E) r) (sym e) (shift P (sumᵖ A) (cut r E) r (no_corner_passes nr c s)),
-    bound_from (split_next s) (ap (λ v. v +ᵖ b) e ∙ +ᵖ_next P (sumᵖ A) b ∙ ap (λ v. P +ᵖ v) (sym (sum_cons b A))),
+    bound_from {A = b ∷ A} {B = B} {q = q +ᵖ b} (split_next s) (ap (λ v. v +ᵖ b) e ∙ +ᵖ_next P (sumᵖ A) b ∙ ap (λ v. P +ᵖ v) (sym (sum_cons b A))),
   )
     where
       shift : (p a b r : Pt) → cross a r ≤ℤ cross b r → cross (p +ᵖ a) r ≤ℤ cross (p +ᵖ b) r

@@ -9,7 +9,7 @@ use mathlib.Core.Path.{◌≡◌, refl, sym, ◌∙◌, ap, ap₂, subst}
 use mathlib.Core.Bool.{Bool, true, not, cond}
 use mathlib.Core.Logic.{◌⊎◌, inl, inr}
 use mathlib.Core.List.Permᴰ
-use mathlib.Core.List.{List, [], ◌∷◌, ◌++◌, map, map_append, reverse, Permᴰ}
+use mathlib.Core.List.{List, [], ◌∷◌, ◌++◌, map, map-append, reverse, Permᴰ}
 use Prim.Native.Nat.{ℕ, ◌+◌, ◌-◌}
 use native.Mathlib.Nat.{add_left_comm}
 use borrow.Author.Tests.{eqb-true}
@@ -87,7 +87,7 @@ into_edges : (p : Pt) (l : List Pt) → into (last_of p l) (p ∷ l) ≡ rotate 
 unfolding edges links
 into_edges p l =
     sym (rotate_append (into p l) ((p -ᵖ last_of p l) ∷ []))
-    ∙ ap (rotate (length (into p l))) (sym (ap (map (λ e. e.1 -ᵖ e.0)) (neighbours_cons p l ∙ links_last p l p) ∙ map_append (λ e. e.1 -ᵖ e.0) (links p l) ((last_of p l, p) ∷ [])))
+    ∙ ap (rotate (length (into p l))) (sym (ap (map (λ e. e.1 -ᵖ e.0)) (neighbours_cons p l ∙ links_last p l p) ∙ map-append (λ e. e.1 -ᵖ e.0) (links p l) ((last_of p l, p) ∷ [])))
 
 -- where the last of l is q, the turns of what is kept are those of the nonzero edges into l
 fresh_turns : {q : Pt} (l : List Pt) → last_of q l ≡ q → Permᴰ (turns (fresh q l)) (neighbours (live (into q l)))

@@ -74,9 +74,9 @@ module _ {M : List Pt} where
   corners_from_lem : (P : Pt) {q : Pt} {A B : List Pt} → Split Lt M A B → q ≡ P +ᵖ sumᵖ A → corners_from q B ≡ map (λ b. P +ᵖ cut b M) B
   unfolding corners_from
   corners_from_lem P {B = []} s e = refl
-  corners_from_lem P {A} {B = b ∷ B} s e =
+  corners_from_lem P {q = q} {A = A} {B = b ∷ B} s e =
       ap₂ ◌∷◌ (e ∙ ap (λ v. P +ᵖ v) (sym (cut_split s)))
-      (corners_from_lem P (split_next s) (ap (λ v. v +ᵖ b) e ∙ +ᵖ_next P (sumᵖ A) b ∙ ap (λ v. P +ᵖ v) (sym (sum_cons b A))))
+      (corners_from_lem P {q = q +ᵖ b} {A = b ∷ A} {B = B} (split_next s) (ap (λ v. v +ᵖ b) e ∙ +ᵖ_next P (sumᵖ A) b ∙ ap (λ v. P +ᵖ v) (sym (sum_cons b A))))
 
   -- along the list from a, and to the first edge f at its end
   cuts_from : (f : Pt) → cut f M ≡ O → sumᵖ M ≡ O → {A : List Pt} {a : Pt} (B : List Pt) → Split Lt M A (a ∷ B) → All (λ c. cut c.1 M ≡ c.0 +ᵖ cut c.0 M) (links a (B ++ (f ∷ [])))

@@ -34,15 +34,15 @@ module _ {E : List Pt} (c : Convex E) where
   none_below : {A B : List Pt} {u : Pt} → Split Le E A B → u ≡ sumᵖ A → All (λ k. pos 0 ≤ℤ k) (crossings u B)
   unfolding crossings
   none_below {B = []} s e = tt
-  none_below {A} {B = b ∷ B} s e = (subst (λ v. pos 0 ≤ℤ cross v b) (sym e) (left_weakly c s), none_below (split_next s) (next_sum b A e))
+  none_below {A = A} {B = b ∷ B} {u = u} s e = (subst (λ v. pos 0 ≤ℤ cross v b) (sym e) (left_weakly c s), none_below {A = b ∷ A} {B = B} {u = u +ᵖ b} (split_next s) (next_sum b A e))
 
   -- u, the sum of the edges before, lies along v and b along u, so b lies along v
   all_along : (v : Pt) {a : Pt} {A : List Pt} {B : List Pt} {u : Pt} → Split Le E (a ∷ A) B → u ≡ sumᵖ (a ∷ A) → Line v u → All (λ k. k ≡ pos 0) (crossings u B) → All (Line v) B
   unfolding crossings
   all_along v {B = []} s e h z = tt
-  all_along v {a} {A} {B = b ∷ B} {u} s e h z =
+  all_along v {a = a} {A = A} {B = b ∷ B} {u = u} s e h z =
       let k : Line v b = line_trans v b (subst Nz (sym e) (nz_of_up (up_corner c s))) h (line_swap u b z.0) in
-      (k, all_along v (split_next s) (next_sum b (a ∷ A) e) (line_add v u b h k) z.1)
+      (k, all_along v {a = b} {A = a ∷ A} {B = B} {u = u +ᵖ b} (split_next s) (next_sum b (a ∷ A) e) (line_add v u b h k) z.1)
 
 -- so the winding is above 0
 pub winding_pos : {E : List Pt} → Convex E → pos 0 <ℤ sumℤ (crossings O E)

@@ -5,6 +5,8 @@
 // by side, the first into the lent corners and the others into work buffers; `count_one` and
 // `count_four` only count them. That these are the merged walks is the law `chain-merged`. Leans on
 // direction_keys and pair_merge.
+#![tactic(auto)]
+
 ghost use Rattle.std.specs.Prelude.{◌≡◌, Bool, true, false, cond, ◌∷◌, [], ◌+◌, ◌<◌, ◌≤◌, ◌^◌, ltb, length, get_or};
 ghost use Rattle.plane.specs.Plane.{◌+ᵖ◌};
 ghost use Rattle.points.specs.Points.{corner_in};
@@ -12,7 +14,7 @@ ghost use Rattle.pair_merge.specs.Putting.{RoomAfter, CornersPut};
 ghost use Rattle.pair_chains.specs.Chains.{left_after, right_after, contour_from, chain_contour, chain, chain_of, four_lengths, both_going, lane_of, Buffers, Runs, Low, Fits, FourFit, Countable};
 
 // Where a pair is being merged: the places of the two walks, and how many corners are put.
-#[derive(Drop)]
+#[derive(Clone, Copy)]
 pub struct Lane {
     pub i: usize,
     pub j: usize,
@@ -21,7 +23,7 @@ pub struct Lane {
 
 // Where a pair's walks begin, and the sum of the places of their last points; 0, 0, 0 where one is
 // empty.
-#[derive(Drop)]
+#[derive(Clone, Copy)]
 pub struct Pair {
     pub i: usize,
     pub j: usize,
@@ -29,7 +31,7 @@ pub struct Pair {
 }
 
 // Four pairs, and how many corners stand where two and four lanes put theirs.
-#[derive(Drop)]
+#[derive(Clone, Copy)]
 pub struct Pairs {
     pub a: Pair,
     pub b: Pair,
@@ -37,13 +39,13 @@ pub struct Pairs {
     pub d: Pair,
 }
 
-#[derive(Drop)]
+#[derive(Clone, Copy)]
 pub struct Two {
     pub a: usize,
     pub b: usize,
 }
 
-#[derive(Drop)]
+#[derive(Clone, Copy)]
 pub struct Four {
     pub a: usize,
     pub b: usize,

@@ -2,7 +2,7 @@
 -- 1, and so on (`lines_in_order`). Assumes nothing.
 use mathlib.Core.Path.{◌≡◌, refl, sym, ◌∙◌, ap, ap₂}
 use mathlib.Core.Bool.{Bool}
-use mathlib.Core.List.{List, [], ◌∷◌, ◌++◌, map, flatten, append_assoc, append-nil, map_append}
+use mathlib.Core.List.{List, [], ◌∷◌, ◌++◌, map, flatten, append_assoc, append-nil, map-append}
 use Prim.Native.Nat.{ℕ, zero, suc, ◌+◌, ◌≤◌, ◌<◌}
 use native.Mathlib.Omega.{arith}
 use lib.ListN.{length, get_or, take, length-map, get_or-map}
@@ -33,7 +33,7 @@ module _ {A : Type 0} (text : ℕ → A → List ℕ) where
       let f : ℕ → List ℕ = λ k. text k (get_or l k d) in
       ap (numbered 0) (take-suc l n d (omega arith)) ∙ numbered_snoc 0 (take n l) (get_or l n d)
       ∙ ap₂ (λ t k. t ++ text k (get_or l n d)) (numbered_take l d n (omega arith)) (omega (arith, length-take-le n l (omega arith)))
-      ∙ sym (ap flatten (map_append f (up_to n) (n ∷ [])) ∙ flatten_append (map f (up_to n)) (f n ∷ []) ∙ ap (λ t. flatten (map f (up_to n)) ++ t) (append-nil (f n)))
+      ∙ sym (ap flatten (map-append f (up_to n) (n ∷ [])) ∙ flatten_append (map f (up_to n)) (f n ∷ []) ∙ ap (λ t. flatten (map f (up_to n)) ++ t) (append-nil (f n)))
 
   numbered_all : (l : List A) (d : A) → numbered 0 l ≡ flatten (map (λ k. text k (get_or l k d)) (up_to (length l)))
   numbered_all l d = ap (numbered 0) (sym (take_all (length l) l (omega arith))) ∙ numbered_take l d (length l) (omega arith)

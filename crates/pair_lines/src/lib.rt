@@ -2,6 +2,8 @@
 // `put_head` the head line, `put_line` the line of one pair of unrolled walks, merged by numbers
 // into a work buffer. By the law `line-of-pair` it is the line of the pair's contour, and a buffer
 // of 53,399 bytes holds any. Leans on text and minkowski_order.
+#![tactic(auto)]
+
 ghost use Rattle.std.specs.Prelude.{◌+◌, ◌≤◌, length};
 ghost use Rattle.corners.specs.Corners.{points_of};
 ghost use Rattle.text.specs.Put.{PutText};

@@ -2,6 +2,8 @@
 // has the definitions): `append_pair` puts the corners of `merged_of` into lent numbers after those
 // put before, a corner a turn, and answers how many stand there then. By the law `pair-merged` they
 // are the pair's contour. Leans on pair_points, points (points read) and plane.
+#![tactic(auto)]
+
 ghost use Rattle.std.specs.Prelude.{◌≡◌, ◌∷◌, [], ◌⊎◌, ◌+◌, ◌<◌, length, drop, ◌+ℤ◌};
 ghost use Rattle.plane.specs.Plane.{◌+ᵖ◌, angle_cmp};
 ghost use Rattle.plane.specs.Machine.{Coordinate, vector, Short};
@@ -13,7 +15,7 @@ use plane::{IntPoint, IntVector, Ordering};
 
 // Where a merge stands once one list has no edge left: a point of each, and how many corners are
 // put.
-#[derive(Drop)]
+#[derive(Clone, Copy)]
 pub struct Halt {
     pub i: usize,
     pub j: usize,

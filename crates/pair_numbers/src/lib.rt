@@ -1,6 +1,8 @@
 // The numbers of walks' points (direction_keys), by which pairs are merged: `number_walks` writes
 // them for all walks of two operands, once, into a lent buffer with a place a point (`Numbered` of
 // specs/Numbers.antt). Leans on direction_keys, pair_merge (edges read), pair_walks and plane.
+#![tactic(auto)]
+
 ghost use Rattle.std.specs.Prelude.{◌≡◌, ◌+◌, ◌<◌, ◌^◌, length};
 ghost use Rattle.points.specs.Points.{Grid};
 ghost use Rattle.pair_points.specs.Points.{edge_at};

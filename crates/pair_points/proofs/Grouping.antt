@@ -120,14 +120,14 @@ module _
     (rel-cons : (e : Pt) (l m : List Pt) → Nz e → R l m → R (e ∷ l) (e ∷ m))
     (rel-two : (e f : Pt) (l : List Pt) → Nz e → Nz f → Same e f → All Nz l → R (e ∷ f ∷ l) ((e +ᵖ f) ∷ l)) where
   runs_by : {d s : Pt} (l : List Pt) → Nz d → Nz s → Same s d → All Nz l → R (s ∷ l) (runs d s l)
-  runs_by {s} [] nd ns e nl = unfold runs in rel-refl (s ∷ [])
-  runs_by {d} {s} (f ∷ l) nd ns e nl = by_test (is_equal (angle_cmp d f))
+  runs_by {d = d} {s = s} [] nd ns e nl = unfold runs in rel-refl (s ∷ [])
+  runs_by {d = d} {s = s} (f ∷ l) nd ns e nl = by_test (is_equal (angle_cmp d f))
       (λ h. let t : Same s f = same_trans ns nd nl.0 e (test_same h) in
       let a : AddSame s f = add_same ns nl.0 t in
       rw (runs_on d s f l h)
       (rel-trans (s ∷ f ∷ l) ((s +ᵖ f) ∷ l) (runs d (s +ᵖ f) l) (rel-two s f l ns nl.0 t nl.1)
-      (runs_by l nd a.nonzero (same_trans a.nonzero nl.0 nd a.same (same_sym (test_same h))) nl.1)))
-      (λ h. rw (runs_turn d s f l h) (rel-cons s (f ∷ l) (runs f f l) ns (runs_by l nl.0 nl.0 (same_refl f) nl.1)))
+      (runs_by {d = d} {s = s +ᵖ f} l nd a.nonzero (same_trans a.nonzero nl.0 nd a.same (same_sym (test_same h))) nl.1)))
+      (λ h. rw (runs_turn d s f l h) (rel-cons s (f ∷ l) (runs f f l) ns (runs_by {d = f} {s = f} l nl.0 nl.0 (same_refl f) nl.1)))
 
   pub grouped_by : (l : List Pt) → All Nz l → R l (grouped l)
   unfolding grouped

@@ -68,12 +68,12 @@ pub as_off : {d s f : Pt} → Nz d → Nz s → Nz f → Same s d → is_equal (
 as_off {s} {f} nd ns nf e h = by_test (is_equal (angle_cmp s f)) (λ t. differ (sym h ∙ same_test (same_trans nd ns nf (same_sym e) (test_same t)))) (λ t. t)
 
 runs_apart : {d s : Pt} (l : List Pt) → Nz d → Nz s → Same s d → All Nz l → Run d (runs d s l)
-runs_apart [] nd ns e nl = unfold runs in record { off = λ x nx. off_as nx nd ns e; apart = (tt, tt) }
-runs_apart {d} {s} (f ∷ l) nd ns e nl = by_test (is_equal (angle_cmp d f))
+runs_apart {d = d} {s = s} [] nd ns e nl = unfold runs in record { off = λ x nx. off_as nx nd ns e; apart = (tt, tt) }
+runs_apart {d = d} {s = s} (f ∷ l) nd ns e nl = by_test (is_equal (angle_cmp d f))
     (λ h. let a : AddSame s f = add_same ns nl.0 (same_trans ns nd nl.0 e (test_same h)) in
     subst (Run d) (sym (runs_on d s f l h))
-    (runs_apart l nd a.nonzero (same_trans a.nonzero nl.0 nd a.same (same_sym (test_same h))) nl.1))
-    (λ h. let r : Run f (runs f f l) = runs_apart l nl.0 nl.0 (same_refl f) nl.1 in
+    (runs_apart {d = d} {s = s +ᵖ f} l nd a.nonzero (same_trans a.nonzero nl.0 nd a.same (same_sym (test_same h))) nl.1))
+    (λ h. let r : Run f (runs f f l) = runs_apart {d = f} {s = f} l nl.0 nl.0 (same_refl f) nl.1 in
     subst (Run d) (sym (runs_turn d s f l h))
     (record { off = λ x nx. off_as nx nd ns e; apart = (r.off s ns (as_off nd ns nl.0 e h), r.apart) }))
 

@@ -37,10 +37,10 @@ module _ (Q : Pt → Type 0) where
   -- runs made one
   along_runs : {p : Pt} (d s : Pt) (l : List Pt) → Q p → All Q (points_along (p +ᵖ s) l) → All Q (points_along p (runs d s l))
   unfolding points_along
-  along_runs d s [] q h = unfold runs in (q, h)
-  along_runs {p} d s (f ∷ l) q h = by_test (is_equal (angle_cmp d f))
-      (λ t. rw (runs_on d s f l t) (along_runs d (s +ᵖ f) l q (subst (λ v. All Q (points_along v l)) (+ᵖ_assoc p s f) h.1)))
-      (λ t. rw (runs_turn d s f l t) (q, along_runs f f l h.0 h.1))
+  along_runs {p = p} d s [] q h = unfold runs in (q, h)
+  along_runs {p = p} d s (f ∷ l) q h = by_test (is_equal (angle_cmp d f))
+      (λ t. rw (runs_on d s f l t) (along_runs {p = p} d (s +ᵖ f) l q (subst (λ v. All Q (points_along v l)) (+ᵖ_assoc p s f) h.1)))
+      (λ t. rw (runs_turn d s f l t) (q, along_runs {p = p +ᵖ s} f f l h.0 h.1))
 
   pub along_grouped : (p : Pt) (E : List Pt) → All Q (points_along p E) → All Q (points_along p (grouped E))
   unfolding points_along grouped

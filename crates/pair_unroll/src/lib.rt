@@ -3,6 +3,8 @@
 // segment is three points, a point one, an empty contour none. It promises `unrolled` of
 // pair_points, or tells that the winding leaves 64 bits (fault 8). Corners are read through corners
 // alone. Leans on walk_begin, walk_move, walk_read, corners, plane and points.
+#![tactic(auto)]
+
 ghost use Rattle.std.specs.Prelude.{◌≡◌, ◌<◌, length};
 ghost use Rattle.plane.specs.Machine.{point, OnGrid};
 ghost use Rattle.corners.specs.Corners.{points_of};
@@ -15,7 +17,7 @@ use walk::Begun;
 use walk_move::point_of;
 
 // How many points there are now, or that the contour's winding leaves 64 bits.
-#[derive(Drop)]
+#[derive(Clone, Copy)]
 pub enum Unrolled {
     To(usize),
     Leaves,

@@ -4,7 +4,7 @@
 -- point in range (`parts_ranged`). Assumes nothing.
 use mathlib.Core.Path.{◌≡◌, refl, sym, ◌∙◌, ap, subst}
 use mathlib.Core.Bool.{Bool, true, false, cond}
-use mathlib.Core.List.{List, [], ◌∷◌, ◌++◌, map_append, flatten}
+use mathlib.Core.List.{List, [], ◌∷◌, ◌++◌, map-append, flatten}
 use Prim.Native.Nat.{ℕ, suc, ◌+◌, ◌-◌, ◌*◌, ◌/◌, ◌%◌, ◌≤◌, ◌<◌}
 use native.Mathlib.Numerals.{add-one}
 use native.Mathlib.Omega.{arith}
@@ -119,7 +119,7 @@ module _ (reflected : Bool) (ps : List (List Pt)) (done : ℕ) where
           }
         where
           more : unrolled_parts reflected (take (p + 1) ps) ≡ unrolled_parts reflected (take p ps) ++ (unrolled reflected (get_or ps p []) ∷ [])
-          more = ap (λ m. unrolled_parts reflected (take m ps)) (add-one p) ∙ ap (unrolled_parts reflected) (take-suc ps p [] h) ∙ map_append (unrolled reflected) (take p ps) (get_or ps p [] ∷ [])
+          more = ap (λ m. unrolled_parts reflected (take m ps)) (add-one p) ∙ ap (unrolled_parts reflected) (take-suc ps p [] h) ∙ map-append (unrolled reflected) (take p ps) (get_or ps p [] ∷ [])
 
     pub unrolling_end : length ps ≤ p → AllUnrolled reflected ps done points₀ firsts₀ points firsts false
     unfolding some_winding_leaves

@@ -2,6 +2,8 @@
 // (`unroll_all`): walk n is the points from firsts[n] up to firsts[n + 1]. Or it is told that some
 // winding leaves 64 bits (fault 8), and then what the buffers hold is of no matter. Leans on
 // pair_unroll and points.
+#![tactic(auto)]
+
 ghost use Rattle.std.specs.Prelude.{[], get_or};
 ghost use Rattle.table.specs.Table.{table_parts};
 ghost use Rattle.pair_unroll.specs.Unroll.{UnrolledBy};

@@ -3,7 +3,7 @@
 -- lists one after the other (`both_lefts`, `both_rights`); how many contours their pairs have
 -- (`contours_count`); a row of merges and all rows in pieces. Assumes nothing.
 use mathlib.Core.Path.{◌≡◌, sym, ◌∙◌, ap, ap₂}
-use mathlib.Core.List.{List, [], ◌∷◌, ◌++◌, map, map_append, flatten, append-nil}
+use mathlib.Core.List.{List, [], ◌∷◌, ◌++◌, map, map-append, flatten, append-nil}
 use Prim.Native.Nat.{ℕ, suc, ◌+◌, ◌*◌, ◌<◌}
 use native.Mathlib.Nat.{suc-mul}
 use native.Mathlib.Numerals.{add-one}
@@ -62,14 +62,14 @@ contours_count {firsts} {points} left right w =
 
 module _ (a : List Pt) (rs : List (List Pt)) {q : ℕ} (h : q < length rs) where
   pub row_suc : merged_row a (take (q + 1) rs) ≡ merged_row a (take q rs) ++ (merged_of a (get_or rs q []) ∷ [])
-  row_suc = ap (λ n. merged_row a (take n rs)) (add-one q) ∙ ap (merged_row a) (take-suc rs q [] h) ∙ map_append (merged_of a) (take q rs) (get_or rs q [] ∷ [])
+  row_suc = ap (λ n. merged_row a (take n rs)) (add-one q) ∙ ap (merged_row a) (take-suc rs q [] h) ∙ map-append (merged_of a) (take q rs) (get_or rs q [] ∷ [])
 
   pub row_whole : merged_row a rs ≡ merged_row a (take q rs) ++ ((merged_of a (get_or rs q []) ∷ []) ++ merged_row a (drop (suc q) rs))
-  row_whole = ap (merged_row a) (sym (take-append-drop q rs)) ∙ map_append (merged_of a) (take q rs) (drop q rs) ∙ ap (λ l. merged_row a (take q rs) ++ merged_row a l) (drop-cons rs q [] h)
+  row_whole = ap (merged_row a) (sym (take-append-drop q rs)) ∙ map-append (merged_of a) (take q rs) (drop q rs) ∙ ap (λ l. merged_row a (take q rs) ++ merged_row a l) (drop-cons rs q [] h)
 
 module _ (ls rs : List (List Pt)) {p : ℕ} (h : p < length ls) where
   all_append : (x y : List (List Pt)) → merged_all (x ++ y) rs ≡ merged_all x rs ++ merged_all y rs
-  all_append x y = ap flatten (map_append (λ a. merged_row a rs) x y) ∙ flatten_append (map (λ a. merged_row a rs) x) (map (λ a. merged_row a rs) y)
+  all_append x y = ap flatten (map-append (λ a. merged_row a rs) x y) ∙ flatten_append (map (λ a. merged_row a rs) x) (map (λ a. merged_row a rs) y)
 
   pub all_suc : merged_all (take (p + 1) ls) rs ≡ merged_all (take p ls) rs ++ merged_row (get_or ls p []) rs
   unfolding flatten

@@ -37,7 +37,7 @@ drop-take zero n l {j} e =
 drop-take (suc m) n [] {j} e = ap (drop (suc m)) (take-nil j) ∙ sym (take-nil n)
 drop-take (suc m) n (x ∷ l) {j} e =
     let i : j ≡ suc (m + n) = omega arith in
-    ap (λ j. drop (suc m) (take j (x ∷ l))) i ∙ drop-take m n l refl
+    ap (λ j. drop (suc m) (take j (x ∷ l))) i ∙ drop-take m n l {j = m + n} refl
 
 module _ (bytes : List ℕ) (k : ℕ) where
   abbrev p : ℕ

@@ -3,6 +3,8 @@
 // their length and counts); of a job without such a fault `bounds_at` and `read_operand` read an
 // operand, whose table begins at word LEFT or at word `right_place`. What they answer are equations
 // with specs/Job.antt. Leans on table_words and table.
+#![tactic(auto)]
+
 ghost use Rattle.std.specs.Prelude.{◌≡◌, false, ◌+◌, ◌*◌, ◌<◌, ◌≤◌, length};
 ghost use Rattle.integers.specs.Lists.{overlay};
 ghost use Rattle.pairs_job.specs.Job.{bounds_at, starts_at, corners_at, table_words, counts_broken, right_place, job_length_broken, shape_fault, TableIn};

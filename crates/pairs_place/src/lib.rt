@@ -4,6 +4,8 @@
 // first fault (7, 2, 9, 8, 10, 20), or where the place lies, and stops at a contour that the place
 // lies strictly inside. Its answer is `placed_by` of specs/Place.antt. Leans on pairs_work,
 // minkowski_order and placement.
+#![tactic(auto)]
+
 ghost use Rattle.std.specs.Prelude.{◌≡◌, ◌<◌};
 ghost use Rattle.plane.specs.Machine.{point, OnGrid};
 ghost use Rattle.pair_walks.specs.Walks.{pair_in, contours_in};

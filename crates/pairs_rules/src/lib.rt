@@ -2,6 +2,8 @@
 // on: `table_broken` tells whether it breaks them (fault 7), of a table that lies within the bytes
 // and whose counts are within the limits. It equals table's `table_broken` of pairs_job's `starts_at`
 // and `corners_at`. Leans on pairs_job, table_words and table.
+#![tactic(auto)]
+
 ghost use Rattle.std.specs.Prelude.{◌≡◌, false, ◌+◌, ◌*◌, ◌≤◌, length};
 ghost use Rattle.table.specs.Table.{table_broken};
 ghost use Rattle.pairs_job.specs.Job.{starts_at, corners_at, table_words, counts_broken};

@@ -85,7 +85,7 @@ steps_less m n a {x} s zero e h q = rw (eq-eqb (x - a) (x - a) refl)
 steps_less m n a {x} [] (suc k) e h q = absurd (omega arith)
 steps_less m n a {x} (y ∷ s) (suc k) e h q =
     let t = step m n x y s e in
-    rw (le-ltb (y - a) (x - a) (omega arith), le-ltb (x - a + m) (y - a) (omega arith)) (steps_less m n a s k t.rest (omega arith) (omega arith))
+    rw (le-ltb (y - a) (x - a) (omega arith), le-ltb (x - a + m) (y - a) (omega arith)) (steps_less m n a {x = y} s k t.rest (omega arith) (omega arith))
 
 starts_less : (m n : ℕ) (s : List ℕ) → steps_broken m n 0 s ≡ false → (f k : ℕ) → f + k ≤ length s
     → starts_broken m (get_or (0 ∷ s) (f + k) 0 - get_or (0 ∷ s) f 0) (map (λ t. t - get_or (0 ∷ s) f 0) (take (suc k) (drop f (0 ∷ s)))) ≡ false

@@ -52,7 +52,7 @@ Rise b (x ∷ y ∷ s) = (x ≤ y) × Rise b (y ∷ s)
 
 rise_bound : {b : ℕ} {x : ℕ} (s : List ℕ) → Rise b (x ∷ s) → x ≤ b
 rise_bound [] r = r
-rise_bound (y ∷ s) r = omega (arith, r.0, rise_bound {x = y} s r.1)
+rise_bound {b} {x} (y ∷ s) r = omega (arith, r.0, rise_bound {b = b} {x = y} s r.1)
 
 parts_less : (a b : ℕ) {x : ℕ} (s : List ℕ) (l : List Pt) → a ≤ x → Rise b (x ∷ s) → parts_of (map (λ t. t - a) (x ∷ s)) (slice a b l) ≡ parts_of (x ∷ s) l
 unfolding parts_of
@@ -64,7 +64,7 @@ parts_less a b {x} (y ∷ s) l h r =
 pub rise_by : {b : ℕ} (s : List ℕ) → ((k : ℕ) → suc k < length s → get_or s k 0 ≤ get_or s (suc k) 0) → ((k : ℕ) → k < length s → get_or s k 0 ≤ b) → Rise b s
 rise_by {b} [] r q = tt
 rise_by {b} (x ∷ []) r q = q 0 (omega arith)
-rise_by {b} (x ∷ y ∷ s) r q = (r 0 (omega arith), rise_by (y ∷ s) (λ k h. r (suc k) (omega arith)) (λ k h. q (suc k) (omega arith)))
+rise_by {b} (x ∷ y ∷ s) r q = (r 0 (omega arith), rise_by {b = b} (y ∷ s) (λ k h. r (suc k) (omega arith)) (λ k h. q (suc k) (omega arith)))
 
 pub parts_cut :
     (f m b : ℕ) (s : List ℕ) (l : List Pt) → f < length s → Rise b (take (suc m) (drop f s)) →

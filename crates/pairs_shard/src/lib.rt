@@ -4,6 +4,8 @@
 // whose left table is against the rules. What it answers and leaves in the lent bytes are equations
 // with specs/Shard.antt; that the shards put together are the whole is specs/Whole.antt. Leans on
 // pairs_job, pairs_rules, table_words and text.
+#![tactic(auto)]
+
 ghost use Rattle.std.specs.Prelude.{◌≡◌, ◌++◌, map, ◌+◌, ◌*◌, ◌-◌, ◌≤◌, length, take, drop};
 ghost use Rattle.std.proofs.Math.Seq.{slice};
 ghost use Rattle.io.specs.Counts.{IsPrefixLen};
@@ -18,7 +20,7 @@ use table_words::{put_word, word_at};
 
 // What `cut` answers: the fault number, 0 for none, and how many bytes were written, 0 where it
 // refused.
-#[derive(Drop)]
+#[derive(Clone, Copy)]
 pub struct Shard {
     pub fault: u32,
     pub size: usize,

@@ -1,7 +1,7 @@
 -- Rows of n one after another are numbered from 0 on: number k stands in row k / n at place k % n
 -- (`rows_numbered`). Assumes nothing.
 use mathlib.Core.Path.{◌≡◌, sym, ◌∙◌, ap, ap₂}
-use mathlib.Core.List.{List, [], ◌∷◌, ◌++◌, map, flatten, append_assoc, append-nil, map_append}
+use mathlib.Core.List.{List, [], ◌∷◌, ◌++◌, map, flatten, append_assoc, append-nil, map-append}
 use Prim.Native.Nat.{ℕ, zero, suc, ◌+◌, ◌*◌, ◌/◌, ◌%◌, ◌<◌, ◌≤◌}
 use native.Mathlib.Nat.{mul-add-div_right, mul-add-mod_self_right, div-eq_of_lt, mod-eq_of_lt}
 use native.Mathlib.Omega.{arith}
@@ -27,10 +27,10 @@ module _ {A : Type 0} (f : ℕ → ℕ → A) (n : ℕ) where
       ap (λ k. map numbered (up_to k)) z ∙ sym (append-nil (map numbered (up_to (m * n))))
   row_numbered m (suc j) h =
       let z : m * n + suc j ≡ suc (m * n + j) = omega arith in
-      ap (λ k. map numbered (up_to k)) z ∙ ap (map numbered) (up_to-suc (m * n + j)) ∙ map_append numbered (up_to (m * n + j)) ((m * n + j) ∷ [])
+      ap (λ k. map numbered (up_to k)) z ∙ ap (map numbered) (up_to-suc (m * n + j)) ∙ map-append numbered (up_to (m * n + j)) ((m * n + j) ∷ [])
       ∙ ap₂ (λ l x. l ++ (x ∷ [])) (row_numbered m j (omega arith)) (in_row m (omega arith))
       ∙ append_assoc (map numbered (up_to (m * n))) (map (f m) (up_to j)) (f m j ∷ [])
-      ∙ ap (λ l. map numbered (up_to (m * n)) ++ l) (sym (ap (map (f m)) (up_to-suc j) ∙ map_append (f m) (up_to j) (j ∷ [])))
+      ∙ ap (λ l. map numbered (up_to (m * n)) ++ l) (sym (ap (map (f m)) (up_to-suc j) ∙ map-append (f m) (up_to j) (j ∷ [])))
 
   abbrev row : ℕ → List A
   row i = map (f i) (up_to n)
@@ -40,5 +40,5 @@ module _ {A : Type 0} (f : ℕ → ℕ → A) (n : ℕ) where
   rows_numbered zero = let z : 0 ≡ 0 * n = omega arith in ap (λ k. map numbered (up_to k)) z
   rows_numbered (suc m) =
       let z : suc m * n ≡ m * n + n = omega arith in
-      ap flatten (map_append row (up_to m) (m ∷ [])) ∙ flatten_append (map row (up_to m)) (row m ∷ []) ∙ ap₂ ◌++◌ (rows_numbered m) (append-nil (row m))
+      ap flatten (map-append row (up_to m) (m ∷ [])) ∙ flatten_append (map row (up_to m)) (row m ∷ []) ∙ ap₂ ◌++◌ (rows_numbered m) (append-nil (row m))
       ∙ sym (ap (λ k. map numbered (up_to k)) z ∙ row_numbered m n (omega arith))

@@ -4,6 +4,8 @@
 // them one call puts is specs/Pieces.antt; that calls from 0 to the end hand over the whole text,
 // `pairs_text`, is specs/HandedOver.antt. Leans on pairs_work, pair_lines, minkowski_counted and
 // text.
+#![tactic(auto)]
+
 ghost use Rattle.std.specs.Prelude.{◌≡◌, ◌≤◌, length, get_or};
 ghost use mathlib.Core.List.{[], flatten};
 ghost use Rattle.io.specs.Counts.{IsPrefixLen};
@@ -26,7 +28,7 @@ const WORK: usize = corners::WIDTH * (2 * table::MAX_CONTOUR);
 
 // What one call handed over: how many bytes, how many pieces have been handed over with them, and
 // whether more are left.
-#[derive(Drop)]
+#[derive(Clone, Copy)]
 pub struct Chunk {
     pub size: usize,
     pub next: usize,

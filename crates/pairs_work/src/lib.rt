@@ -4,6 +4,8 @@
 // specs/Begun.antt, with pairs_job's `job_fault`, `left_of` and `right_of`). Of a job that is refused
 // nothing is said of the buffers. Leans on pairs_job, minkowski_faults, minkowski_work,
 // pair_numbers and a law of minkowski_keyed.
+#![tactic(auto)]
+
 ghost use Rattle.std.specs.Prelude.{◌≡◌};
 ghost use Rattle.minkowski_work.specs.Scratch.{call_of};
 ghost use Rattle.pairs_job.specs.Job.{job_fault};
@@ -25,7 +27,7 @@ pub const FIRSTS: usize = 2 * STARTS;
 
 // What a job answers before its lines: the fault number, 0 for none, how many parts each operand
 // has, and the result's bounds; all 0 where it is refused.
-#[derive(Drop)]
+#[derive(Clone, Copy)]
 pub struct Begun {
     pub fault: u32,
     pub left: usize,

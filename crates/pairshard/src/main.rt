@@ -4,23 +4,25 @@
 // refused by its number on standard error, and nothing is written. It reads one byte more than the
 // longest good job has: a longer one is refused whatever comes after them. Leans on input, commands
 // and pairs_shard.
+#![tactic(auto)]
+
 use pairs_job::LONGEST;
 
 const JOB: usize = LONGEST + 1;
 
-fn main() {
-    let from = commands::number_argument(1);
-    let to = commands::number_argument(2);
+fn main(rt: HostRuntime) {
+    let from = commands::number_argument(&rt, 1);
+    let to = commands::number_argument(&rt, 2);
     if !from.right || !to.right {
         io::write_all(2, b"pairshard FROM TO <JOB >SHARD\n");
         return;
     }
     let mut bytes = [0u8; JOB];
-    let n = input::read_input(&mut bytes);
+    let n = input::read_input(&rt, &mut bytes);
     let mut out = [0u8; LONGEST];
     let shard = pairs_shard::cut(&bytes[..n], from.bits as usize, to.bits as usize, &mut out);
     if shard.fault != 0 {
         commands::tell_refused(shard.fault);
     }
-    input::write_output(&out[..shard.size]);
+    input::write_output(&rt, &out[..shard.size]);
 }

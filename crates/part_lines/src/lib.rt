@@ -4,6 +4,8 @@
 // hold, so that a refusal which changed something shows (`print_lent`). The lists are read as far
 // as they reach, so any lists are taken; what is written is in io's hands, and each program's is
 // held to its file `stdout`. Leans on table, corners and lines.
+#![tactic(auto)]
+
 use table::Counts;
 
 // Writes corner j, where there is one.

@@ -3,6 +3,8 @@
 // file, any bytes, and lent bytes that hold the longest answer. What it leaves on their front is
 // `parts_bytes` of specs/Parts.antt, bytes past it are kept, and a refusal writes nothing. That
 // reading it gives the parts back is specs/ReadBack.antt. Leans on file_parts and table_write.
+#![tactic(auto)]
+
 ghost use Rattle.std.specs.Prelude.{◌≡◌};
 ghost use Rattle.io.specs.Counts.{IsPrefixLen};
 ghost use Rattle.table.specs.Table.{written};

@@ -5,6 +5,8 @@
 // and Writing.antt; proofs/ shows that they say the same, and what is sure of an accepted path
 // (specs/Accepted.antt). The calls over whole paths are path_import's and boundary_path's. Leans on
 // grid, corners and table.
+#![tactic(auto)]
+
 ghost use Rattle.std.specs.Prelude.{◌≡◌, true, cond, ◌<◌, T, length};
 ghost use Rattle.plane.specs.Machine.{point};
 ghost use Rattle.corners.specs.Corners.{points_of, with_corner};
@@ -14,7 +16,7 @@ ghost use Rattle.path.specs.Judging.{moved as movedOf, drawn as drawnOf, ended a
 use plane::IntPoint;
 
 // An item with the millimetres that it carries, after W3C SVG 2.
-#[derive(Drop)]
+#[derive(Clone, Copy)]
 pub enum PathItem {
     Move(f64, f64),
     Line(f64, f64),
@@ -26,7 +28,7 @@ pub enum PathItem {
 
 // An origin in millimetres, and how many steps there are to a millimetre.
 #[repr(C)]
-#[derive(Drop)]
+#[derive(Clone, Copy)]
 pub struct Frame {
     pub x: f64,
     pub y: f64,
@@ -34,14 +36,14 @@ pub struct Frame {
 }
 
 // A current point, in millimetres.
-#[derive(Drop)]
+#[derive(Clone, Copy)]
 pub struct Point {
     pub x: f64,
     pub y: f64,
 }
 
 // How far a path has come: before its move, behind it, behind its close, or out of order.
-#[derive(Drop)]
+#[derive(Clone, Copy)]
 pub enum Stage {
     Opening,
     Inside,
@@ -51,7 +53,7 @@ pub enum Stage {
 
 // What is known of a path up to some item: its stage, which is `Broken` too where a point lies past
 // the range, whether a grid coordinate is out of range, and the point reached.
-#[derive(Drop)]
+#[derive(Clone, Copy)]
 pub struct Judged {
     pub stage: Stage,
     pub off: bool,
@@ -60,7 +62,7 @@ pub struct Judged {
 
 // A fault number, 0 for none, and how many corners there are, 0 where the path is refused.
 #[repr(C)]
-#[derive(Drop)]
+#[derive(Clone, Copy)]
 pub struct PathCounts {
     pub fault: u32,
     pub corners: u32,

@@ -2,6 +2,8 @@
 // path is judged item by item, the first of faults 14, 7, 2 and 21 is told, and only then are the
 // corners written, each from its item again, so that there is no work array. The answer and the
 // lent corners equal the definitions of path/specs/Path.antt. Leans on path.
+#![tactic(auto)]
+
 ghost use Rattle.std.specs.Prelude.{◌≡◌, ◌<◌, length, take, get_or};
 ghost use Rattle.path.specs.Path.{path_counts, corners_left};
 ghost use Rattle.path.specs.Judging.{judge_from};

@@ -2,6 +2,8 @@
 // it or overlaps it, or the refusal. It reads a place, a left mesh file and a right mesh file from
 // standard input: `placed_text` of meshes_place/specs/Placed.antt of the bytes that it reads. Leans
 // on input and meshes_place.
+#![tactic(auto)]
+
 use meshes_place::LINE;
 use table_words::WORD;
 
@@ -12,10 +14,10 @@ const FILE: usize = mesh_file::HEADER + mesh::ROW_BYTES * mesh::MAX_TRIANGLES;
 // too long.
 const INPUT: usize = 2 * WORD + 2 * FILE + 1;
 
-fn main() {
+fn main(rt: HostRuntime) {
     let mut bytes = [0u8; INPUT];
-    let n = input::read_input(&mut bytes);
+    let n = input::read_input(&rt, &mut bytes);
     let mut line = [0u8; LINE];
     let length = meshes_place::put_placed(&bytes[..n], &mut line);
-    input::write_output(&line[..length]);
+    input::write_output(&rt, &line[..length]);
 }

@@ -3,6 +3,8 @@
 // nothing; its answer is `placed_of` of specs/Placement.antt. One pass over the starts, one over the
 // numbers, and one over the contours, each left at the first edge that the place is right of. Leans
 // on walk_read (a corner of lent numbers), table and plane.
+#![tactic(auto)]
+
 ghost use Rattle.std.specs.Prelude.{◌≡◌, true, false, cond, [], ◌<◌, get_or, pos};
 ghost use Rattle.std.specs.Int.Signed.{le_z, lt_z};
 ghost use Rattle.plane.specs.Plane.{area_two, eq_pt};
@@ -17,7 +19,7 @@ use plane::IntPoint;
 
 // Where a place lies: inside no contour, on the rim of one and strictly inside none, strictly
 // inside one.
-#[derive(Drop)]
+#[derive(Clone, Copy)]
 pub enum Contact {
     Apart,
     Touching,
@@ -25,7 +27,7 @@ pub enum Contact {
 }
 
 // That, or the fault number.
-#[derive(Drop)]
+#[derive(Clone, Copy)]
 pub enum Placed {
     At(Contact),
     Refused(u32),

@@ -2,27 +2,29 @@
 // int/minkowski_sum.rs. Each function equals its definition in specs/Plane.antt on coordinates
 // strictly between -2^30 and 2^30 (an inner layer: the entry points above have refused all others),
 // and says how large its result can be. Leans on integers.
+#![tactic(auto)]
+
 ghost use Rattle.std.specs.Prelude.{◌≡◌, ◌-ℤ◌, ◌*ℤ◌};
 ghost use Rattle.plane.specs.Plane.{in_range, on_grid, eq_pt, cross, area_two, lower, is_zero, by_cross, angle_cmp, ◌-ᵖ◌};
 ghost use Rattle.plane.specs.Machine.{Coordinate, Extent, CrossSize, OnGrid, Short, point, vector};
 
 // A point of the integer grid.
 #[repr(C)]
-#[derive(Drop)]
+#[derive(Clone, Copy)]
 pub struct IntPoint {
     pub x: i32,
     pub y: i32,
 }
 
 // The difference of two points, in the Rust's wide number.
-#[derive(Drop)]
+#[derive(Clone, Copy)]
 pub struct IntVector {
     pub x: i64,
     pub y: i64,
 }
 
 // The answer of a comparison.
-#[derive(Drop)]
+#[derive(Clone, Copy)]
 pub enum Ordering {
     Less,
     Equal,

@@ -2,7 +2,7 @@
 -- `appended_one`, `appended_more`). Assumes nothing.
 use mathlib.Core.Path.{◌≡◌, refl, sym, ◌∙◌, ap}
 use mathlib.Core.Bool.{true}
-use mathlib.Core.List.{List, [], ◌∷◌, ◌++◌, map, map_append, append_assoc, append-nil}
+use mathlib.Core.List.{List, [], ◌∷◌, ◌++◌, map, map-append, append_assoc, append-nil}
 use Prim.Native.Nat.{ℕ, ◌+◌, ◌<◌}
 use native.Mathlib.Numerals.{add-one}
 use native.Mathlib.Omega.{arith}
@@ -27,7 +27,7 @@ pub appended_one : (points : List (List ℤ)) {n : ℕ} (p : Pt) → n < length 
 appended_one points {n} p h = record {
   size = length-set points n (pair_of p);
   count = refl;
-  written = ap (map corner_of) (ap (λ k. take k (set points n (pair_of p))) (add-one n) ∙ take-suc-set points n (pair_of p) h) ∙ map_append corner_of (take n points) (pair_of p ∷ []);
+  written = ap (map corner_of) (ap (λ k. take k (set points n (pair_of p))) (add-one n) ∙ take-suc-set points n (pair_of p) h) ∙ map-append corner_of (take n points) (pair_of p ∷ []);
 }
 
 pub appended_more : {a b : List Pt} {p q r : List (List ℤ)} {i j k : ℕ} → Appended a p i q j → Appended b q j r k → Appended (a ++ b) p i r k

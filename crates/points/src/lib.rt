@@ -2,6 +2,8 @@
 // What is gathered is said in specs/: Points (the points of a buffer, and points appended),
 // Gathered (parts with their starts); their laws in proofs/. Joining, splitting and pairs lean on
 // it. It leans on table (starts of parts), plane and integers.
+#![tactic(auto)]
+
 ghost use Rattle.std.specs.Prelude.{◌≡◌, ◌<◌, ◌^◌, length, set};
 ghost use Rattle.plane.specs.Machine.{point, OnGrid};
 ghost use Rattle.points.specs.Points.{corner_in, pair_of, Grid};
@@ -9,7 +11,7 @@ ghost use Rattle.points.specs.Points.{corner_in, pair_of, Grid};
 use plane::IntPoint;
 
 // How many parts and corners are gathered.
-#[derive(Drop)]
+#[derive(Clone, Copy)]
 pub struct Tally {
     pub parts: usize,
     pub corners: usize,

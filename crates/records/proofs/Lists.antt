@@ -2,7 +2,7 @@
 -- read (`listed`); how many words can be read, and that those are all that there are
 -- (`taken_words`); rows, one more a turn. Assumes nothing.
 use mathlib.Core.Path.{◌≡◌, refl, sym, ◌∙◌, ap}
-use mathlib.Core.List.{List, [], ◌∷◌, ◌++◌, map_append}
+use mathlib.Core.List.{List, [], ◌∷◌, ◌++◌, map-append}
 use Prim.Native.Nat.{ℕ, ◌+◌, ◌-◌, ◌/◌, ◌≤◌, ◌<◌, min}
 use native.Mathlib.Numerals.{add-one}
 use native.Mathlib.Omega.{arith}
@@ -76,7 +76,7 @@ module _ (r : List ℕ) where
 
   rows_more : (k : ℕ) → rows_in r (k + 1) ≡ rows_in r k ++ (row_in r k ∷ [])
   unfolding rows_in
-  rows_more k = rw (add-one, up_to-suc, map_append)
+  rows_more k = rw (add-one, up_to-suc, map-append)
 
   pub row_more : (old : List (List ℤ)) {buf : List (List ℤ)} {k : ℕ} {v : List ℤ} → k < length old → buf ≡ overlay (rows_in r k) old → v ≡ row_in r k
       → set buf k v ≡ overlay (rows_in r (k + 1)) old

@@ -3,6 +3,8 @@
 // them. What the input holds is its own; a record that is not whole is none. Of any bytes each
 // reader answers what specs/Record.antt says, so that a program which reads by them needs no proof
 // but for its loop. Leans on mesh, table_words and io.
+#![tactic(auto)]
+
 ghost use Rattle.std.specs.Prelude.{◌≡◌, ◌≤◌, ◌<◌, min, length};
 ghost use Rattle.table.specs.Stored.{word_at};
 ghost use Rattle.records.specs.Record.{Counted, Listed, Readable, words_in, numbers_in, row_in, rows_in};

@@ -2,12 +2,14 @@
 // and what the pairs program prints of its job. What it prints is its file `stdout`, which the
 // oracle wrote with the contours of the Rust and the refusals of the judge (vectors/README.md).
 // Leans on records, lines and pairs_print.
+#![tactic(auto)]
+
 use records::HEAD;
 
 // A head, and one byte more than the longest good job has.
 const RECORD: usize = HEAD + pairs_job::LONGEST + 1;
 
-fn main() {
+fn main(rt: HostRuntime) {
     let mut k: u64 = 0;
     while k < records::MOST {
         let mut buf = [0u8; RECORD];
@@ -16,7 +18,7 @@ fn main() {
             break;
         }
         lines::print(b"case ", k, b":\n");
-        pairs_print::print_job(&buf[HEAD..n]);
+        pairs_print::print_job(&rt, &buf[HEAD..n]);
         k += 1;
     }
 }

@@ -2,6 +2,8 @@
 // prints a line with what was told and what the lent numbers hold then. What it prints is its file
 // `stdout`, which the oracle wrote with the judge's answers (vectors/README.md). Leans on
 // boundary_path, path, records and lines.
+#![tactic(auto)]
+
 ghost use Rattle.std.specs.Prelude.{◌<◌, ◌≤◌, length};
 ghost use Rattle.records.specs.Record.{Counted};
 

@@ -2,6 +2,8 @@
 // again and prints a line with what was answered. What it prints is its file `stdout`, which the
 // oracle wrote with the answers of the Rust and of the judge (vectors/README.md). Leans on
 // boundary_plane, records and lines.
+#![tactic(auto)]
+
 use boundary_plane::Told;
 
 // The bytes of a record: its size, the kind and eight coordinates, a word each.

@@ -2,6 +2,8 @@
 // prints a line with what was answered and what the lent places hold then. What it prints is its
 // file `stdout`, which the oracle wrote with the answers of the Rust and of the judge
 // (vectors/README.md). Leans on boundary_split, records, part_lines and lines.
+#![tactic(auto)]
+
 use mesh::Row;
 use records::HEAD;
 

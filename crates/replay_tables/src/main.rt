@@ -2,6 +2,8 @@
 // case again and prints a line with what was answered and what the lent places hold then. What it
 // prints is its file `stdout`, which the oracle wrote with the judge's answers (vectors/README.md).
 // Leans on table_read, table_write, table_shown, records, part_lines and lines.
+#![tactic(auto)]
+
 use records::HEAD;
 
 // As many starts, numbers and bytes as a record may have.

@@ -2,7 +2,7 @@
 -- parts of the groups have the contour's (`centroid_areas`). Assumes nothing.
 use mathlib.Core.Path.{◌≡◌, refl, sym, ◌∙◌, ap, ap₂}
 use mathlib.Core.Bool.{Bool, true, false, cond}
-use mathlib.Core.List.{List, [], ◌∷◌, ◌++◌, map, map_append}
+use mathlib.Core.List.{List, [], ◌∷◌, ◌++◌, map, map-append}
 use Prim.Native.Nat.{ℕ, zero, suc, ◌+◌, ◌-◌, ◌/◌, ◌≤◌, ◌<◌}
 use native.Mathlib.Omega.{arith}
 use native.Mathlib.Nat.{le-div_iff_mul-le}
@@ -124,7 +124,7 @@ unfolding sectors sumℕ
 sectors_areas [] g l h = unfold sumℤ in no_edges g l refl h
 sectors_areas (s ∷ ss) g l h =
     let t : ℕ = sumℕ ss in
-    ap sumℤ (map_append contour_area (group_parts s g s l) (sectors ss g (drop s l))) ∙ sum_append (map contour_area (group_parts s g s l)) (map contour_area (sectors ss g (drop s l)))
+    ap sumℤ (map-append contour_area (group_parts s g s l) (sectors ss g (drop s l))) ∙ sum_append (map contour_area (group_parts s g s l)) (map contour_area (sectors ss g (drop s l)))
     ∙ ap₂ ◌+ℤ◌ (group_areas s g l (omega arith) (omega (arith, h))) (sectors_areas ss g (drop s l) (omega (arith, h, length-drop s l)))
     ∙ sym (radial_two g s (sumℕ ss) l (omega (arith, h)))
 

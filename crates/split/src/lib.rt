@@ -1,10 +1,12 @@
 // Splitting parts past a corner limit: advanced/convex.rs, second half, and geom/centroid.rs. The
 // definitions are in specs/. Leans on convex.
+#![tactic(auto)]
+
 ghost use Rattle.std.specs.Prelude.{◌≡◌};
 ghost use Rattle.split.specs.Splitting.{raised};
 
 // How a contour past the limit is split (document 01, "Splitting past a limit m").
-#[derive(Drop)]
+#[derive(Clone, Copy)]
 pub enum ConvexSplitStrategy {
     EarClipping,
     Fan,

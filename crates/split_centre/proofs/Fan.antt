@@ -3,7 +3,7 @@
 -- that there is room for one wedge more (`sofar_room`). Assumes nothing.
 use mathlib.Core.Path.{◌≡◌, refl, sym, ◌∙◌, ap, ap₂, subst}
 use mathlib.Core.Bool.{true, false}
-use mathlib.Core.List.{List, [], ◌∷◌, ◌++◌, map, map_append}
+use mathlib.Core.List.{List, [], ◌∷◌, ◌++◌, map, map-append}
 use Prim.Native.Nat.{ℕ, zero, suc, ◌+◌, ◌-◌, ◌^◌, ◌≤◌, ◌<◌}
 use native.Mathlib.Omega.{arith}
 use lib.ListN.{length, get_or, take, drop, length-map, length-drop, take-append-drop, get_or-map}
@@ -44,7 +44,7 @@ module _ (g : Pt × Pt → ℤ) (left : (v : Pt) → g (O, v) ≡ pos 0) (right 
   sum_fan : {a : Pt} (b : Pt) (l : List Pt) → a ≡ O → sumℤ (map g (neighbours (a ∷ b ∷ l))) ≡ sumℤ (map g (links b l))
   sum_fan {a} b l e =
       ap (λ r. sumℤ (map g r)) (neighbours_fan a b l) ∙ sum_cons (g (a, b)) (map g (links b l ++ ((last_of b l, a) ∷ [])))
-      ∙ ap (λ s. g (a, b) +ℤ sumℤ s) (map_append g (links b l) ((last_of b l, a) ∷ [])) ∙ ap (λ s. g (a, b) +ℤ s) (sum_snoc (map g (links b l)) (g (last_of b l, a)))
+      ∙ ap (λ s. g (a, b) +ℤ sumℤ s) (map-append g (links b l) ((last_of b l, a) ∷ [])) ∙ ap (λ s. g (a, b) +ℤ s) (sum_snoc (map g (links b l)) (g (last_of b l, a)))
       ∙ (λ i. g (e i, b) +ℤ (sumℤ (map g (links b l)) +ℤ g (last_of b l, e i)))
       ∙ (λ i. left b i +ℤ (sumℤ (map g (links b l)) +ℤ right (last_of b l) i)) ∙ none (sumℤ (map g (links b l)))
     where
@@ -111,7 +111,7 @@ sofar_start c l = record { area = refl; x = refl; y = refl }
 
 sum_take : {A : Type 0} (g : A → ℤ) (l : List A) {k : ℕ} (d : A) {e : A} → k < length l → get_or l k d ≡ e → sumℤ (map g (take (suc k) l)) ≡ sumℤ (map g (take k l)) +ℤ g e
 sum_take g l {k} d {e} h p =
-    ap (λ r. sumℤ (map g r)) (take-suc l k d h ∙ ap (λ z. take k l ++ (z ∷ [])) p) ∙ ap sumℤ (map_append g (take k l) (e ∷ [])) ∙ sum_snoc (map g (take k l)) (g e)
+    ap (λ r. sumℤ (map g r)) (take-suc l k d h ∙ ap (λ z. take k l ++ (z ∷ [])) p) ∙ ap sumℤ (map-append g (take k l) (e ∷ [])) ∙ sum_snoc (map g (take k l)) (g e)
 
 module _ (c : Pt) (l : List Pt) {i : ℕ} (h : 2 ≤ i) (k : i < length l) where
   -- one wedge more
@@ -143,7 +143,7 @@ area_take k m w =
     of (area_of (take k m)) (sym whole) (area_least (drop k m) ((all_append _ (take k m) (drop k m)).0 (subst Wedges (sym (take-append-drop k m)) w)).1)
   where
     whole : area_of m ≡ area_of (take k m) +ℤ area_of (drop k m)
-    whole = ap area_of (sym (take-append-drop k m)) ∙ ap sumℤ (map_append (λ e. cross e.0 e.1) (take k m) (drop k m)) ∙ sum_append (map (λ e. cross e.0 e.1) (take k m)) (map (λ e. cross e.0 e.1) (drop k m))
+    whole = ap area_of (sym (take-append-drop k m)) ∙ ap sumℤ (map-append (λ e. cross e.0 e.1) (take k m) (drop k m)) ∙ sum_append (map (λ e. cross e.0 e.1) (take k m)) (map (λ e. cross e.0 e.1) (drop k m))
 
     of : (a : ℤ) {b n : ℤ} → a +ℤ b ≡ n → pos 0 ≤ℤ b → a ≤ℤ n
     of a {b} e h = omega (zarith, e, add_parts a b)

@@ -3,6 +3,8 @@
 // says of a contour whose sums fit (`Summable`, specs/Centre.antt); that the divisions are in range
 // and the centre is on the grid is proved, where the Rust tests it. Leans on wide_divide, wide,
 // points (a corner of a buffer) and plane.
+#![tactic(auto)]
+
 ghost use Rattle.std.specs.Prelude.{◌≡◌, map, true, ◌*◌, ◌^◌, ◌≤◌, ◌<◌, length, pos, nat_abs, ◌+ℤ◌, ◌*ℤ◌};
 ghost use Rattle.std.specs.Int.Signed.{le_z};
 ghost use Rattle.integers.specs.Lists.{neighbours};
@@ -17,7 +19,7 @@ use plane::{IntPoint, IntVector};
 use wide::{SignedProduct, Words};
 
 // A contour's centre, or that it has none to split about.
-#[derive(Drop)]
+#[derive(Clone, Copy)]
 pub enum Centre {
     At(IntPoint),
     Unserved,
@@ -25,7 +27,7 @@ pub enum Centre {
 
 // Sums over a contour's edges a b, seen from its first corner: of a × b, and of (a + b) (a × b) by
 // coordinate.
-#[derive(Drop)]
+#[derive(Clone, Copy)]
 pub struct Sums {
     pub area: i64,
     pub x: SignedProduct,

@@ -3,7 +3,7 @@
 -- turn (`Partway`: `partway_start`, `partway_room`, `partway_turn`, `partway_end`). Assumes
 -- nothing.
 use mathlib.Core.Path.{◌≡◌, refl, sym, ◌∙◌, ap, subst}
-use mathlib.Core.List.{List, [], ◌∷◌, ◌++◌, map, map_append, flatten, append_assoc, append-nil}
+use mathlib.Core.List.{List, [], ◌∷◌, ◌++◌, map, map-append, flatten, append_assoc, append-nil}
 use Prim.Native.Nat.{ℕ, ◌+◌, ◌≤◌, ◌<◌, ◌^◌}
 use native.Mathlib.Numerals.{add-one}
 use native.Mathlib.Omega.{arith}
@@ -24,7 +24,7 @@ pub row_appended : (points : List (List ℤ)) {n : ℕ} (row : List ℤ) → n <
 row_appended points {n} row h = record {
   size = length-set points n row;
   count = refl;
-  written = ap (map corner_of) (ap (λ k. take k (set points n row)) (add-one n) ∙ take-suc-set points n row h) ∙ map_append corner_of (take n points) (row ∷ []);
+  written = ap (map corner_of) (ap (λ k. take k (set points n row)) (add-one n) ∙ take-suc-set points n row h) ∙ map-append corner_of (take n points) (row ∷ []);
 }
 
 -- ---- runs of corners

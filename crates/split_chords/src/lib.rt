@@ -2,6 +2,8 @@
 // `fan_parts` of split/specs/Splitting.antt, appended to those gathered. Here too is what each split
 // uses: runs of corners appended, a part ended, the sizes of balanced groups. Leans on points and
 // split's definitions.
+#![tactic(auto)]
+
 ghost use Rattle.std.specs.Prelude.{◌≡◌, cond, ◌∷◌, [], ◌+◌, ◌<◌, ◌≤◌, ◌^◌, ltb, length, set};
 ghost use Rattle.table.specs.Table.{max_contour};
 ghost use Rattle.points.specs.Points.{corner_in, Appended, corners_in};

@@ -2,6 +2,8 @@
 // `convex_polygons`, and `append_centroid_parts`): the parts of `split_contour` of
 // split/specs/Splitting.antt, appended to those gathered. Leans on split_chords, split_ears,
 // split_sectors, split_centre and points.
+#![tactic(auto)]
+
 ghost use Rattle.std.specs.Prelude.{◌∷◌, [], ◌<◌, ◌≤◌, length};
 ghost use Rattle.split.specs.Splitting.{centred_parts, split_contour};
 ghost use Rattle.split_centre.specs.Centre.{Summable};

@@ -2,7 +2,7 @@
 -- `clipping_end`). Assumes nothing.
 use mathlib.Core.Path.{◌≡◌, sym, ◌∙◌, ap, ap₂}
 use mathlib.Core.Bool.{cond}
-use mathlib.Core.List.{List, [], ◌∷◌, ◌++◌, map, map_append}
+use mathlib.Core.List.{List, [], ◌∷◌, ◌++◌, map, map-append}
 use Prim.Native.Nat.{ℕ, suc, ◌+◌, ◌-◌, ◌/◌, ◌%◌, ◌≤◌, ◌<◌}
 use native.Mathlib.Omega.{arith}
 use lib.Dec.{ltb}
@@ -71,7 +71,7 @@ module _ (contour : List (List ℤ)) (s₀ : List ℕ) (p₀ : List (List ℤ)) 
           ∙ ap (λ j. corner_in contour j ∷ corners_after contour ring j (m + 1)) (sym f.here)
 
       left_corners : drop (m + 1) (map (corner_in contour) f.left) ++ take 1 (map (corner_in contour) f.left) ≡ map (corner_in contour) rest
-      left_corners = ap₂ ◌++◌ (sym (map-drop (corner_in contour) (m + 1) f.left)) (sym (map-take (corner_in contour) 1 f.left)) ∙ sym (map_append (corner_in contour) (drop (m + 1) f.left) (take 1 f.left))
+      left_corners = ap₂ ◌++◌ (sym (map-drop (corner_in contour) (m + 1) f.left)) (sym (map-take (corner_in contour) 1 f.left)) ∙ sym (map-append (corner_in contour) (drop (m + 1) f.left) (take 1 f.left))
 
       next : ears_from contour n k i f.left ≡ ((corner_in contour start ∷ corners_after contour ring start (m + 1)) ∷ []) ++ ears_from contour n k (i + 1) rest
       unfolding clipped

@@ -4,7 +4,7 @@
 -- `ringed_turn`). Assumes nothing.
 use mathlib.Core.Path.{◌≡◌, refl, sym, ◌∙◌, ap, subst}
 use mathlib.Core.Bool.{cond}
-use mathlib.Core.List.{List, [], ◌∷◌, ◌++◌, map, map_append}
+use mathlib.Core.List.{List, [], ◌∷◌, ◌++◌, map, map-append}
 use Prim.Native.Nat.{ℕ, zero, suc, ◌+◌, ◌-◌, ◌≤◌, ◌<◌}
 use native.Mathlib.Numerals.{add-one}
 use native.Mathlib.Omega.{arith}
@@ -63,7 +63,7 @@ module _ (contour : List (List ℤ)) (ring : List ℕ) (i : ℕ) where
   length_after n = length-map (up_to n) (λ k. corner_in contour (stepped ring i (suc k))) ∙ length-up_to n
 
   pub after_more : (k : ℕ) → corners_after contour ring i (suc k) ≡ corners_after contour ring i k ++ (corner_in contour (stepped ring i (suc k)) ∷ [])
-  after_more k = ap (map (λ j. corner_in contour (stepped ring i (suc j)))) (up_to-suc k) ∙ map_append (λ j. corner_in contour (stepped ring i (suc j))) (up_to k) (k ∷ [])
+  after_more k = ap (map (λ j. corner_in contour (stepped ring i (suc j)))) (up_to-suc k) ∙ map-append (λ j. corner_in contour (stepped ring i (suc j))) (up_to k) (k ∷ [])
 
   -- no corner is appended
   pub after_none : (p : List (List ℤ)) (n : ℕ) → Appended (corners_after contour ring i 0) p n p (n + 0)

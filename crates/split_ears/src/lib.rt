@@ -2,6 +2,8 @@
 // the parts of `ear_parts` of split/specs/Splitting.antt, appended to those gathered. The corners
 // not yet clipped stand in a ring (specs/Rings.antt), which only `next_of` and `set_next` touch.
 // Leans on split_chords and points.
+#![tactic(auto)]
+
 ghost use Rattle.std.specs.Prelude.{◌≡◌, ◌∷◌, [], ◌+◌, ◌<◌, ◌≤◌, length, get_or, set};
 ghost use Rattle.table.specs.Table.{max_contour};
 ghost use Rattle.points.specs.Points.{corner_in, Appended, corners_in};

@@ -2,6 +2,8 @@
 // each split; the unit square by centroid, whose rounded centre is a corner, so that the fan is
 // used; and a refusal, for want of a place for the last start. What it prints is its file `stdout`.
 // Leans on split_parts and part_lines.
+#![tactic(auto)]
+
 use mesh::Row;
 use split::ConvexSplitStrategy;
 

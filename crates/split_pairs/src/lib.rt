@@ -2,3 +2,4 @@
 // convex, counter-clockwise, and goes once round, and its corners are on the grid; and what the
 // split asks of the parts before it. Statements in specs/, proofs in proofs/; no code. Leans on
 // convex_pairs and split_centre.
+#![tactic(auto)]

@@ -3,6 +3,8 @@
 // those of `SplitAnswered` of split/specs/Splitting.antt. Where a mesh is tiny and no part can have
 // more corners than the limit, that is joining; else split_sizes splits the parts in work arrays of
 // the mesh's size. Leans on mesh_faults, convex_join and split_sizes.
+#![tactic(auto)]
+
 ghost use Rattle.mesh.specs.Rows.{rows_mesh};
 ghost use Rattle.split.specs.Splitting.{SplitAnswered};
 

@@ -2,6 +2,8 @@
 // `append_centroid_parts`): the parts of `centroid_parts` of split/specs/Splitting.antt, appended to
 // those gathered. Which centre, and whether it serves, is not said here. Leans on split_chords,
 // points, convex_ring and plane.
+#![tactic(auto)]
+
 ghost use Rattle.std.specs.Prelude.{◌≡◌, ◌∷◌, [], ◌+◌, ◌-◌, ◌<◌, ◌≤◌, length, get_or, drop, pos};
 ghost use Rattle.std.specs.Int.Signed.{lt_z};
 ghost use Rattle.table.specs.Table.{max_contour};

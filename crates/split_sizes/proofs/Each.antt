@@ -5,7 +5,7 @@
 -- (`few_in`); there is room for all of them (`room_all`, `holds_all`), and they are the mesh's
 -- (`gathered_in`). Assumes an accepted mesh where it says so.
 use mathlib.Core.Path.{◌≡◌, refl, sym, ◌∙◌, ap, subst}
-use mathlib.Core.List.{List, [], ◌∷◌, ◌++◌, map, flatten, map_append, append-nil}
+use mathlib.Core.List.{List, [], ◌∷◌, ◌++◌, map, flatten, map-append, append-nil}
 use Prim.Native.Nat.{ℕ, zero, suc, ◌+◌, ◌*◌, ◌≤◌, ◌<◌, ◌^◌}
 use native.Mathlib.Omega.{arith}
 use native.Mathlib.Numerals.{add-one}
@@ -47,7 +47,7 @@ at_part how m {s = s} {s' = s'} {p = p} {p' = p'} {t = t} {t' = t'} e a = subst 
 
 module _ (how : ConvexSplitStrategy) (m : ℕ) (ps : List (List Pt)) {k : ℕ} (h : k < length ps) where
   each_append : (a b : List (List Pt)) → split_each how m (a ++ b) ≡ split_each how m a ++ split_each how m b
-  each_append a b = ap flatten (map_append (split_contour how m) a b) ∙ flatten_append (map (split_contour how m) a) (map (split_contour how m) b)
+  each_append a b = ap flatten (map-append (split_contour how m) a b) ∙ flatten_append (map (split_contour how m) a) (map (split_contour how m) b)
 
   each_suc : split_each how m (take (k + 1) ps) ≡ split_each how m (take k ps) ++ split_contour how m (get_or ps k [])
   unfolding flatten

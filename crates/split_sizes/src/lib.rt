@@ -3,6 +3,8 @@
 // There are four sizes, so that a small mesh does not wait for the filling of large arrays; each
 // answers as `SplitAnswered` of split/specs/Splitting.antt says. Leans on convex_regions,
 // split_contour and convex_gather.
+#![tactic(auto)]
+
 ghost use Rattle.std.specs.Prelude.{◌≡◌, ◌+◌, ◌<◌, ◌≤◌, length, get_or, []};
 ghost use Rattle.integers.specs.Faults.{first_fault};
 ghost use Rattle.mesh.specs.Mesh.{max_triangles, mesh_kinds};

@@ -4,6 +4,8 @@
 // breaks a rule, each as its definition says, of any lent slices; the faults' order is their
 // callers'. The crates table_read, table_write and table_shown, and pairs, lean on it. It leans on
 // corners, plane and integers.
+#![tactic(auto)]
+
 ghost use Rattle.std.specs.Prelude.{◌≡◌, true, cond, ◌+◌, ltb};
 ghost use Rattle.plane.specs.Machine.{point};
 ghost use Rattle.corners.specs.Corners.{points_of};
@@ -22,7 +24,7 @@ pub const MAX_CONTOUR: usize = 1026;
 // What a call that writes a table answers: the fault number, 0 for none, and how many parts and
 // corners were written, 0 where it refused.
 #[repr(C)]
-#[derive(Drop)]
+#[derive(Clone, Copy)]
 pub struct Counts {
     pub fault: u32,
     pub parts: u32,
@@ -30,7 +32,7 @@ pub struct Counts {
 }
 
 // "least and greatest x and y of the original source".
-#[derive(Drop)]
+#[derive(Clone, Copy)]
 pub struct IntRect {
     pub min_x: i32,
     pub max_x: i32,

@@ -4,7 +4,7 @@
 -- nothing.
 use mathlib.Core.Path.{◌≡◌, refl, sym, ◌∙◌, ap, subst}
 use mathlib.Core.Bool.{true, false}
-use mathlib.Core.List.{List, [], ◌∷◌, ◌++◌, map, map_append}
+use mathlib.Core.List.{List, [], ◌∷◌, ◌++◌, map, map-append}
 use Prim.Native.Nat.{ℕ, suc, ◌+◌, ◌*◌, ◌-◌, ◌/◌, ◌^◌, ◌≤◌, ◌<◌}
 use native.Mathlib.Nat.{zero-add}
 use native.Mathlib.Numerals.{add-one}
@@ -73,7 +73,7 @@ crosses_round (p ∷ l) h =
     ap (λ a. crosses ((a, p) ∷ links p l)) (ap (λ k. get_or (p ∷ l) k O) n ∙ last_at p l)
     ∙ sum_cons (f (last_of p l, p)) (map f (links p l))
     ∙ +ℤ_comm (f (last_of p l, p)) (crosses (links p l))
-    ∙ sym (ap crosses (links_last p l p) ∙ ap sumℤ (map_append f (links p l) ((last_of p l, p) ∷ [])) ∙ sum_snoc (map f (links p l)) (f (last_of p l, p)))
+    ∙ sym (ap crosses (links_last p l p) ∙ ap sumℤ (map-append f (links p l) ((last_of p l, p) ∷ [])) ∙ sum_snoc (map f (links p l)) (f (last_of p l, p)))
 
 -- the edge into corner k, and those after it
 crosses_next : (l : List Pt) (a : Pt) {k : ℕ} → k < length l → crosses (links a (drop k l)) ≡ cross a (corner_at l k) +ℤ crosses (links (corner_at l k) (drop (k + 1) l))

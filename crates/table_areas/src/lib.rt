@@ -3,6 +3,8 @@
 // shoelace formula has it, whichever way the contours run. A sum may leave 64 bits, so it has two
 // words and a sign. One pass over the corners. Leans on wide, placement (what such starts are),
 // corners, table and plane.
+#![tactic(auto)]
+
 ghost use Rattle.std.specs.Prelude.{◌≡◌, false, [], ◌+◌, ◌-◌, ◌^◌, ◌<◌, length, get_or, ◌+ℤ◌};
 ghost use Rattle.plane.specs.Plane.{cross};
 ghost use Rattle.plane.specs.Contour.{contour_area};

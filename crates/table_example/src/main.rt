@@ -1,8 +1,8 @@
 // The example of part tables in docs/USE.md: stores a table of two parts, prints its bytes, reads
 // it back, and has it refused once a start falls. What it prints is its file `stdout`. Leans on
 // table_read, table_write and lines.
+#![tactic(auto)]
 
-// Writes a byte in hexadecimal.
 fn print_byte(b: u8) {
     io::print_hex(1, b as u64, 2);
 }

@@ -3,6 +3,8 @@
 // any bytes; the answer and each lent buffer as it returns equal the definitions of
 // specs/Read.antt: a refusal changes nothing, and on success places past the answer keep what they
 // held. table_write is the way back. Leans on table (the rules), table_words (words of bytes).
+#![tactic(auto)]
+
 ghost use Rattle.std.specs.Prelude.{◌≡◌, false, map, length, drop};
 ghost use Rattle.corners.specs.Corners.{off_range};
 ghost use Rattle.table.specs.Table.{starts_broken, max_contour};

@@ -4,6 +4,8 @@
 // input: the part and the number equal the definitions of table's specs/Shown.antt, and where the
 // part lies that of specs/Place.antt, in the asked operand's own corners. A refusal shows an empty
 // part, at the left corners. Leans on table and corners.
+#![tactic(auto)]
+
 ghost use Rattle.std.specs.Prelude.{◌≡◌, false, ◌<◌};
 ghost use Rattle.table.specs.Table.{table_broken, part_count};
 ghost use Rattle.table.specs.Shown.{shown_fault, shown_part, part_numbers};

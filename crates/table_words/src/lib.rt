@@ -3,6 +3,8 @@
 // definition in table's specs/Stored.antt; `put_words` of specs/Place.antt says what lent bytes hold
 // after words were written at a place. An inner layer of table_read, table_write and the samples:
 // callers show that the place lies within the bytes. Leans on table.
+#![tactic(auto)]
+
 ghost use Rattle.std.specs.Prelude.{◌≡◌, [], ◌∷◌, map, ◌+◌, ◌*◌, ◌%◌, ◌≤◌, length, take, drop};
 ghost use Rattle.integers.specs.Lists.{overlay};
 ghost use Rattle.table.specs.Stored.{word_of, words_of, word_at, signed};

@@ -3,6 +3,8 @@
 // and corners; the answer and the lent bytes as it returns equal the definitions of
 // specs/Written.antt: a refusal changes nothing, and on success bytes past the answer keep what
 // they held. table_read is the way back. Leans on table (the rules), table_words (words of bytes).
+#![tactic(auto)]
+
 ghost use Rattle.std.specs.Prelude.{◌≡◌, map, ◌+◌, ◌*◌, ◌≤◌, length};
 ghost use Rattle.integers.specs.Word.{unsigned};
 ghost use Rattle.table.specs.Stored.{write_fault};
@@ -13,7 +15,7 @@ use table_words::{HEADER, WORD, put_word};
 
 // What `write_table` answers: the fault number, 0 for none, and how many bytes were written, 0
 // where it refused.
-#[derive(Drop)]
+#[derive(Clone, Copy)]
 pub struct Stored {
     pub fault: u32,
     pub length: usize,

@@ -3,6 +3,8 @@
 // table's corners. It refuses by number what is no operation with two good tables. What it answers
 // and leaves in the lent bytes are equations with specs/Tables.antt. Leans on pairs_job,
 // pairs_rules, table_words and text.
+#![tactic(auto)]
+
 ghost use Rattle.std.specs.Prelude.{◌≡◌, ◌+◌, ◌*◌, ◌<◌, ◌≤◌, length};
 ghost use Rattle.io.specs.Counts.{IsPrefixLen};
 ghost use Rattle.table_words.specs.Place.{put_words};
@@ -18,7 +20,7 @@ const LEFT: usize = 1;
 
 // What `make_job` answers: the fault number, 0 for none, and how many bytes were written, 0 where
 // it refused.
-#[derive(Drop)]
+#[derive(Clone, Copy)]
 pub struct Made {
     pub fault: u32,
     pub size: usize,

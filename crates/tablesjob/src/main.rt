@@ -3,15 +3,17 @@
 // each table's corners as bounds. What is no operation with two good tables is refused by its
 // number on standard error, and nothing is written. It reads more bytes than the longest good input
 // has. Leans on input, commands and tables_job.
+#![tactic(auto)]
+
 use pairs_job::LONGEST;
 
-fn main() {
+fn main(rt: HostRuntime) {
     let mut bytes = [0u8; LONGEST];
-    let n = input::read_input(&mut bytes);
+    let n = input::read_input(&rt, &mut bytes);
     let mut out = [0u8; LONGEST];
     let made = tables_job::make_job(&bytes[..n], &mut out);
     if made.fault != 0 {
         commands::tell_refused(made.fault);
     }
-    input::write_output(&out[..made.size]);
+    input::write_output(&rt, &out[..made.size]);
 }

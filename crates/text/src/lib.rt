@@ -2,6 +2,8 @@
 // the place after its text and leaves every other byte as it was (`PutText`, specs/Put.antt); the
 // caller has shown that there is room. That the digits denote the number is specs/Denotes.antt.
 // Leans on the kit's io for digits, and on corners, plane and integers.
+#![tactic(auto)]
+
 ghost use Rattle.std.specs.Prelude.{◌≡◌, ◌++◌, ◌+◌, ◌≤◌, length, nat_abs};
 ghost use Rattle.plane.specs.Machine.{point};
 ghost use Rattle.corners.specs.Corners.{points_of};

@@ -3,6 +3,8 @@
 // of its MIR, by hand; so one reads a struct, and one for each size of work array reads all of
 // them, by one proof (proofs/RowsOf.antt). The sizes are three of joining's, so that a small mesh
 // does not wait for the filling of a large array. Leans on convex_regions, plane and table_words.
+#![tactic(auto)]
+
 ghost use Rattle.std.specs.Prelude.{◌≡◌, ◌<◌, ◌≤◌, length, get_or};
 ghost use Rattle.mesh.specs.Mesh.{max_triangles};
 ghost use Rattle.mesh.specs.Rows.{row_triangle};
@@ -15,7 +17,7 @@ use plane::IntPoint;
 
 // A triangle: its three points, and the three neighbours across from them. None is 4,294,967,295.
 #[repr(C)]
-#[derive(Drop)]
+#[derive(Clone, Copy)]
 pub struct IntTriangle {
     pub vertices: [IntPoint; 3],
     pub neighbors: [u32; 3],

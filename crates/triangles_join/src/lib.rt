@@ -3,6 +3,8 @@
 // what it answers is said by the same definitions. It is proved by a walk of its MIR, by hand, and
 // exported to C for the runs beside the Rust alone. Leans on triangles, convex_join and
 // convex_gather.
+#![tactic(auto)]
+
 ghost use Rattle.std.specs.Prelude.{◌≡◌, ◌≤◌, length, take};
 ghost use Rattle.mesh.specs.Mesh.{max_triangles};
 ghost use Rattle.mesh.specs.Rows.{rows_mesh};

@@ -2,6 +2,8 @@
 // any contour and refuses with 7, 2, 8, 20, in this order. `begin_checked` is the same of a contour
 // whose length and range are judged already. Leans on walk_winding, walk_extremes, walk_read, table
 // (the range).
+#![tactic(auto)]
+
 ghost use Rattle.std.specs.Prelude.{◌≡◌, true, false, ◌<◌, length};
 ghost use Rattle.plane.specs.Plane.{eq_pt};
 ghost use Rattle.corners.specs.Corners.{points_of, off_range};

@@ -1,6 +1,8 @@
 // The example of a pair in docs/USE.md: document 01's K minus K, (0,0) (2,0) (0,2) less itself,
 // stepped to its end, and then a step refused, for a place that is no corner (23). What it prints
 // is its file `stdout`. Leans on walk_pair, walk_next and lines.
+#![tactic(auto)]
+
 ghost use Rattle.std.specs.Prelude.{◌≡◌, true, ◌<◌};
 ghost use Rattle.pair.specs.Pair.{steps_left};
 
@@ -9,7 +11,7 @@ use plane::IntPoint;
 use walk::{Next, Paired};
 
 // Whether a corner was handed out, and where both walks stand.
-#[derive(Drop)]
+#[derive(Clone, Copy)]
 pub struct Progress {
     pub on: bool,
     pub at: ConvexSum,

@@ -2,6 +2,8 @@
 // reflected walk at the highest, then rightmost, last of equals", and the other extreme, where a
 // segment ends. Each place equals its definition in pair's specs/Walk.antt, for any contour. Leans
 // on walk_read.
+#![tactic(auto)]
+
 ghost use Rattle.std.specs.Prelude.{◌≡◌, cond, ◌<◌, length};
 ghost use Rattle.plane.specs.Machine.{point};
 ghost use Rattle.corners.specs.Corners.{points_of};

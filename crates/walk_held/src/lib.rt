@@ -6,6 +6,8 @@
 // it as it came. The four are proved by walks of their MIR, by hand; `begun` and `advanced`, which
 // compute the places, are not, and are exported to C for the runs beside the Rust alone. Leans on
 // walk_step and walk_begin.
+#![tactic(auto)]
+
 ghost use Rattle.std.specs.Prelude.{◌≡◌};
 ghost use Rattle.walk.specs.Calls.{step_fault};
 ghost use Rattle.walk.specs.Clauses.{PointedBy, EdgedBy, MovedBy};
@@ -16,7 +18,7 @@ use walk::{Advanced, Begun, Edged, Pointed};
 
 // A walk: the contour that it goes along, and where it stands in it.
 #[repr(C)]
-#[derive(Drop)]
+#[derive(Clone, Copy)]
 pub struct Walk<'a> {
     pub contour: &'a [i32],
     pub place: Place,

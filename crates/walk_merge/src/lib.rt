@@ -2,6 +2,8 @@
 // directions merge into one edge"; the loop of the Rust's `next`). The walks and contours are
 // judged already (`Judged` of walk_pick); `run` equals its definition in pair's specs/Pair.antt.
 // Leans on walk_pick, walk_move, walk_read, plane.
+#![tactic(auto)]
+
 ghost use Rattle.std.specs.Prelude.{◌≡◌, true, false, ◌<◌, length};
 ghost use Rattle.plane.specs.Machine.{vector, Short};
 ghost use Rattle.corners.specs.Corners.{points_of};
@@ -18,7 +20,7 @@ use walk_pick::Step;
 
 // The steps of one edge: whether they go on, the direction of the edge, if it is begun, and where
 // both walks stand.
-#[derive(Drop)]
+#[derive(Clone, Copy)]
 pub struct Going {
     pub on: bool,
     pub headed: bool,

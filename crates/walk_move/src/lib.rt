@@ -1,6 +1,8 @@
 // One walk's point, edge and next place, of a place that is judged already (document 01: "hands out
 // point, edge and the next place"; "A reflected walk negates points and edges"). Leans on walk_read
 // and plane.
+#![tactic(auto)]
+
 ghost use Rattle.std.specs.Prelude.{◌≡◌, false, ◌<◌, ◌≤◌, length};
 ghost use Rattle.plane.specs.Plane.{negᵖ};
 ghost use Rattle.plane.specs.Machine.{point, vector, OnGrid, Short};

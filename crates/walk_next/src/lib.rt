@@ -3,6 +3,8 @@
 // number, each kind left before right: 7, 23, 2; refused walks come back as they came. `emit` is
 // `next` of input that is judged already. Leans on walk_merge, walk_move, walk_read, table (the
 // range).
+#![tactic(auto)]
+
 ghost use Rattle.std.specs.Prelude.{◌≡◌};
 ghost use Rattle.plane.specs.Plane.{◌+ᵖ◌};
 ghost use Rattle.plane.specs.Machine.{point, OnGrid};

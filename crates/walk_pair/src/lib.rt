@@ -1,6 +1,8 @@
 // A pair of walks begun: `new` for a sum, `difference` with the second walk reflected (the Rust's
 // `ConvexSum`). They take any contours and refuse with 7, 2, 8, 20, in this order, each left before
 // right. Leans on walk_begin, walk_read, table (the range).
+#![tactic(auto)]
+
 ghost use Rattle.std.specs.Prelude.{◌≡◌, true, false};
 ghost use Rattle.corners.specs.Corners.{off_range};
 ghost use Rattle.walk.specs.Calls.{length_broken, paired_of};

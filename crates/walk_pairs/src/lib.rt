@@ -2,3 +2,4 @@
 // pair's contour, for sums and differences of any two contours that are accepted; and demand 3 of
 // what is handed out. Statement in specs/, proof in proofs/; no code. Leans on walk_pair and
 // walk_next.
+#![tactic(auto)]

@@ -2,6 +2,8 @@
 // operand steps on equality. A zero edge steps without effect and before any comparison, the first
 // operand's first"; the Rust's `next_step`). The walks and contours are judged already (`Judged` of
 // specs/Picking.antt). Leans on walk_move and plane.
+#![tactic(auto)]
+
 ghost use Rattle.std.specs.Prelude.{◌≡◌};
 ghost use Rattle.plane.specs.Machine.{vector, Short};
 ghost use Rattle.corners.specs.Corners.{points_of};
@@ -13,7 +15,7 @@ use plane::{IntVector, Ordering};
 use walk_move::edge_of;
 
 // The walk that steps next, and its edge; neither where none has a step left.
-#[derive(Drop)]
+#[derive(Clone, Copy)]
 pub enum Step {
     Neither,
     First(IntVector),

@@ -2,6 +2,8 @@
 // place is no corner (fault 23), whether a corner is off the grid (fault 2), and the next place.
 // Its corners are read through crate corners. Leans on pair, walk and table (definitions), corners
 // and plane.
+#![tactic(auto)]
+
 ghost use Rattle.std.specs.Prelude.{◌≡◌, false, ◌<◌, ◌≤◌, length};
 ghost use Rattle.corners.specs.Corners.{points_of};
 ghost use Rattle.table.specs.Table.{max_contour};

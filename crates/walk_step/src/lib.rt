@@ -2,6 +2,8 @@
 // out the edge and the next place at once. Each takes any contour and any place, also one that a
 // caller made up, and refuses by number: 7, 23, 2, in this order; a refused walk comes back as it
 // came. A lent contour is never changed. Leans on walk_move and walk_read.
+#![tactic(auto)]
+
 ghost use Rattle.std.specs.Prelude.{◌≡◌};
 ghost use Rattle.walk.specs.Calls.{point_fault, step_fault};
 ghost use Rattle.walk.specs.Clauses.{PointedBy, EdgedBy, AdvancedBy, SteppedBy};

@@ -1,6 +1,8 @@
 // The winding of a contour seen from a corner, in table order, with its running total watched: it
 // is tested before each addition, so nothing wraps (document 01, fault 8). Leans on walk_read and
 // plane.
+#![tactic(auto)]
+
 ghost use Rattle.std.specs.Prelude.{◌≡◌, false, ◌+◌, ◌<◌, length, get_or, pos, ◌+ℤ◌};
 ghost use Rattle.plane.specs.Machine.{CrossSize};
 ghost use Rattle.corners.specs.Corners.{points_of, off_range};
@@ -10,7 +12,7 @@ ghost use Rattle.walk_winding.specs.Winding.{round_to, added_of, winding_of};
 use corners::{corner_at, corner_count};
 
 // A winding, or that its running total leaves signed 64 bits.
-#[derive(Drop)]
+#[derive(Clone, Copy)]
 pub enum Wound {
     Total(i64),
     Leaves,

@@ -1,18 +1,20 @@
 // Numbers of two 64-bit words, for sums of products that one word does not hold: i_float's
 // `SignedProduct`. A product with its sign (`multiply`) and a sum (`add`), each equal to that of
 // the numbers in ℤ (specs/Words.antt). Leans on integers.
+#![tactic(auto)]
+
 ghost use Rattle.std.specs.Prelude.{◌≡◌, not, ◌+◌, ◌*◌, ◌^◌, ◌≤◌, ◌<◌, ltb, nat_abs, ◌+ℤ◌, ◌*ℤ◌};
 ghost use Rattle.wide.specs.Words.{two_words, magnitude, signed, value};
 
 // A number of two words.
-#[derive(Drop)]
+#[derive(Clone, Copy)]
 pub struct Words {
     pub high: u64,
     pub low: u64,
 }
 
 // The same with a sign; 0 may have either.
-#[derive(Drop)]
+#[derive(Clone, Copy)]
 pub struct SignedProduct {
     pub negative: bool,
     pub words: Words,

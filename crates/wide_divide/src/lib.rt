@@ -1,6 +1,8 @@
 // A number of two words divided by one word: whole, with what is left (`divide`), and rounded to
 // nearest (`divide_with_rounding`). Each is the quotient of the numbers in ℕ
 // (specs/Quotients.antt). Leans on wide.
+#![tactic(auto)]
+
 ghost use Rattle.std.specs.Prelude.{◌≡◌, ◌+◌, ◌*◌, ◌^◌, ◌≤◌, ◌<◌};
 ghost use Rattle.wide.specs.Words.{two_words};
 ghost use Rattle.wide_divide.specs.Quotients.{Divided, Normal, nearest};
@@ -8,7 +10,7 @@ ghost use Rattle.wide_divide.specs.Quotients.{Divided, Normal, nearest};
 use wide::HALF;
 
 // A quotient and what is left.
-#[derive(Drop)]
+#[derive(Clone, Copy)]
 pub struct Quotient {
     pub quotient: u64,
     pub remainder: u64,
