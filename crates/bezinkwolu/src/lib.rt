@@ -1,6 +1,6 @@
-// The C library: what the crates boundary_.. promise, each call of theirs exported once under its name,
-// with the same contract. The package (./package), the runs beside the judge and the benchmark link
-// the one archive. Leans on the boundary_ crates alone.
+// The C library: each call of the crates boundary_.. exported under its name, with the same
+// contract. The package (./package), the runs beside the judge and the benchmark link the one
+// archive. Leans on the crates boundary_.. and on what their contracts name.
 #![tactic(auto)]
 
 pub mod plane;
