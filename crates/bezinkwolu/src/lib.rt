@@ -3,13 +3,13 @@
 // archive. Leans on the crates boundary_.. and on what their contracts name.
 #![tactic(auto)]
 
-pub mod plane;
-pub mod mesh;
-pub mod table;
-pub mod split;
-pub mod walk;
-pub mod pairs;
-pub mod place;
-pub mod measure;
 pub mod listing;
+pub mod measure;
+pub mod mesh;
+pub mod pairs;
 pub mod path;
+pub mod place;
+pub mod plane;
+pub mod split;
+pub mod table;
+pub mod walk;

@@ -25,7 +25,16 @@ pub extern "C" fn bezinkwolu_sum_parts(
         × (starts.new ≡ pairs_starts false left right s c)
         × (corners.new ≡ pairs_corners false left right s c) }
 {
-    boundary_pairs::bezinkwolu_sum_parts(left_starts, left_corners, left_bounds, right_starts, right_corners, right_bounds, starts, corners)
+    boundary_pairs::bezinkwolu_sum_parts(
+        left_starts,
+        left_corners,
+        left_bounds,
+        right_starts,
+        right_corners,
+        right_bounds,
+        starts,
+        corners,
+    )
 }
 
 // minkowski_parts::difference_parts.
@@ -48,5 +57,14 @@ pub extern "C" fn bezinkwolu_difference_parts(
         × (starts.new ≡ pairs_starts true left right s c)
         × (corners.new ≡ pairs_corners true left right s c) }
 {
-    boundary_pairs::bezinkwolu_difference_parts(left_starts, left_corners, left_bounds, right_starts, right_corners, right_bounds, starts, corners)
+    boundary_pairs::bezinkwolu_difference_parts(
+        left_starts,
+        left_corners,
+        left_bounds,
+        right_starts,
+        right_corners,
+        right_bounds,
+        starts,
+        corners,
+    )
 }

@@ -3,6 +3,7 @@ ghost use Rattle.std.specs.Prelude.{◌≡◌, length};
 ghost use Rattle.path.specs.Path.{path_counts, corners_left};
 ghost use Rattle.boundary_path.specs.Rows.{items_of};
 
+use boundary_path::Row;
 use path::{Frame, PathCounts};
 
 // path_import::import_path, over rows.

@@ -18,5 +18,7 @@ pub extern "C" fn bezinkwolu_to_convex_polygons_with_max_vertices(
     ensures { NumberedAnswered split limit (rows_mesh mesh.now) starts.old corners.old
         result starts.new corners.new }
 {
-    boundary_split::bezinkwolu_to_convex_polygons_with_max_vertices(mesh, limit, split, starts, corners)
+    boundary_split::bezinkwolu_to_convex_polygons_with_max_vertices(
+        mesh, limit, split, starts, corners,
+    )
 }

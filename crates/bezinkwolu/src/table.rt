@@ -54,5 +54,12 @@ pub extern "C" fn bezinkwolu_show_part<'a>(
         (result ≡ told_shown ls lc rs rc right k)
         × (slice result.offset (result.offset + result.length) (cond right rc lc) ≡ shown_part ls lc rs rc right k) }
 {
-    boundary_table::bezinkwolu_show_part(left_starts, left_corners, right_starts, right_corners, right, k)
+    boundary_table::bezinkwolu_show_part(
+        left_starts,
+        left_corners,
+        right_starts,
+        right_corners,
+        right,
+        k,
+    )
 }

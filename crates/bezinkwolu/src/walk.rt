@@ -3,7 +3,7 @@ ghost use Rattle.std.specs.Prelude.{◌≡◌, true, false};
 ghost use Rattle.walk.specs.Calls.{begun_of, pointed_of, edged_of, advanced_of, stepped_of, paired_of, pair_stepped_of};
 ghost use Rattle.boundary_walk.specs.Told.{told_begun, told_pointed, told_edged, told_advanced, told_stepped, told_paired, told_next};
 
-use boundary_walk::{ToldPlace, ToldPoint, ToldEdge, ToldStep, ToldPair, ToldNext};
+use boundary_walk::{ToldEdge, ToldNext, ToldPair, ToldPlace, ToldPoint, ToldStep};
 use pair::{ConvexSum, Place};
 
 // walk_begin::begin.

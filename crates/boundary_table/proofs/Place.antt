@@ -67,7 +67,7 @@ module _ (ls : List ℕ) (lc : List ℤ) (rs : List ℕ) (rc : List ℤ) (right 
     known = shows ls lc rs rc right k (sym e ∙ z)
 
     pub right_kept : right ≡ true → (table_broken rs rc ≡ false) × (k < part_count rs)
-    right_kept r = (known.right-too, within z (ap (λ b. cond b rs ls) r) (ap (λ b. cond b rc lc) r) known.right-too)
+    right_kept r = (known.right_too, within z (ap (λ b. cond b rs ls) r) (ap (λ b. cond b rc lc) r) known.right_too)
 
     pub left_kept : right ≡ false → (table_broken ls lc ≡ false) × (k < part_count ls)
     left_kept r = (known.left, within z (ap (λ b. cond b rs ls) r) (ap (λ b. cond b rc lc) r) known.left)
@@ -75,7 +75,7 @@ module _ (ls : List ℕ) (lc : List ℤ) (rs : List ℕ) (rc : List ℤ) (right 
     module _ {at : ℕ} {l : List ℤ} (b : l ≡ shown_part ls lc rs rc right k) where
       pub right_told : right ≡ true → at ≡ 2 * get_or rs k 0
           → (record { fault = 0; offset = at; length = length l } ≡ told_shown ls lc rs rc right k) × (slice at (at + length l) (cond right rc lc) ≡ shown_part ls lc rs rc right k)
-      right_told r a = told_there z (ap (λ b. cond b rs ls) r) (ap (λ b. cond b rc lc) r) known.right-too a b
+      right_told r a = told_there z (ap (λ b. cond b rs ls) r) (ap (λ b. cond b rc lc) r) known.right_too a b
 
       pub left_told : right ≡ false → at ≡ 2 * get_or ls k 0
           → (record { fault = 0; offset = at; length = length l } ≡ told_shown ls lc rs rc right k) × (slice at (at + length l) (cond right rc lc) ≡ shown_part ls lc rs rc right k)

@@ -1,5 +1,5 @@
--- Triangles taken and not yet taken: membership (`is_in`), as a count (`is_in_false`, `is_in_true`),
--- and how many numbers below n a list lacks (`untaken`). Assumes nothing.
+-- Triangles taken and not yet taken: membership (`is_in`), as a count (`is_in_false`,
+-- `is_in_true`), and how many numbers below n a list lacks (`untaken`). Assumes nothing.
 use mathlib.Core.Path.{◌≡◌, refl, sym, ◌∙◌, ap}
 use mathlib.Core.Bool.{Bool, true, false, cond}
 use mathlib.Core.List.{List, [], ◌∷◌, ◌++◌, append_assoc}

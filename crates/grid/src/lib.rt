@@ -7,8 +7,8 @@
 ghost use Rattle.std.specs.Prelude.{◌≡◌, false, T, pos, negsuc};
 ghost use Rattle.std.specs.Float.{fin};
 ghost use Rattle.std.specs.Float.Ieee.{lt};
-ghost use Rattle.floats.specs.Floats.{number, multiple, signed, nearest as nearestOf};
-ghost use Rattle.grid.specs.Grid.{within_range, step_count, on_grid, scaled as scaledOf};
+ghost use Rattle.floats.specs.Floats.{number, multiple, signed, nearest as nearest_of};
+ghost use Rattle.grid.specs.Grid.{within_range, step_count, on_grid, scaled as scaled_of};
 
 // A current point's coordinates lie within this of zero.
 const RANGE: f64 = 1048576.0;
@@ -65,7 +65,7 @@ pub fn on_grid(v: f64) -> bool
 
 // x less the origin, rounded once, times the step count.
 pub fn scaled(x: f64, origin: f64, steps: f64) -> f64
-    ensures { result ≡ scaledOf x origin steps }
+    ensures { result ≡ scaled_of x origin steps }
 {
     (x - origin) * steps
 }
@@ -96,7 +96,7 @@ fn one_beside(v: f64) -> i32
 // v to the nearest whole number, halves away from zero.
 pub fn nearest(v: f64) -> i32
     requires { T (on_grid v) }
-    ensures { result ≡ nearestOf (multiple v) }
+    ensures { result ≡ nearest_of (multiple v) }
 {
     // halves to the even number
     let whole = (v + SHIFT) - SHIFT;

@@ -1,7 +1,7 @@
--- The pieces of a listing's lines: of the first (`head_pieces`), of a part's (`part_pieces`), and the
--- part lines from part k on (`lines_from`), with what each makes.
--- In order: the first line; a part's; the room for part k's; all part lines; they come after the
--- first (`listing_put`). Assumes nothing.
+-- The pieces of a listing's lines: of the first (`head_pieces`), of a part's (`part_pieces`), and
+-- the part lines from part k on (`lines_from`), with what each makes. In order: the first line; a
+-- part's; the room for part k's; all part lines; they come after the first (`listing_put`). Assumes
+-- nothing.
 use mathlib.Core.Path.{◌≡◌, refl, sym, ◌∙◌, ap, subst}
 use mathlib.Core.Bool.{false}
 use mathlib.Core.List.{List, [], ◌∷◌, ◌++◌, flatten}

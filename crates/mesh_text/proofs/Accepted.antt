@@ -43,10 +43,10 @@ unfolding telling
 few_lines {k} n [] h w = (omega arith, omega (arith, wrong_none k n w))
 few_lines {k} n (l ∷ ls) h w =
     by_test (is_passed_over l)
-    (λ e. let f = few_lines (n + 1) ls h (sym (wrong_passed l ls e k n) ∙ w) in (omega (arith, ap length (telling_passed l ls e)), omega (arith, ap length (telling_passed l ls e))))
+    (λ e. let f = few_lines {k = k} (n + 1) ls h (sym (wrong_passed l ls e k n) ∙ w) in (omega (arith, ap length (telling_passed l ls e)), omega (arith, ap length (telling_passed l ls e))))
     (λ e.
     let m = right_more k n l ls e w in
-    let f = few_lines (n + 1) ls (omega (arith, fits_few k l m.0)) m.1 in
+    let f = few_lines {k = k + 1} (n + 1) ls (omega (arith, fits_few k l m.0)) m.1 in
     (omega (arith, ap length (telling_more l ls e)), omega (arith, ap length (telling_more l ls e))))
 
 pub few_triangles : (text : List ℕ) → wrong_line text ≡ 0 → length (triangles_of text) ≤ max_written

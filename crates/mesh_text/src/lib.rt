@@ -1,6 +1,6 @@
 // A mesh written by hand turned into a mesh file: `to_mesh_file`, of any bytes. Its answer and the
-// lent bytes as it returns equal `conversion` and `bytes_converted` of specs/Conversion.antt: a text
-// that is not as a mesh is written is refused by its first wrong line and changes nothing. The
+// lent bytes as it returns equal `conversion` and `bytes_converted` of specs/Conversion.antt: a
+// text that is not as a mesh is written is refused by its first wrong line and changes nothing. The
 // words are gathered line by line and written once the whole text is judged. What is told of a
 // refusal is mesh_told's. Leans on mesh_lines, fields, table_write and table_words.
 #![tactic(auto)]

@@ -1,6 +1,6 @@
 -- What is told of a text, by the pieces that the code puts. In order: a field shown; lengths
--- (`standing_room_lem`, `should_room_lem`, `said_room_lem`, `at_room`, `wrong_room`); what stands and what
--- should, put (`put_ends`, `put_quoted`, `put_many`, `put_pieces`); a wrong line put
+-- (`standing_room_lem`, `should_room_lem`, `said_room_lem`, `at_room`, `wrong_room`); what stands
+-- and what should, put (`put_ends`, `put_quoted`, `put_many`, `put_pieces`); a wrong line put
 -- (`wrong-pieces`); by what the text was turned into (`told_written`, `told_wrong`, `told_long`).
 -- Assumes nothing.
 use mathlib.Core.Path.{◌≡◌, refl, sym, ◌∙◌, ap}

@@ -1,6 +1,6 @@
 -- What is printed of two mesh files (`contours_printed`), and by which numbers they are refused
 -- (`refused_by_number`). Assumes nothing.
-use mathlib.Core.Path.{◌≡◌, refl, sym, ◌∙◌, ap}
+use mathlib.Core.Path.{◌≡◌, refl, sym, ◌∙◌, ap, subst}
 use mathlib.Core.Bool.{Bool, true, false, cond}
 use mathlib.Core.List.{List, [], ◌∷◌, ◌++◌, map}
 use mathlib.Core.Logic.{◌⊎◌, inl, inr, ⊎_elim}
@@ -51,7 +51,7 @@ first_of : (ks : List Kind) → Of (map (λ k. k.0) ks) (first_fault ks)
 unfolding first_fault
 first_of [] = inl refl
 first_of (k ∷ ks) =
-    by_test k.1 (λ t. rw t (inr (inl refl))) (λ t. rw t (⊎_elim (λ z. inl z) (λ a. inr (inr a)) (first_of ks)))
+    by_test k.1 (λ t. rw t (inr (inl refl))) (λ t. subst (Of (map (λ x. x.0) (k ∷ ks))) (let e : first_fault ks ≡ first_fault (k ∷ ks) = rw t refl in e) (⊎_elim (λ z. inl z) (λ a. inr (inr a)) (first_of ks)))
 
 -- of numbers that all stand in `refusal_numbers`
 listed : {f : ℕ} (ns : List ℕ) → All (λ n. Any (λ m. n ≡ m) refusal_numbers) ns → Of ns f → Of refusal_numbers f

@@ -1,5 +1,5 @@
--- The fault of a place, by the tests that code makes (`too_short`, `off_grid`, `on_grid_lem`), and what
--- none tells (`point_good`); a refusal of the place or of a file (`point_refused`,
+-- The fault of a place, by the tests that code makes (`too_short`, `off_grid`, `on_grid_lem`), and
+-- what none tells (`point_good`); a refusal of the place or of a file (`point_refused`,
 -- `files_refused`). Assumes nothing.
 use mathlib.Core.Path.{◌≡◌, sym, ◌∙◌, ap}
 use mathlib.Core.Bool.{true, false, not}

@@ -1,6 +1,6 @@
 -- All pairs of two operands' walks in order (`InOrder`), each as pair_chains takes it (`pair_at`,
--- `IsPair`), its contour (`pair_contour_at`) and how many edges it has (`edges_at`); the buffers cut
--- to the points in use (`Used`). Assumes nothing.
+-- `IsPair`), its contour (`pair_contour_at`) and how many edges it has (`edges_at`); the buffers
+-- cut to the points in use (`Used`). Assumes nothing.
 use Rattle.std.specs.Prelude.{◌≡◌, cond, ℕ, ◌+◌, ◌*◌, ◌-◌, ◌≤◌, ◌<◌, ◌^◌, min, eqb, length, get_or, ℤ}
 use mathlib.Core.List.{List, [], map, flatten}
 use Rattle.plane.specs.Plane.{Pt}

@@ -1,6 +1,6 @@
--- Merges of two walks of a buffer, and of one with each right one (`merged_in`, `merged_row_in`), and
--- contours put one after another into lent starts and corners (`PairsRoom`, `PairsPut`, `AllPut`).
--- Assumes nothing.
+-- Merges of two walks of a buffer, and of one with each right one (`merged_in`, `merged_row_in`),
+-- and contours put one after another into lent starts and corners (`PairsRoom`, `PairsPut`,
+-- `AllPut`). Assumes nothing.
 use Rattle.std.specs.Prelude.{◌≡◌, ℕ, ◌+◌, ◌<◌, ◌^◌, length, ℤ}
 use mathlib.Core.List.{List, ◌++◌, flatten}
 use Rattle.integers.specs.Lists.{overlay}

@@ -1,7 +1,7 @@
 -- Two operands as walks in work buffers: a refusal before (`call_refused`), buffers that hold any
 -- two (`large`), the one unrolled after the other (`left_unrollable`, `right_unrollable`,
--- `walked`), whose pairs are the pairs of parts (`contours_in_lem`), and so the answer (`unrolleds`,
--- `answered`). Assumes nothing.
+-- `walked`), whose pairs are the pairs of parts (`contours_in_lem`), and so the answer
+-- (`unrolleds`, `answered`). Assumes nothing.
 use mathlib.Core.Path.{◌≡◌, refl, sym, ◌∙◌, ap, ap₂, subst}
 use mathlib.Core.Bool.{Bool, false}
 use mathlib.Core.List.{List, [], ◌∷◌, ◌++◌, flatten}

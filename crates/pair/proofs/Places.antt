@@ -1,10 +1,9 @@
--- A walk by places is a list of edges: laws of `begin`, `advance`, `point_of`, `edge_of`, `handed` of
--- specs/Walk.antt and specs/Demand.antt.
--- In order: where a walk begins, one case a winding (`begin_by`); the walk's places are corners of
--- the contour (`Valid`); its points are the first and the edges added (`point_advance`); the edges
--- handed out: once round in table order (`walk_onward`), backwards (`walk_backward`), and out and
--- back along a segment (`walk_segment`, `walk_point`); no more steps than corners
--- (`begin_remaining`). Assumes nothing.
+-- A walk by places is a list of edges: laws of `begin`, `advance`, `point_of`, `edge_of`, `handed`
+-- of specs/Walk.antt and specs/Demand.antt. In order: where a walk begins, one case a winding
+-- (`begin_by`); the walk's places are corners of the contour (`Valid`); its points are the first
+-- and the edges added (`point_advance`); the edges handed out: once round in table order
+-- (`walk_onward`), backwards (`walk_backward`), and out and back along a segment (`walk_segment`,
+-- `walk_point`); no more steps than corners (`begin_remaining`). Assumes nothing.
 use mathlib.Core.Path.{◌≡◌, refl, sym, ◌∙◌, ap, ap₂, subst}
 use mathlib.Core.Bool.{Bool, true, false, cond}
 use mathlib.Core.List.{List, [], ◌∷◌, ◌++◌, map, map-id, reverse}

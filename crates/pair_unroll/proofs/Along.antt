@@ -192,19 +192,19 @@ last_cons p e l = refl
 runs_more :
     (p : Pt) {d s : Pt} (e : Pt) (l : List Pt) → Nz d → Nz s → Same d s → is_zero e ≡ false → All Nz l →
     with_point (points_along p (runs d s l)) (last_along (p +ᵖ s) l +ᵖ e) ≡ points_along p (runs d s (l ++ (e ∷ [])))
-runs_more p e [] nd ns h z a = run_more p e nd ns h z
-runs_more p {d} {s} e (f ∷ l) nd ns h z a =
+runs_more p {d = d} {s = s} e [] nd ns h z a = run_more p e nd ns h z
+runs_more p {d = d} {s = s} e (f ∷ l) nd ns h z a =
     let r = last_along ((p +ᵖ s) +ᵖ f) l +ᵖ e in
     ap (λ q. with_point (points_along p (runs d s (f ∷ l))) (q +ᵖ e)) (last_cons (p +ᵖ s) f l)
     ∙ by_test (is_equal (angle_cmp d f))
     (λ t. let df : Same d f = equal_same t in
     let k = add_same ns a.0 (same_trans ns nd a.0 (same_sym h) df) in
     ap₂ (λ g q. with_point (points_along p g) (last_along q l +ᵖ e)) (runs_on d s f l t) (+ᵖ_assoc p s f)
-    ∙ runs_more p e l nd k.nonzero (same_trans nd a.0 k.nonzero df (same_sym k.same)) z a.1
+    ∙ runs_more p {d = d} {s = s +ᵖ f} e l nd k.nonzero (same_trans nd a.0 k.nonzero df (same_sym k.same)) z a.1
     ∙ ap (points_along p) (sym (runs_on d s f (l ++ (e ∷ [])) t)))
     (λ t. ap (λ g. with_point (points_along p g) r) (runs_new d s f l t)
     ∙ first_stays p s (runs f f l) r (some_run f f l)
-    ∙ ap (λ g. p ∷ g) (runs_more (p +ᵖ s) e l a.0 a.0 (same_refl f) z a.1)
+    ∙ ap (λ g. p ∷ g) (runs_more (p +ᵖ s) {d = f} {s = f} e l a.0 a.0 (same_refl f) z a.1)
     ∙ sym (ap (points_along p) (runs_new d s f (l ++ (e ∷ [])) t) ∙ along_cons p s (runs f f (l ++ (e ∷ [])))))
 
 grouped_more :
@@ -212,7 +212,7 @@ grouped_more :
     with_point (points_along p (grouped l)) (last_along p l +ᵖ e) ≡ points_along p (grouped (l ++ (e ∷ [])))
 unfolding grouped last_along
 grouped_more p e [] z a = unfold with_point points_along runs in rw (eq_next p e ∙ z)
-grouped_more p e (d ∷ l) z a = runs_more p e l a.0 a.0 (same_refl d) z a.1
+grouped_more p e (d ∷ l) z a = runs_more p {d = d} {s = d} e l a.0 a.0 (same_refl d) z a.1
 
 -- the last point again
 with_last : (p : Pt) (l : List Pt) → with_point (points_along p l) (last_along p l) ≡ points_along p l
@@ -248,15 +248,15 @@ along_more p e l = by_test (is_zero e) zero_edge other
 module _ (Q : Pt → Type 0) where
   every_runs : {p : Pt} (d s : Pt) (l : List Pt) → Q p → All Q (points_along (p +ᵖ s) l) → All Q (points_along p (runs d s l))
   unfolding points_along
-  every_runs d s [] q a = unfold runs in (q, a)
-  every_runs {p} d s (f ∷ l) q a = by_test (is_equal (angle_cmp d f))
-      (λ t. subst (λ g. All Q (points_along p g)) (sym (runs_on d s f l t)) (every_runs d (s +ᵖ f) l q (subst (λ r. All Q (points_along r l)) (+ᵖ_assoc p s f) a.1)))
-      (λ t. subst (λ g. All Q (points_along p g)) (sym (runs_new d s f l t)) (q, every_runs f f l a.0 a.1))
+  every_runs {p = p} d s [] q a = unfold runs in (q, a)
+  every_runs {p = p} d s (f ∷ l) q a = by_test (is_equal (angle_cmp d f))
+      (λ t. subst (λ g. All Q (points_along p g)) (sym (runs_on d s f l t)) (every_runs {p = p} d (s +ᵖ f) l q (subst (λ r. All Q (points_along r l)) (+ᵖ_assoc p s f) a.1)))
+      (λ t. subst (λ g. All Q (points_along p g)) (sym (runs_new d s f l t)) (q, every_runs {p = p +ᵖ s} f f l a.0 a.1))
 
   every_grouped : (p : Pt) (l : List Pt) → All Q (points_along p l) → All Q (points_along p (grouped l))
   unfolding points_along grouped
   every_grouped p [] a = a
-  every_grouped p (e ∷ l) a = every_runs e e l a.0 a.1
+  every_grouped p (e ∷ l) a = every_runs {p = p} e e l a.0 a.1
 
   every_live : (p : Pt) (l : List Pt) → All Q (points_along p l) → All Q (points_along p (live l))
   unfolding points_along

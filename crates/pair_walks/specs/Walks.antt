@@ -1,5 +1,6 @@
 -- Walks gathered in a buffer (`Walks`), those of two operands in it, the left one's first
--- (`lefts_in`, `rights_in`), and their merges in order (`merged_all`, `contours_in`). Assumes nothing.
+-- (`lefts_in`, `rights_in`), and their merges in order (`merged_all`, `contours_in`). Assumes
+-- nothing.
 use Rattle.std.specs.Prelude.{◌≡◌, true, ℕ, ◌+◌, ◌≤◌, length, get_or, take, drop, ℤ}
 use mathlib.Core.List.{List, [], map, flatten}
 use Rattle.integers.specs.Lists.{All}

@@ -127,7 +127,7 @@ module _ (bytes : List ℕ) where
         (λ f. first_next 7 _ f ∙ first_this 7 _ (counts_rules bytes (right_place bytes) (right_inside l) t))
 
   pub shape_passed : shape_fault bytes ≡ 0 → job_fault bytes ≡ first_fault (pair_kinds (reflected_of bytes) (left_of bytes) (right_of bytes))
-  shape_passed e = let s = shaped e in to_operands (le-ltb _ 4 s.long) (le-ltb 1 _ s.known) s.right-length
+  shape_passed e = let s = shaped e in to_operands (le-ltb _ 4 s.long) (le-ltb 1 _ s.known) s.right_length
 
   pub shape_told : (shape_fault bytes ≡ 0 → ⊥) → job_fault bytes ≡ shape_fault bytes
   unfolding shape_fault job_fault

@@ -1,7 +1,7 @@
 // The rules of a table that stands in the bytes of a pair job, or of two stored tables, from word k
 // on: `table_broken` tells whether it breaks them (fault 7), of a table that lies within the bytes
-// and whose counts are within the limits. It equals table's `table_broken` of pairs_job's `starts_at`
-// and `corners_at`. Leans on pairs_job, table_words and table.
+// and whose counts are within the limits. It equals table's `table_broken` of pairs_job's
+// `starts_at` and `corners_at`. Leans on pairs_job, table_words and table.
 #![tactic(auto)]
 
 ghost use Rattle.std.specs.Prelude.{◌≡◌, false, ◌+◌, ◌*◌, ◌≤◌, length};

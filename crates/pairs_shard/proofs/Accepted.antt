@@ -219,7 +219,7 @@ module _ (f e : ℕ) (bytes : List ℕ) (c : Cuts f e bytes) where
       let o = shape_passed bytes z in
       let t = ap (λ w. eqb w 1) (head_word c 0 (omega arith)) in
       let first = first_none (table_broken (left_of bytes).starts (left_of bytes).corners) _ (omega arith) (sym o ∙ j) in
-      to_operands S (le-ltb (length S) 4 (omega (arith, length_cut k))) (ap (ltb 1) (head_word c 0 (omega arith)) ∙ le-ltb 1 (operation bytes) s.known) (sized_cut s.right-length)
+      to_operands S (le-ltb (length S) 4 (omega (arith, length_cut k))) (ap (ltb 1) (head_word c 0 (omega arith)) ∙ le-ltb 1 (operation bytes) s.known) (sized_cut s.right_length)
       ∙ (λ i. first_fault (pair_kinds (t i) (left_of S) (right_read c i)))
       ∙ fewer_kinds (reflected_of bytes) (right_of bytes) (fewer (left_as bytes first.0) h) (sym o ∙ j)
 

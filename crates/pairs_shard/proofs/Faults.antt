@@ -39,7 +39,7 @@ module _ (bytes : List ℕ) where
   pub left_counted : shape_fault bytes ≡ 0 → counts_broken bytes 5 ≡ false
   left_counted z =
       let s = shaped bytes z in
-      rw (le-ltb max_parts (word_at bytes 5) s.left-parts) (le-ltb max_corners (word_at bytes 6) s.left_corners)
+      rw (le-ltb max_parts (word_at bytes 5) s.left_parts) (le-ltb max_corners (word_at bytes 6) s.left_corners)
 
   -- what no fault tells
   pub record Cuttable : Type 0 where

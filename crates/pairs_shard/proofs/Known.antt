@@ -58,7 +58,7 @@ module _ (f e : ℕ) (bytes : List ℕ) (c : Cuts f e bytes) where
   table_sound = sound _ _ (cuttable bytes c.fault).rules
 
   pub many : length (starts_at bytes 5) ≡ word_at bytes 5 + 1
-  many = count_starts bytes 5 (left_inside bytes (shaped bytes (cuttable bytes c.fault).shape).right-length)
+  many = count_starts bytes 5 (left_inside bytes (shaped bytes (cuttable bytes c.fault).shape).right_length)
 
   pub rising : (g d : ℕ) → g + d ≤ word_at bytes 5 → start_at bytes g ≤ start_at bytes (g + d)
   rising g d h =
@@ -68,17 +68,17 @@ module _ (f e : ℕ) (bytes : List ℕ) (c : Cuts f e bytes) where
   pub each_bounded : {k : ℕ} → k ≤ word_at bytes 5 → start_at bytes k ≤ word_at bytes 6
   each_bounded {k} h =
       let s = shaped bytes (cuttable bytes c.fault).shape in
-      omega (arith, table_sound.bounded k (omega (arith, many)), count_numbers bytes 5 (left_inside bytes s.right-length), start_word bytes h)
+      omega (arith, table_sound.bounded k (omega (arith, many)), count_numbers bytes 5 (left_inside bytes s.right_length), start_word bytes h)
 
   pub known : Known f e bytes
   known =
       let s = shaped bytes (cuttable bytes c.fault).shape in
-      let n = sized bytes s.right-length in
+      let n = sized bytes s.right_length in
       let z : f + (e - f) ≡ e = omega (arith, c.parts) in
       record {
         inside = omega (arith, n, place bytes);
-        outside = omega (arith, n, place bytes, s.right-parts, s.right_corners);
-        few_parts = s.left-parts;
+        outside = omega (arith, n, place bytes, s.right_parts, s.right_corners);
+        few_parts = s.left_parts;
         few_corners = s.left_corners;
         order = c.parts;
         past = c.past;

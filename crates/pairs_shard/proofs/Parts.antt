@@ -56,9 +56,9 @@ rise_bound {b} {x} (y ∷ s) r = omega (arith, r.0, rise_bound {b = b} {x = y} s
 
 parts_less : (a b : ℕ) {x : ℕ} (s : List ℕ) (l : List Pt) → a ≤ x → Rise b (x ∷ s) → parts_of (map (λ t. t - a) (x ∷ s)) (slice a b l) ≡ parts_of (x ∷ s) l
 unfolding parts_of
-parts_less a b {x} [] l h r = refl
-parts_less a b {x} (y ∷ s) l h r =
-    λ i. slice_slice l h r.0 (rise_bound s r.1) i ∷ parts_less a b s l (omega (arith, h, r.0)) r.1 i
+parts_less a b {x = x} [] l h r = refl
+parts_less a b {x = x} (y ∷ s) l h r =
+    λ i. slice_slice l h r.0 (rise_bound s r.1) i ∷ parts_less a b {x = y} s l (omega (arith, h, r.0)) r.1 i
 
 -- starts that rise, by their numbers
 pub rise_by : {b : ℕ} (s : List ℕ) → ((k : ℕ) → suc k < length s → get_or s k 0 ≤ get_or s (suc k) 0) → ((k : ℕ) → k < length s → get_or s k 0 ≤ b) → Rise b s

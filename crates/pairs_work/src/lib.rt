@@ -1,8 +1,8 @@
 // A pair job before its lines: `begin_job` takes any bytes, tells the job's fault or how many parts
 // its operands have and the result's bounds, and leaves the walks of both operands, with a number a
 // point, in its caller's work buffers, which pair_lines puts into lines (`Begins` of
-// specs/Begun.antt, with pairs_job's `job_fault`, `left_of` and `right_of`). Of a job that is refused
-// nothing is said of the buffers. Leans on pairs_job, minkowski_faults, minkowski_work,
+// specs/Begun.antt, with pairs_job's `job_fault`, `left_of` and `right_of`). Of a job that is
+// refused nothing is said of the buffers. Leans on pairs_job, minkowski_faults, minkowski_work,
 // pair_numbers and a law of minkowski_keyed.
 #![tactic(auto)]
 

@@ -87,10 +87,10 @@ inside_drawn : (p : Point) (is : List PathItem) → lines_then_close is ≡ true
 unfolding lines_then_close points_from reached_from every
 inside_drawn p [] e = differ e
 inside_drawn p (Move x y ∷ is) e = differ e
-inside_drawn p (Line x y ∷ is) e = more p (Line x y) refl (inside_drawn _ is e)
-inside_drawn p (Horizontal x ∷ is) e = more p (Horizontal x) refl (inside_drawn _ is e)
-inside_drawn p (Vertical y ∷ is) e = more p (Vertical y) refl (inside_drawn _ is e)
-inside_drawn p (RelativeLine x y ∷ is) e = more p (RelativeLine x y) refl (inside_drawn _ is e)
+inside_drawn p (Line x y ∷ is) e = more p (Line x y) refl (inside_drawn (reach p (Line x y)) is e)
+inside_drawn p (Horizontal x ∷ is) e = more p (Horizontal x) refl (inside_drawn (reach p (Horizontal x)) is e)
+inside_drawn p (Vertical y ∷ is) e = more p (Vertical y) refl (inside_drawn (reach p (Vertical y)) is e)
+inside_drawn p (RelativeLine x y ∷ is) e = more p (RelativeLine x y) refl (inside_drawn (reach p (RelativeLine x y)) is e)
 inside_drawn p (Close ∷ []) e = record { long = refl; reached = refl; going = tt }
 inside_drawn p (Close ∷ i ∷ is) e = differ e
 

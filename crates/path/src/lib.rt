@@ -10,8 +10,8 @@
 ghost use Rattle.std.specs.Prelude.{◌≡◌, true, cond, ◌<◌, T, length};
 ghost use Rattle.plane.specs.Machine.{point};
 ghost use Rattle.corners.specs.Corners.{points_of, with_corner};
-ghost use Rattle.path.specs.Path.{reach as reachOf, initial_point as initialPointOf, framed as framedOf, is_within, is_on_grid, corner_of};
-ghost use Rattle.path.specs.Judging.{moved as movedOf, drawn as drawnOf, ended as ended_of, is_closed, judge_item, begun as begun_of, broken as brokenOf, closed as closed_of, judged_counts, standing};
+ghost use Rattle.path.specs.Path.{reach as reach_of, initial_point as initial_point_of, framed as framed_of, is_within, is_on_grid, corner_of};
+ghost use Rattle.path.specs.Judging.{moved as moved_of, drawn as drawn_of, ended as ended_of, is_closed, judge_item, begun as begun_of, broken as broken_of, closed as closed_of, judged_counts, standing};
 
 use plane::IntPoint;
 
@@ -70,7 +70,7 @@ pub struct PathCounts {
 
 // The point that an item reaches from `at`.
 pub fn reach(at: Point, item: PathItem) -> Point
-    ensures { result ≡ reachOf at item }
+    ensures { result ≡ reach_of at item }
 {
     let x = at.x;
     let y = at.y;
@@ -89,7 +89,7 @@ pub fn reach(at: Point, item: PathItem) -> Point
 
 // The stage behind a move.
 fn moved(stage: Stage) -> Stage
-    ensures { result ≡ movedOf stage }
+    ensures { result ≡ moved_of stage }
 {
     match stage {
         Stage::Opening => Stage::Inside,
@@ -101,7 +101,7 @@ fn moved(stage: Stage) -> Stage
 
 // The stage behind a line of any kind.
 fn drawn(stage: Stage) -> Stage
-    ensures { result ≡ drawnOf stage }
+    ensures { result ≡ drawn_of stage }
 {
     match stage {
         Stage::Opening => Stage::Broken,
@@ -183,14 +183,14 @@ fn stand(frame: Frame, off: bool, stage: Stage, at: Point) -> Judged
 
 // Where a path stands before its move, which reaches its own point from anywhere.
 pub fn initial_point() -> Point
-    ensures { result ≡ initialPointOf }
+    ensures { result ≡ initial_point_of }
 {
     Point { x: 0.0, y: 0.0 }
 }
 
 // In a stage, with or without a coordinate out of range, at the first point.
 fn staged(stage: Stage, off: bool) -> Judged
-    ensures { result ≡ record { stage = stage; off = off; at = initialPointOf } }
+    ensures { result ≡ record { stage = stage; off = off; at = initial_point_of } }
 {
     Judged {
         stage: stage,
@@ -208,7 +208,7 @@ pub fn begun() -> Judged
 
 // Of a path out of order.
 pub fn broken() -> Judged
-    ensures { result ≡ brokenOf }
+    ensures { result ≡ broken_of }
 {
     staged(Stage::Broken, false)
 }
@@ -243,7 +243,7 @@ pub fn judge_item(frame: Frame, judged: Judged, item: PathItem) -> Judged
 
 // Whether a frame's step count is one and its origin is of finite numbers.
 fn framed(frame: Frame) -> bool
-    ensures { result ≡ framedOf frame }
+    ensures { result ≡ framed_of frame }
 {
     let x = frame.x;
     let y = frame.y;
@@ -343,9 +343,9 @@ pub fn write_corner(frame: Frame, at: Point, k: usize, corners: &mut [i32])
 
 // The point that an item reaches, with its corner put at place k.
 pub fn write_item(frame: Frame, at: Point, item: PathItem, k: usize, corners: &mut [i32]) -> Point
-    requires { T (is_on_grid frame (reachOf at item)) × (k < length (points_of corners.old)) }
-    ensures { (result ≡ reachOf at item)
-        × (corners.new ≡ with_corner corners.old k (corner_of frame (reachOf at item))) }
+    requires { T (is_on_grid frame (reach_of at item)) × (k < length (points_of corners.old)) }
+    ensures { (result ≡ reach_of at item)
+        × (corners.new ≡ with_corner corners.old k (corner_of frame (reach_of at item))) }
 {
     let to = reach(at, item);
     write_corner(frame, to, k, corners);

@@ -1,8 +1,8 @@
 // Where a place lies by the contours of a pair result (`placement`): apart from all, touching, or
 // overlapping one. It takes any starts, corners and place, refuses with 7 and 2, and writes
-// nothing; its answer is `placed_of` of specs/Placement.antt. One pass over the starts, one over the
-// numbers, and one over the contours, each left at the first edge that the place is right of. Leans
-// on walk_read (a corner of lent numbers), table and plane.
+// nothing; its answer is `placed_of` of specs/Placement.antt. One pass over the starts, one over
+// the numbers, and one over the contours, each left at the first edge that the place is right of.
+// Leans on walk_read (a corner of lent numbers), table and plane.
 #![tactic(auto)]
 
 ghost use Rattle.std.specs.Prelude.{◌≡◌, true, false, cond, [], ◌<◌, get_or, pos};

@@ -3,6 +3,8 @@
 // text and input.
 #![tactic(auto)]
 
+// As many bytes as the longest refusal has: a word of eight, at most twenty digits, and the line's
+// end.
 const REFUSAL: usize = 29;
 
 // Writes a refusal on standard output.

@@ -1,8 +1,8 @@
 // The area centroid of a contour, rounded to the grid, and whether it serves as the centre of a
-// split: geom/centroid.rs and its use in advanced/convex.rs. `centre_of` answers what `centre_found`
-// says of a contour whose sums fit (`Summable`, specs/Centre.antt); that the divisions are in range
-// and the centre is on the grid is proved, where the Rust tests it. Leans on wide_divide, wide,
-// points (a corner of a buffer) and plane.
+// split: geom/centroid.rs and its use in advanced/convex.rs. `centre_of` answers what
+// `centre_found` says of a contour whose sums fit (`Summable`, specs/Centre.antt); that the
+// divisions are in range and the centre is on the grid is proved, where the Rust tests it. Leans on
+// wide_divide, wide, points (a corner of a buffer) and plane.
 #![tactic(auto)]
 
 ghost use Rattle.std.specs.Prelude.{◌≡◌, map, true, ◌*◌, ◌^◌, ◌≤◌, ◌<◌, length, pos, nat_abs, ◌+ℤ◌, ◌*ℤ◌};

@@ -1,7 +1,7 @@
 // A contour past the limit split by chords (advanced/convex.rs, `append_fan_parts`): the parts of
-// `fan_parts` of split/specs/Splitting.antt, appended to those gathered. Here too is what each split
-// uses: runs of corners appended, a part ended, the sizes of balanced groups. Leans on points and
-// split's definitions.
+// `fan_parts` of split/specs/Splitting.antt, appended to those gathered. Here too is what each
+// split uses: runs of corners appended, a part ended, the sizes of balanced groups. Leans on points
+// and split's definitions.
 #![tactic(auto)]
 
 ghost use Rattle.std.specs.Prelude.{◌≡◌, cond, ◌∷◌, [], ◌+◌, ◌<◌, ◌≤◌, ◌^◌, ltb, length, set};

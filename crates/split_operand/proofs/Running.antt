@@ -30,10 +30,10 @@ in_word_lem {z} h k = rw (≤-lt_z {x = z} {y = negsuc 9223372036854775807} (ome
 -- t and the terms so far are no more than t and all
 running : {t : ℤ} (l : List ℤ) → pos 0 ≤ℤ t → All (λ k. pos 0 ≤ℤ k) l → (t +ℤ sumℤ l) ≤ℤ pos 9223372036854775807 → total_leaves t l ≡ false
 unfolding total_leaves
-running [] n h k = refl
+running {t} [] n h k = refl
 running {t} (x ∷ l) n h k =
     let p = parts (sum_cons x l) n h.0 (nn_sum l h.1) k in
-    rw (in_word_lem p.0 p.1) (running l p.0 h.1 p.2)
+    rw (in_word_lem p.0 p.1) (running {t = t +ℤ x} l p.0 h.1 p.2)
   where
     parts : {t x r : ℤ} {s : ℤ} → s ≡ x +ℤ r → pos 0 ≤ℤ t → pos 0 ≤ℤ x → pos 0 ≤ℤ r → (t +ℤ s) ≤ℤ pos 9223372036854775807
         → (pos 0 ≤ℤ (t +ℤ x)) × ((t +ℤ x) ≤ℤ pos 9223372036854775807) × (((t +ℤ x) +ℤ r) ≤ℤ pos 9223372036854775807)

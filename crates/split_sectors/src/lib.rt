@@ -1,6 +1,6 @@
 // A contour past the limit split about a centre (advanced/convex.rs, the loop of
-// `append_centroid_parts`): the parts of `centroid_parts` of split/specs/Splitting.antt, appended to
-// those gathered. Which centre, and whether it serves, is not said here. Leans on split_chords,
+// `append_centroid_parts`): the parts of `centroid_parts` of split/specs/Splitting.antt, appended
+// to those gathered. Which centre, and whether it serves, is not said here. Leans on split_chords,
 // points, convex_ring and plane.
 #![tactic(auto)]
 

@@ -27,10 +27,10 @@ split_each how m ps = flatten (map (split_contour how m) ps)
 
 -- work arrays of these lengths hold the parts of any mesh of n triangles, joined and split, and
 -- every place has a number of 32 bits
-pub record WorkRoom (n begins joined splitBegins points : ℕ) : Type 0 where
+pub record WorkRoom (n begins joined split_begins points : ℕ) : Type 0 where
   pub for_begins : n < begins
   pub for_joined : 3 * n ≤ joined
-  pub for_split_begins : 2 * n < splitBegins
+  pub for_split_begins : 2 * n < split_begins
   pub for_points : 6 * n ≤ points
-  pub few_starts : splitBegins < 2 ^ 32
+  pub few_starts : split_begins < 2 ^ 32
   pub few_points : points < 2 ^ 32

@@ -1,6 +1,6 @@
--- The rules of a part table: what `table_broken` tells where it is false, and of which tables it is.
--- In order: one start after another (`Step`); the starts as a loop goes through them; what holds of
--- a table that is not broken (`Sound`, `sound`); its parts give it back (`starts_parts`,
+-- The rules of a part table: what `table_broken` tells where it is false, and of which tables it
+-- is. In order: one start after another (`Step`); the starts as a loop goes through them; what
+-- holds of a table that is not broken (`Sound`, `sound`); its parts give it back (`starts_parts`,
 -- `corners_parts`) and are within the limits (`sound_limits`); the table of parts within the limits
 -- is not broken (`limits_sound`), and its parts are they (`parts_table`). Assumes nothing.
 use mathlib.Core.Path.{◌≡◌, refl, sym, ◌∙◌, ap, subst}

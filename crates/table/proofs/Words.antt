@@ -1,6 +1,6 @@
--- Words of 32 bits as bytes, the least first: laws of `bytes_of`, `word_of`, `words_of`, `word_bytes`,
--- `signed` and `unsigned` of `specs/Stored.antt`. In order: one word; lengths; round trips; word k
--- (`words_at`); sizes; signed numbers. Assumes nothing.
+-- Words of 32 bits as bytes, the least first: laws of `bytes_of`, `word_of`, `words_of`,
+-- `word_bytes`, `signed` and `unsigned` of `specs/Stored.antt`. In order: one word; lengths; round
+-- trips; word k (`words_at`); sizes; signed numbers. Assumes nothing.
 use mathlib.Core.Path.{◌≡◌, refl, sym, ◌∙◌, ap}
 use mathlib.Core.List.{List, [], ◌∷◌, ◌++◌, map, flatten, append_assoc}
 use Prim.Native.Nat.{ℕ, zero, suc, ◌+◌, ◌*◌, ◌/◌, ◌%◌, ◌<◌, ◌≤◌}

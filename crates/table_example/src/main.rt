@@ -3,6 +3,7 @@
 // table_read, table_write and lines.
 #![tactic(auto)]
 
+// Writes a byte in hexadecimal.
 fn print_byte(b: u8) {
     io::print_hex(1, b as u64, 2);
 }

@@ -1,8 +1,8 @@
 // Words of 32 bits in lent bytes, little-endian, as tables and samples are stored: one read, many
 // read into a lent slice, one written, and a signed number's word either way. Each equals its
-// definition in table's specs/Stored.antt; `put_words` of specs/Place.antt says what lent bytes hold
-// after words were written at a place. An inner layer of table_read, table_write and the samples:
-// callers show that the place lies within the bytes. Leans on table.
+// definition in table's specs/Stored.antt; `put_words` of specs/Place.antt says what lent bytes
+// hold after words were written at a place. An inner layer of table_read, table_write and the
+// samples: callers show that the place lies within the bytes. Leans on table.
 #![tactic(auto)]
 
 ghost use Rattle.std.specs.Prelude.{◌≡◌, [], ◌∷◌, map, ◌+◌, ◌*◌, ◌%◌, ◌≤◌, length, take, drop};

@@ -107,16 +107,16 @@ module _ (bytes : List ℕ) where
 
   module _ (g : Good) where
     pub left_writable : {out : List ℕ} → 147516 ≤ length out → Writable bytes 1 out 1
-    left_writable h = record { inside = omega (arith, g.length-is); few_parts = g.left-parts; few_corners = g.left_corners; room = omega (arith, g.left-parts, g.left_corners, h) }
+    left_writable h = record { inside = omega (arith, g.length_is); few_parts = g.left_parts; few_corners = g.left_corners; room = omega (arith, g.left_parts, g.left_corners, h) }
 
     pub right_writable : {r : ℕ} {out : List ℕ} → r ≡ table_words bytes 1 → 147516 ≤ length out → Writable bytes (1 + r) out (1 + r + 4)
     right_writable {r} {out} e h =
         subst (λ n. Writable bytes (1 + n) out (1 + n + 4)) (sym e)
         (record {
-          inside = omega (arith, g.length-is);
-          few_parts = g.right-parts;
+          inside = omega (arith, g.length_is);
+          few_parts = g.right_parts;
           few_corners = g.right_corners;
-          room = omega (arith, g.left-parts, g.left_corners, g.right-parts, g.right_corners, h);
+          room = omega (arith, g.left_parts, g.left_corners, g.right_parts, g.right_corners, h);
         })
 
     pub length_job : length (job_of bytes) ≤ 147516
@@ -126,12 +126,12 @@ module _ (bytes : List ℕ) where
           arith,
           length-append (take 4 bytes) (operand_bytes bytes 1 ++ operand_bytes bytes (right_table bytes)),
           length-append (operand_bytes bytes 1) (operand_bytes bytes (right_table bytes)),
-          length-take-le 4 bytes (omega (arith, g.length-is)),
-          length_operand bytes 1 (omega (arith, g.length-is)),
-          length_operand bytes (right_table bytes) (omega (arith, g.length-is)),
-          g.left-parts,
+          length-take-le 4 bytes (omega (arith, g.length_is)),
+          length_operand bytes 1 (omega (arith, g.length_is)),
+          length_operand bytes (right_table bytes) (omega (arith, g.length_is)),
+          g.left_parts,
           g.left_corners,
-          g.right-parts,
+          g.right_parts,
           g.right_corners,
         )
 
@@ -139,8 +139,8 @@ module _ (bytes : List ℕ) where
         → PutText (operand_bytes bytes (1 + r)) (4 * (1 + r + 4)) o₂ o₃ n → (n ≡ length (job_of bytes)) × (o₃ ≡ overlay (job_of bytes) o)
     unfolding job_of
     job_put {o} {o₁} {o₂} {o₃} {a} {b} {r} {n} e h p q t =
-        let x : a ≡ 4 = omega (arith, p.after, length-take-le 4 bytes (omega (arith, g.length-is))) in
-        let y : 4 * (1 + r + 4) ≡ b = omega (arith, e, q.after, length_operand bytes 1 (omega (arith, g.length-is))) in
+        let x : a ≡ 4 = omega (arith, p.after, length-take-le 4 bytes (omega (arith, g.length_is))) in
+        let y : 4 * (1 + r + 4) ≡ b = omega (arith, e, q.after, length_operand bytes 1 (omega (arith, g.length_is))) in
         let q' = subst (λ m. PutText (operand_bytes bytes 1) m o₁ o₂ b) (sym x) q in
         let t' = subst (λ k. PutText (operand_bytes bytes (1 + k)) b o₂ o₃ n) e (subst (λ m. PutText (operand_bytes bytes (1 + r)) m o₂ o₃ n) y t) in
         let f : PutText (take 4 bytes ++ operand_bytes bytes 1) 0 o o₂ b = put_after_lem (omega arith) p q' in

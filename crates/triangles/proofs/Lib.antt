@@ -1,10 +1,1 @@
-pub mod BySize
-pub mod Known
-pub mod Literal
-pub mod Local
-pub mod Locals
-pub mod PartsBySize
 pub mod Reading
-pub mod Refusing
-pub mod RowsCall
-pub mod RowsOf

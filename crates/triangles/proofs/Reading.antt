@@ -1,5 +1,6 @@
 -- The rows that are read so far are those of the triangles so far. Assumes nothing.
---     Read     after i of the structs: the rows' first i are theirs, and there are as many rows as before
+-- Read     after i of the structs: the rows' first i are theirs, and there are as many rows as
+-- before
 use mathlib.Core.Path.{◌≡◌, refl, sym, ap, subst, ◌∙◌}
 use mathlib.Core.List.{List, [], ◌∷◌, ◌++◌, map}
 use Prim.Native.Nat.{ℕ, suc, ◌+◌, ◌≤◌, ◌<◌}

@@ -1,8 +1,8 @@
 // A mesh lent as a slice of triangle structs (geom/triangle.rs), read into the rows that the
-// joining works over. A function with a slice of structs among its parameters is proved by a walk
-// of its MIR, by hand; so one reads a struct, and one for each size of work array reads all of
-// them, by one proof (proofs/RowsOf.antt). The sizes are three of joining's, so that a small mesh
-// does not wait for the filling of a large array. Leans on convex_regions, plane and table_words.
+// joining works over: one function reads a struct, and one for each size of work array reads all of
+// them (what is read so far: proofs/Reading.antt). The sizes are three of joining's, so that a
+// small mesh does not wait for the filling of a large array. Leans on convex_regions, plane and
+// table_words.
 #![tactic(auto)]
 
 ghost use Rattle.std.specs.Prelude.{◌≡◌, ◌<◌, ◌≤◌, length, get_or};

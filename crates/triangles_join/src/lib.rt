@@ -1,8 +1,7 @@
 // Joining over a lent slice of triangle structs: `to_convex_polygons`, with no `requires`, reads
 // the rows into a local array of the mesh's size class (triangles) and goes on as over rows, so
-// what it answers is said by the same definitions. It is proved by a walk of its MIR, by hand, and
-// exported to C for the runs beside the Rust alone. Leans on triangles, convex_join and
-// convex_gather.
+// what it answers is said by the same definitions. It is exported to C for the runs beside the Rust
+// alone. Leans on triangles, convex_join and convex_gather.
 #![tactic(auto)]
 
 ghost use Rattle.std.specs.Prelude.{◌≡◌, ◌≤◌, length, take};

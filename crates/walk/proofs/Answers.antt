@@ -1,8 +1,8 @@
--- The calls on walks: each answer's number is its fault number (`begun_number_lem`, `pointed_number_lem`,
--- `stepped_number_lem`, `next_number_lem`), a refusal hands the walk back as it came (`stepped_back`,
--- `next_back`), and an accepted step leaves a walk whose place is again a corner of its contour
--- (`step_placed`; `accepted`, `index_inside`, `next_inside`, `advance_placed`), as a walk begun
--- does (`begin_placed`). Assumes nothing.
+-- The calls on walks: each answer's number is its fault number (`begun_number_lem`,
+-- `pointed_number_lem`, `stepped_number_lem`, `next_number_lem`), a refusal hands the walk back as
+-- it came (`stepped_back`, `next_back`), and an accepted step leaves a walk whose place is again a
+-- corner of its contour (`step_placed`; `accepted`, `index_inside`, `next_inside`,
+-- `advance_placed`), as a walk begun does (`begin_placed`). Assumes nothing.
 use mathlib.Core.Path.{◌≡◌, refl, sym, ◌∙◌}
 use mathlib.Core.Bool.{Bool, true, false, cond, true≢false}
 use mathlib.Core.List.{List}

@@ -1,4 +1,4 @@
--- The defined answers keep the promises of specs/Contracts.antt: a walk begun (`begun_by`), its
+-- The defined answers keep the promises of specs/Clauses.antt: a walk begun (`begun_by`), its
 -- point, its edge, its advance, a step (`pointed_by`, `edged_by`, `advanced_by`, `stepped_by`), a
 -- pair begun (`paired_by`). Assumes nothing.
 use mathlib.Core.Path.{◌≡◌, refl, sym, ◌∙◌, ap}

@@ -3,9 +3,8 @@
 // struct apart and hands its contour and its place to the covered function that answers: it takes
 // any walk, also one that a caller made up, and refuses as walk_step does. `begin` and `advance`
 // return the walk and tell the fault number, 0 for none, in a lent number; a refused step returns
-// it as it came. The four are proved by walks of their MIR, by hand; `begun` and `advanced`, which
-// compute the places, are not, and are exported to C for the runs beside the Rust alone. Leans on
-// walk_step and walk_begin.
+// it as it came. `begun` and `advanced`, which compute the places, are exported to C for the runs
+// beside the Rust alone. Leans on walk_step and walk_begin.
 #![tactic(auto)]
 
 ghost use Rattle.std.specs.Prelude.{◌≡◌};

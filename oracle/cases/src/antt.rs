@@ -15,22 +15,24 @@ pub const SHARED: [(&str, &str); 3] = [
     ("Places", include_str!("places.antt.in")),
 ];
 
+/// The crates whose definitions those modules use.
+pub const SHARED_DEPS: [&str; 3] = ["plane", "mesh", "pair"];
+
 /// `use` lines for `Figures` (points, contours, triangles) and `Places`.
 pub const FIGURES: &str = "\
-use Rattle·cases·specs.specs.Figures.{p, t, eqPoint, eqContour, eqContours}
-use Rattle·plane.specs.Plane.{Pt}
+use Rattle.cases.specs.Figures.{p, t, eq_point, eq_contour, eq_contours}
+use Rattle.plane.specs.Plane.{Pt}
 ";
 pub const PLACES: &str = "\
-use Rattle·cases·specs.specs.Places.{at, eqPlace, eqWhole}
-use Rattle·pair.specs.declared.Place.{Place}
+use Rattle.cases.specs.Places.{at, eq_place, eq_whole}
+use Rattle.pair.specs.declared.Place.{Place}
 ";
 
 /// What the definitions use of the kit that is kept folded.
-const KIT: &str = "use mathlib.Core.List.{flatten, reverse}
-use lib.Seq.{slice}
-use lib.Ieee as ieee
+const KIT: &str = "use mathlib.Core.List.{flatten}
+use Rattle.std.specs.Float.Ieee as ieee
 ";
-const KIT_UNFOLDING: &str = "flatten ieee.ofBits ieee.fits ieee.add ieee.sub ieee.mul";
+const KIT_UNFOLDING: &str = "flatten ieee.of_bits ieee.fits ieee.add ieee.sub ieee.mul";
 
 /// How many cases one declaration computes. Larger ones take no less time.
 pub const CHUNK: usize = 60;
@@ -44,8 +46,8 @@ pub enum Declared<'a> {
 
 /// A chunk's declaration has this name and the number of its first case, and a
 /// case's the other and its own number.
-pub const CHUNK_NAME: &str = "all-";
-pub const CASE_NAME: &str = "case-";
+pub const CHUNK_NAME: &str = "all_";
+pub const CASE_NAME: &str = "case_";
 
 /// The number of a chunk's first case, among all cases.
 pub type Chunk = usize;
@@ -64,7 +66,7 @@ pub fn file(
     for &module in &topic.modules {
         let (layer, name) = module;
         let alias = name.to_lowercase();
-        uses += &format!("use Rattle·{layer}.specs.{name} as {alias}\n");
+        uses += &format!("use Rattle.{layer}.specs.{name} as {alias}\n");
         for folded in folded(&specs(module)) {
             unfolding += &format!(" {alias}.{folded}");
         }
@@ -72,14 +74,9 @@ pub fn file(
     let mut out = format!(
         "\
 -- Cases whose answers are the Rust's or the judge's; made by oracle/definitions.
-use mathlib.Core.Path.{{_≡_, refl}}
-use mathlib.Core.Bool.{{Bool, true, false, not, cond}}
-use mathlib.Core.List.{{List, [], _∷_, _++_, map}}
-use Prim.Native.Nat.{{ℕ, zero, suc, _+_}}
-use lib.Dec.{{eqb, leb}}
-use lib.ListN.{{length}}
-use lib.IntN.{{ℤ, pos, negsuc, _+ℤ_}}
-use Rattle·cases·specs.specs.Shared.{{eqInt, eqBool, eqNats, eqInts, both, same, ramp, every}}
+use Rattle.std.specs.Prelude.{{◌≡◌, Bool, true, false, not, cond, List, [], ◌∷◌, ◌++◌, ℕ, zero, suc, ◌+◌, eqb, leb, length, ℤ, pos, negsuc, ◌+ℤ◌}}
+use Rattle.std.proofs.Common.{{refl}}
+use Rattle.cases.specs.Shared.{{eq_int, eq_bool, eq_nats, eq_ints, both, same, ramp, every}}
 {KIT}{uses}{}
 {}
 ",
@@ -91,11 +88,11 @@ use Rattle·cases·specs.specs.Shared.{{eqInt, eqBool, eqNats, eqInts, both, sam
         match declared {
             Declared::Chunks => {
                 out += &format!(
-                    "\ncases-{from} : List Case\ncases-{from} =\n    {} ∷ []\n",
+                    "\ncases_{from} : List Case\ncases_{from} =\n    {} ∷ []\n",
                     terms.join(" ∷\n    ")
                 );
                 out += &format!(
-                    "\n{CHUNK_NAME}{from} : every holds cases-{from} ≡ true\nunfolding cases-{from} {unfolding}\n{CHUNK_NAME}{from} = refl\n"
+                    "\n{CHUNK_NAME}{from} : every holds cases_{from} ≡ true\nunfolding cases_{from} {unfolding}\n{CHUNK_NAME}{from} = refl\n"
                 );
             }
             Declared::Cases(failed) if failed.contains(&from) => {

@@ -16,9 +16,9 @@ use judge::Fault;
 
 /// The definitions' names, here and in `DECLARATIONS`.
 const USES: &str = "\
-use Rattle·listing.specs.File.{fileFault}
-use Rattle·listing.specs.Listing.{areasOf}
-use Rattle·text.specs.Text.{digits}
+use Rattle.listing.specs.File.{file_fault}
+use Rattle.listing.specs.Listing.{areas_of}
+use Rattle.text.specs.Text.{digits}
 ";
 
 const DECLARATIONS: &str = "
@@ -28,9 +28,9 @@ data Case : Type 0 where
   written : ℕ → ℕ → List ℕ → Case
 
 abbrev holds : Case → Bool
-holds (prints file f said) = both (eqb (fileFault file) f) (eqNats (areasOf file) said)
-holds (faulted file f) = eqb (fileFault file) f
-holds (written most n said) = eqNats (digits most n []) said
+holds (prints file f said) = both (eqb (file_fault file) f) (eq_nats (areas_of file) said)
+holds (faulted file f) = eqb (file_fault file) f
+holds (written most n said) = eq_nats (digits most n []) said
 ";
 
 /// How many triangles a file has at the most.
@@ -154,7 +154,7 @@ fn prints(bytes: &[u8]) -> Case {
             antt::bytes(bytes),
             antt::bytes(printed.as_bytes())
         ),
-        format!("areasOf {} is {fault} {printed:?}", text::numbers(bytes)),
+        format!("areas_of {} is {fault} {printed:?}", text::numbers(bytes)),
     )
 }
 
@@ -162,7 +162,7 @@ fn faulted(bytes: &[u8]) -> Case {
     let (fault, _) = printed(bytes);
     Case::new(
         format!("faulted {} {fault}", antt::bytes(bytes)),
-        format!("fileFault {} is {fault}", text::numbers(bytes)),
+        format!("file_fault {} is {fault}", text::numbers(bytes)),
     )
 }
 

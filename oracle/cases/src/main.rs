@@ -49,7 +49,7 @@ const TOPICS: &[fn(&mut Rng, Amount) -> Topic] = &[
 ];
 
 const USAGE: &str = "\
-usage: cases deps
+usage: cases deps [TOPIC..]
        cases write FOLDER LIST SEED COUNT [TOPIC..]
        cases narrow FOLDER LOG SEED COUNT [TOPIC..]
        cases report LOG NARROWED LIST
@@ -60,7 +60,7 @@ fn main() -> ExitCode {
     let words: Vec<String> = env::args().skip(1).collect();
     let words: Vec<&str> = words.iter().map(String::as_str).collect();
     let done = match words[..] {
-        ["deps"] => deps(),
+        ["deps", ref only @ ..] => deps(only),
         ["write", folder, list, seed, count, ref only @ ..] => {
             match (seed.parse(), amount(count)) {
                 (Ok(seed), Some(amount)) => write(folder, list, &topics(seed, amount, only)),
@@ -106,11 +106,12 @@ fn topics(seed: u64, amount: Amount, only: &[&str]) -> Vec<Topic> {
         .collect()
 }
 
-/// The crates that the scratch crate leans on.
-fn deps() -> io::Result<bool> {
-    let mut names: Vec<&str> = topics(0, Amount::SHORT, &[])
+/// The crates that the scratch crate leans on, for all topics or those named.
+fn deps(only: &[&str]) -> io::Result<bool> {
+    let mut names: Vec<&str> = topics(0, Amount::SHORT, only)
         .iter()
         .flat_map(|t| t.modules.iter().map(|&(layer, _)| layer))
+        .chain(antt::SHARED_DEPS)
         .collect();
     names.sort_unstable();
     names.dedup();
@@ -151,7 +152,7 @@ fn scratch(folder: &Path, topics: &[Topic], declared: &Declared) -> io::Result<(
     fs::create_dir_all(&specs)?;
     fs::write(
         folder.join("src/lib.rt"),
-        "// Cases of definitions: no code.\n",
+        "// Cases of definitions: no code.\n#![tactic(auto)]\n",
     )?;
     let mut root = String::new();
     for (name, text) in antt::SHARED {

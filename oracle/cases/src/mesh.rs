@@ -13,8 +13,8 @@ use judge::Point;
 
 /// The definitions' names, here and in `DECLARATIONS`.
 const USES: &str = "\
-use Rattle·mesh.specs.Mesh.{Mesh, meshKinds}
-use Rattle·integers.specs.Faults.{firstFault}
+use Rattle.mesh.specs.Mesh.{Mesh, mesh_kinds}
+use Rattle.integers.specs.Faults.{first_fault}
 ";
 
 const DECLARATIONS: &str = "
@@ -22,7 +22,7 @@ data Case : Type 0 where
   faulted : Mesh → ℕ → Case
 
 abbrev holds : Case → Bool
-holds (faulted m f) = eqb (firstFault (meshKinds m)) f
+holds (faulted m f) = eqb (first_fault (mesh_kinds m)) f
 ";
 
 /// A mesh is damaged in some thirty ways, so there are so many fewer of them.
@@ -94,6 +94,6 @@ fn faulted(mesh: &Mesh) -> Case {
     let fault = fault(mesh);
     Case::new(
         format!("faulted {} {fault}", antt::mesh(mesh)),
-        format!("meshKinds {} is {fault}", text::mesh(mesh)),
+        format!("mesh_kinds {} is {fault}", text::mesh(mesh)),
     )
 }

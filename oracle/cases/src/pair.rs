@@ -17,64 +17,64 @@ use judge::{Contour, Point};
 
 /// The definitions' names, here and in `DECLARATIONS`.
 const USES: &str = "\
-use lib.Signed.{ltZ}
-use Rattle·plane.specs.Plane.{O, _+ᵖ_}
-use Rattle·pair.specs.Walk.{cornerAt, begin, pointOf, winding, windingLeaves}
-use Rattle·pair.specs.Pair.{pairContour}
-use Rattle·pair.specs.Premise.{onceRound, strictlyConvex, forward, roundBy, withoutRepeats, throughOrigin}
-use Rattle·pair.specs.Berg.{deBerg}
-use Rattle·pair.specs.Demand.{second, walkEdges, live, ascending, sumᵖ}
+use Rattle.std.specs.Int.Signed.{lt_z}
+use Rattle.plane.specs.Plane.{O, ◌+ᵖ◌}
+use Rattle.pair.specs.Walk.{corner_at, begin, point_of, winding, winding_leaves}
+use Rattle.pair.specs.Pair.{pair_contour}
+use Rattle.pair.specs.Premise.{once_round, strictly_convex, forward, round_by, without_repeats, through_origin}
+use Rattle.pair.specs.Berg.{de_berg}
+use Rattle.pair.specs.Demand.{second, walk_edges, live, ascending, sumᵖ}
 ";
 
 const DECLARATIONS: &str = "
 data Case : Type 0 where
-  pair-gives : Bool → List Pt → List Pt → List Pt → Case
+  pair_gives : Bool → List Pt → List Pt → List Pt → Case
   begins : Bool → List Pt → Place → Case
   winds : Bool → List Pt → ℤ → Bool → Case
   round : List Pt → Bool → Bool → Case
-  berg-gives : List Pt → List Pt → List Pt → Case
+  berg_gives : List Pt → List Pt → List Pt → Case
   reaches : Pt → List Pt → ℤ → Case
   demanded : Bool → List Pt → List Pt → List Pt → Case
 
 -- c is a + b for some b of B; for some a of A too; each c of K is
-abbrev someSum : Pt → Pt → List Pt → Bool
-someSum c a [] = false
-someSum c a (b ∷ B) = cond (eqPoint c (a +ᵖ b)) true (someSum c a B)
+abbrev some_sum : Pt → Pt → List Pt → Bool
+some_sum c a [] = false
+some_sum c a (b ∷ B) = cond (eq_point c (a +ᵖ b)) true (some_sum c a B)
 
-abbrev isSum : Pt → List Pt → List Pt → Bool
-isSum c [] B = false
-isSum c (a ∷ A) B = cond (someSum c a B) true (isSum c A B)
+abbrev is_sum : Pt → List Pt → List Pt → Bool
+is_sum c [] B = false
+is_sum c (a ∷ A) B = cond (some_sum c a B) true (is_sum c A B)
 
-abbrev allSums : List Pt → List Pt → List Pt → Bool
-allSums [] A B = true
-allSums (c ∷ K) A B = cond (isSum c A B) (allSums K A B) false
+abbrev all_sums : List Pt → List Pt → List Pt → Bool
+all_sums [] A B = true
+all_sums (c ∷ K) A B = cond (is_sum c A B) (all_sums K A B) false
 
 -- the reach of K in each direction is the two reaches added
 abbrev adds : List Pt → List Pt → List Pt → List Pt → Bool
 adds [] A B K = true
-adds (d ∷ ds) A B K = both (eqInt (premise.reach d K) (premise.reach d A +ℤ premise.reach d B)) (adds ds A B K)
+adds (d ∷ ds) A B K = both (eq_int (premise.reach d K) (premise.reach d A +ℤ premise.reach d B)) (adds ds A B K)
 
 -- WalkedRound
 abbrev walked : Bool → List Pt → Bool
 walked r l =
-    both (not (eqInt (winding r l) (pos 0)))
-    (both (eqBool (ltZ (pos 0) (winding r l)) (roundBy forward (withoutRepeats l)))
-    (both (ascending (live (walkEdges r l))) (eqPoint (sumᵖ (walkEdges r l)) O)))
+    both (not (eq_int (winding r l) (pos 0)))
+    (both (eq_bool (lt_z (pos 0) (winding r l)) (round_by forward (without_repeats l)))
+    (both (ascending (live (walk_edges r l))) (eq_point (sumᵖ (walk_edges r l)) O)))
 
 -- FarthestReach, but for what it says of every other list
 abbrev farthest : Pt → List Pt → List Pt → List Pt → List Pt → Bool
 farthest start A B K ds =
-    both (eqPoint (cornerAt K 0) start) (both (strictlyConvex K) (both (allSums K A B) (both (adds ds A B K) (leb (length K) (length A + length B)))))
+    both (eq_point (corner_at K 0) start) (both (strictly_convex K) (both (all_sums K A B) (both (adds ds A B K) (leb (length K) (length A + length B)))))
 
 abbrev holds : Case → Bool
-holds (pair-gives r A B K) = eqContour (pairContour r A B) K
-holds (begins r l w) = eqPlace (begin r l) w
-holds (winds r l k leaves) = both (eqInt (winding r l) k) (eqBool (windingLeaves r l) leaves)
-holds (round l once strictly) = both (eqBool (onceRound l) once) (eqBool (strictlyConvex l) strictly)
-holds (berg-gives A B K) = eqContour (deBerg A B) K
-holds (reaches d l k) = eqInt (premise.reach d l) k
+holds (pair_gives r A B K) = eq_contour (pair_contour r A B) K
+holds (begins r l w) = eq_place (begin r l) w
+holds (winds r l k leaves) = both (eq_int (winding r l) k) (eq_bool (winding_leaves r l) leaves)
+holds (round l once strictly) = both (eq_bool (once_round l) once) (eq_bool (strictly_convex l) strictly)
+holds (berg_gives A B K) = eq_contour (de_berg A B) K
+holds (reaches d l k) = eq_int (premise.reach d l) k
 holds (demanded r A B ds) =
-    both (walked false A) (both (walked r B) (farthest (pointOf A (begin false A) +ᵖ pointOf B (begin r B)) A (second r B) (pairContour r A B) ds))
+    both (walked false A) (both (walked r B) (farthest (point_of A (begin false A) +ᵖ point_of B (begin r B)) A (second r B) (pair_contour r A B) ds))
 ";
 
 /// How many corners random contours have at the most.
@@ -138,13 +138,13 @@ fn both(a: &[Point], b: &[Point]) -> [Case; 2] {
         let reflected = operation == Operation::Difference;
         Case::new(
             format!(
-                "pair-gives {reflected} {} {} {}",
+                "pair_gives {reflected} {} {} {}",
                 contour(a),
                 contour(b),
                 contour(&emitted)
             ),
             format!(
-                "pairContour {reflected} {} {} is {}",
+                "pair_contour {reflected} {} {} is {}",
                 text::contour(a),
                 text::contour(b),
                 text::contour(&emitted)
@@ -194,7 +194,7 @@ fn round(l: &[Point]) -> Case {
     Case::new(
         format!("round {} {once} {strictly}", contour(l)),
         format!(
-            "onceRound {} is {once}, strictlyConvex {strictly}",
+            "once_round {} is {once}, strictly_convex {strictly}",
             text::contour(l)
         ),
     )
@@ -203,9 +203,9 @@ fn round(l: &[Point]) -> Case {
 fn berg(a: &[Point], b: &[Point]) -> Case {
     let sum = one_pair(Operation::Sum, a, b).unwrap_or_default();
     Case::new(
-        format!("berg-gives {} {} {}", contour(a), contour(b), contour(&sum)),
+        format!("berg_gives {} {} {}", contour(a), contour(b), contour(&sum)),
         format!(
-            "deBerg {} {} is {}",
+            "de_berg {} {} is {}",
             text::contour(a),
             text::contour(b),
             text::contour(&sum)
@@ -238,7 +238,7 @@ fn demanded(rng: &mut Rng, reflected: bool, a: &[Point], b: &[Point]) -> Case {
             contour(&directions)
         ),
         format!(
-            "demand-3 {reflected} {} {} holds in the directions {}",
+            "demand_3 {reflected} {} {} holds in the directions {}",
             text::contour(a),
             text::contour(b),
             text::contour(&directions)

@@ -18,31 +18,31 @@ use judge::Contour;
 
 /// The definitions' names, here and in `DECLARATIONS`.
 const USES: &str = "\
-use Rattle·table.specs.declared.IntRect.{IntRect}
-use Rattle·minkowski.specs.Pairs.{Operand, pairsFault, pairContours, resultBounds}
+use Rattle.table.specs.declared.IntRect.{IntRect}
+use Rattle.minkowski.specs.Pairs.{Operand, pairs_fault, pair_contours, result_bounds}
 ";
 
 const DECLARATIONS: &str = "
 abbrev box : ℤ → ℤ → ℤ → ℤ → IntRect
-box a b c d = record { «min_x» = a; «max_x» = b; «min_y» = c; «max_y» = d }
+box a b c d = record { min_x = a; max_x = b; min_y = c; max_y = d }
 
 abbrev operand : List ℕ → List ℤ → IntRect → Operand
 operand s c b = record { starts = s; corners = c; bounds = b }
 
-abbrev eqBox : IntRect → IntRect → Bool
-eqBox v w =
-    both (both (eqInt (v .«min_x») (w .«min_x»)) (eqInt (v .«max_x») (w .«max_x»)))
-    (both (eqInt (v .«min_y») (w .«min_y»)) (eqInt (v .«max_y») (w .«max_y»)))
+abbrev eq_box : IntRect → IntRect → Bool
+eq_box v w =
+    both (both (eq_int v.min_x w.min_x) (eq_int v.max_x w.max_x))
+    (both (eq_int v.min_y w.min_y) (eq_int v.max_y w.max_y))
 
 data Case : Type 0 where
-  pairs-give : Bool → Operand → Operand → List (List Pt) → Case
+  pairs_give : Bool → Operand → Operand → List (List Pt) → Case
   refused : Bool → Operand → Operand → ℕ → ℕ → ℕ → Case
   bounded : Bool → IntRect → IntRect → IntRect → Case
 
 abbrev holds : Case → Bool
-holds (pairs-give r a b ps) = eqContours (pairContours r a b) ps
-holds (refused r a b starts corners f) = eqb (pairsFault r a b starts corners) f
-holds (bounded r a b c) = eqBox (resultBounds r a b) c
+holds (pairs_give r a b ps) = eq_contours (pair_contours r a b) ps
+holds (refused r a b starts corners f) = eqb (pairs_fault r a b starts corners) f
+holds (bounded r a b c) = eq_box (result_bounds r a b) c
 ";
 
 /// A pair is damaged in some twenty ways, so there are so many fewer of them.
@@ -151,8 +151,12 @@ fn said(pair: &Pair) -> String {
 fn give(pair: &Pair) -> Case {
     let answer = pair_contours(pair.operation, &pair.left, &pair.right).expect("an accepted pair");
     Case::new(
-        format!("pairs-give {} {}", asked(pair), antt::contours(&answer)),
-        format!("pairContours {} is {}", said(pair), text::contours(&answer)),
+        format!("pairs_give {} {}", asked(pair), antt::contours(&answer)),
+        format!(
+            "pair_contours {} is {}",
+            said(pair),
+            text::contours(&answer)
+        ),
     )
 }
 
@@ -172,7 +176,7 @@ fn refused_in(pair: &Pair, lent: Room) -> Case {
     Case::new(
         format!("refused {} {starts} {numbers} {fault}", asked(pair)),
         format!(
-            "pairsFault {} room {starts} {numbers} is {fault}",
+            "pairs_fault {} room {starts} {numbers} is {fault}",
             said(pair)
         ),
     )
@@ -190,7 +194,7 @@ fn bounded(pair: &Pair) -> Case {
             bounds(result.map(i128::from))
         ),
         format!(
-            "resultBounds {:?} {left:?} {right:?} is {result:?}",
+            "result_bounds {:?} {left:?} {right:?} is {result:?}",
             pair.operation
         ),
     )

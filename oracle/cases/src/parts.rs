@@ -17,19 +17,19 @@ use judge::{Contour, Fault, Point};
 
 /// The definitions' names, here and in `DECLARATIONS`.
 const USES: &str = "\
-use Rattle·mesh.specs.Mesh.{Mesh}
-use Rattle·convex.specs.Joining.{Region, regions, parts, partsFault}
-use Rattle·integers.specs.Lists.{count}
+use Rattle.mesh.specs.Mesh.{Mesh}
+use Rattle.convex.specs.Joining.{Region, regions, parts, parts_fault}
+use Rattle.integers.specs.Lists.{count}
 ";
 
 const DECLARATIONS: &str = "
 data Case : Type 0 where
-  joining-gives : Mesh → List (List Pt) → Case
+  joining_gives : Mesh → List (List Pt) → Case
   refused : Mesh → ℕ → ℕ → ℕ → Case
 
 abbrev taken : List Region → List ℕ
 taken [] = []
-taken (r ∷ rs) = r .taken ++ taken rs
+taken (r ∷ rs) = r.taken ++ taken rs
 
 -- each number below n is in l once
 abbrev each : ℕ → List ℕ → Bool
@@ -40,8 +40,8 @@ abbrev once : ℕ → List ℕ → Bool
 once n l = both (eqb (length l) n) (each n l)
 
 abbrev holds : Case → Bool
-holds (joining-gives m ps) = both (eqContours (parts m) ps) (once (length m) (taken (regions m)))
-holds (refused m starts corners f) = eqb (partsFault m starts corners) f
+holds (joining_gives m ps) = both (eq_contours (parts m) ps) (once (length m) (taken (regions m)))
+holds (refused m starts corners f) = eqb (parts_fault m starts corners) f
 ";
 
 /// How many triangles a mesh has at the most. The checker's time for a region
@@ -87,7 +87,7 @@ fn joined(mesh: &Mesh) -> Case {
     let answer = parts(mesh, Cut::None).expect("an accepted mesh");
     Case::new(
         format!(
-            "joining-gives {} {}",
+            "joining_gives {} {}",
             antt::mesh(mesh),
             antt::contours(&answer)
         ),
@@ -101,7 +101,7 @@ fn refused(mesh: &Mesh, answer: &[Contour], lent: Room) -> Case {
     Case::new(
         format!("refused {} {starts} {numbers} {fault}", antt::mesh(mesh)),
         format!(
-            "partsFault {} room {starts} {numbers} is {fault}",
+            "parts_fault {} room {starts} {numbers} is {fault}",
             text::mesh(mesh)
         ),
     )

@@ -10,24 +10,25 @@ use judge::path::{imported, Item};
 
 /// The definitions' names, here and in `DECLARATIONS`.
 const USES: &str = "\
-use lib.Ieee.{binary64, ofBits}
-use Rattle·corners.specs.Corners.{numbersOf}
-use Rattle·path.specs.declared.Frame.{Frame}
-use Rattle·path.specs.Path.{pathFault, pathContour}
-use Rattle·boundary_path.specs.Rows.{itemsOf}
+use Rattle.std.specs.Float.{binary64}
+use Rattle.std.specs.Float.Ieee.{of_bits}
+use Rattle.corners.specs.Corners.{numbers_of}
+use Rattle.path.specs.declared.Frame.{Frame}
+use Rattle.path.specs.Path.{path_fault, path_contour}
+use Rattle.boundary_path.specs.Rows.{items_of}
 ";
 
 const DECLARATIONS: &str = "
 abbrev frame : ℕ → ℕ → ℕ → Frame
-frame a b c = record { x = ofBits binary64 a; y = ofBits binary64 b; steps = ofBits binary64 c }
+frame a b c = record { x = of_bits binary64 a; y = of_bits binary64 b; steps = of_bits binary64 c }
 
 data Case : Type 0 where
   judges : List (List ℕ) → Frame → ℕ → ℕ → Case
   draws : List (List ℕ) → Frame → List ℤ → Case
 
 abbrev holds : Case → Bool
-holds (judges rows f room fault) = eqb (pathFault f (itemsOf rows) room) fault
-holds (draws rows f corners) = eqInts (numbersOf (pathContour f (itemsOf rows))) corners
+holds (judges rows f room fault) = eqb (path_fault f (items_of rows) room) fault
+holds (draws rows f corners) = eq_ints (numbers_of (path_contour f (items_of rows))) corners
 ";
 
 /// Items past which a path is left out: the checker takes millions of steps for forty.
@@ -86,13 +87,13 @@ fn cases(import: &Import) -> Vec<Case> {
     let fault = answer.as_ref().err().copied().unwrap_or(0);
     let mut cases = vec![Case::new(
         format!("judges {term} {lent} {fault}"),
-        format!("pathFault {told} room {lent} is {fault}"),
+        format!("path_fault {told} room {lent} is {fault}"),
     )];
     if let Ok(contour) = answer {
         let corners: Vec<i32> = contour.iter().flat_map(|&(x, y)| [x, y]).collect();
         cases.push(Case::new(
             format!("draws {term} {}", integers(&corners)),
-            format!("pathContour {told} is {}", text::numbers(&corners)),
+            format!("path_contour {told} is {}", text::numbers(&corners)),
         ));
     }
     cases

@@ -13,7 +13,7 @@ use std::cmp::Ordering;
 
 /// The definitions' names, here and in `DECLARATIONS`.
 const USES: &str = "\
-use Rattle·plane.specs.Plane.{_-ᵖ_, cross, areaTwo, angleCmp, isLess, isEqual, isGreater, onGrid}
+use Rattle.plane.specs.Plane.{◌-ᵖ◌, cross, area_two, angle_cmp, is_less, is_equal, is_greater, on_grid}
 ";
 
 const DECLARATIONS: &str = "
@@ -29,12 +29,12 @@ data Case : Type 0 where
   ranged : Pt → Bool → Case
 
 abbrev holds : Case → Bool
-holds (crossed a b c d k) = eqInt (cross (b -ᵖ a) (d -ᵖ c)) k
-holds (area a b c k) = eqInt (areaTwo a b c) k
-holds (directed a b c d less) = isLess (angleCmp (b -ᵖ a) (d -ᵖ c))
-holds (directed a b c d equal) = isEqual (angleCmp (b -ᵖ a) (d -ᵖ c))
-holds (directed a b c d greater) = isGreater (angleCmp (b -ᵖ a) (d -ᵖ c))
-holds (ranged a b) = eqBool (onGrid a) b
+holds (crossed a b c d k) = eq_int (cross (b -ᵖ a) (d -ᵖ c)) k
+holds (area a b c k) = eq_int (area_two a b c) k
+holds (directed a b c d less) = is_less (angle_cmp (b -ᵖ a) (d -ᵖ c))
+holds (directed a b c d equal) = is_equal (angle_cmp (b -ᵖ a) (d -ᵖ c))
+holds (directed a b c d greater) = is_greater (angle_cmp (b -ᵖ a) (d -ᵖ c))
+holds (ranged a b) = eq_bool (on_grid a) b
 ";
 
 /// Coordinates one below the limit, at it and one beyond, of either sign.
@@ -106,7 +106,7 @@ fn area([a, b, c]: [Point; 3]) -> Case {
     let value = expose::area_two(a, b, c);
     Case {
         term: format!("area {} {}", points(&[a, b, c]), integer(value)),
-        text: format!("areaTwo {:?} is {value}", [a, b, c]),
+        text: format!("area_two {:?} is {value}", [a, b, c]),
     }
 }
 
@@ -124,7 +124,7 @@ fn order([a, b, c, d]: Four) -> Case {
     };
     Case {
         term: format!("directed {} {order}", points(&[a, b, c, d])),
-        text: format!("angleCmp {:?} is {order}", [a, b, c, d]),
+        text: format!("angle_cmp {:?} is {order}", [a, b, c, d]),
     }
 }
 
@@ -132,6 +132,6 @@ fn range(a: Point) -> Case {
     let is = point_in_range(a);
     Case {
         term: format!("ranged {} {is}", point(a)),
-        text: format!("onGrid {a:?} is {is}"),
+        text: format!("on_grid {a:?} is {is}"),
     }
 }

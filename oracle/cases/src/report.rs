@@ -1,5 +1,5 @@
 //! The checker's log, read for the cases that differ. Where a chunk of cases fails,
-//! the checker tells which chunk (`all-120`), and not always what it computed; so
+//! the checker tells which chunk (`all_120`), and not which case; so
 //! the first chunks that fail are checked again, each case by itself.
 
 use crate::antt::{Chunk, CASE_NAME, CHUNK_NAME};
@@ -29,7 +29,7 @@ pub fn read(log: &str, narrowed: &str, list: &str) -> Report {
     let cases: Vec<&str> = list.lines().collect();
     let mut text = numbers(&cases);
     let total = cases.len();
-    if log.lines().any(|l| l.starts_with("rt: cases proved")) {
+    if is_proved(log) {
         text += &format!("{total} compared, 0 differ\n");
         return Report {
             text,
@@ -87,26 +87,36 @@ fn numbers(cases: &[&str]) -> String {
     text
 }
 
-/// The error messages of the log, each on one line.
+/// Whether the log says that the scratch crate is proved: it ends with the crate, and
+/// what is said of it. The crates below it stand before it, each with the same.
+fn is_proved(log: &str) -> bool {
+    let mut of_cases = log.lines().skip_while(|l| !l.starts_with("crate cases: "));
+    of_cases.any(|l| l.starts_with("logic=proved "))
+}
+
+/// The error messages of the log, each on one line. What else the log says of an error,
+/// as that another `unfolding` line is refused too, is a message of its own.
 fn messages(log: &str) -> Vec<String> {
     let mut out: Vec<String> = Vec::new();
+    let mut goes_on = false;
     for line in log.lines() {
         if line.contains(": error:") {
             out.push(line.into());
-        } else if let Some(last) = out.last_mut() {
-            if line.starts_with(' ') {
-                last.push(' ');
-                last.push_str(line.trim());
-            }
+            goes_on = true;
+        } else if !line.starts_with(' ') {
+            goes_on = false;
+        } else if let Some(last) = out.last_mut().filter(|_| goes_on) {
+            last.push(' ');
+            last.push_str(line.trim());
         }
     }
     out
 }
 
-/// Whether a message says that two sides are not the same, and not that something
-/// could not be computed.
+/// Whether a message says that a test computes to false, and not that something could
+/// not be computed.
 fn is_wrong(message: &str) -> bool {
-    message.contains("the two types")
+    message.contains("the two types are `Path Bool false true` (expected)")
 }
 
 /// The numbers of the declarations that are wrong, of those with this name.
@@ -142,11 +152,32 @@ mod tests {
     use super::*;
 
     const LIST: &str = "Plane cross one\nPlane area two\nPlane cross three\n";
-    const CHUNK: &str = "C:1:1: error: `all-0`: as printed, the two types differ only where\n  one has `true`\nrt: cases NOT PROVED\n";
+    const BELOW: &str = "crate plane: modules loaded=1 checked=0\nlogic=proved functions=12\n";
+    const ENDS: &str = "crate cases: modules loaded=12 checked=1\nlogic=not-proved\n";
+
+    fn wrong(name: &str) -> String {
+        format!(
+            "./specs/Mesh.antt:91:9: error: `{name}`: expected type `holds c ≡ true`, but this has type `holds c ≡ holds c`\n  \
+             computed as far as they go, the two types are `Path Bool false true` (expected) and `Path Bool\n  false false` (found)\n"
+        )
+    }
+
+    fn stuck(name: &str) -> String {
+        format!(
+            "./specs/Mesh.antt:91:9: error: `{name}`: expected type `holds c ≡ true`, but this has type `holds c ≡ holds c`\n  \
+             computed as far as they go, the two types differ only where one has `true` (expected) and the other has `flat []`\n  (found)\n\
+             ./specs/Mesh.antt:89:1: note: the last of 2 trial runs of this declaration was refused too. That run's refusal: \
+             computed as far as they go, the two types are `Path Bool false true` (expected) and `Path Bool false false` (found)\n"
+        )
+    }
 
     #[test]
     fn a_proved_crate_passes() {
-        let report = read("rt: cases proved (1 s)\n", "", LIST);
+        let report = read(
+            &format!("{BELOW}crate cases: modules loaded=0 checked=13\nlogic=proved functions=0\n"),
+            "",
+            LIST,
+        );
         assert!(report.passed);
         assert_eq!(
             report.text,
@@ -156,10 +187,11 @@ mod tests {
 
     #[test]
     fn wrong_cases_are_named_however_the_message_breaks() {
-        assert_eq!(failed_chunks(CHUNK), [0]);
-        let narrowed = "C:1:1: error: `case-1`: the two types are `false ≡ true`\n\
-                        C:1:1: error: `case-2`: as printed,\n    the two types differ\n";
-        let report = read(CHUNK, narrowed, LIST);
+        let chunk = wrong("all_0") + ENDS;
+        assert_eq!(failed_chunks(&chunk), [0]);
+        let narrowed =
+            wrong("case_1") + &wrong("case_2").replace("(expected) ", "(expected)\n    ") + ENDS;
+        let report = read(&chunk, &narrowed, LIST);
         assert!(!report.passed);
         assert!(report
             .text
@@ -171,27 +203,33 @@ mod tests {
 
     #[test]
     fn more_chunks_than_are_narrowed_say_at_least() {
-        let log: String = (0..9)
-            .map(|i| CHUNK.replace("all-0", &format!("all-{}", 60 * i)))
-            .collect();
+        let log: String = (0..9).map(|i| wrong(&format!("all_{}", 60 * i))).collect();
         assert_eq!(failed_chunks(&log), [0, 60, 120, 180, 240]);
-        let narrowed = "C:1:1: error: `case-1`: the two types are `false ≡ true`\n";
-        let report = read(&log, narrowed, LIST);
+        let report = read(&log, &wrong("case_1"), LIST);
         assert!(report.text.ends_with("3 compared, at least 1 differ\n"));
     }
 
     #[test]
     fn what_was_not_computed_fails() {
-        let unknown = "C:1:1: error: no such name\nrt: cases NOT PROVED\n";
-        let deep = "C:1:1: error: `all-0`: deep recursion\nrt: cases NOT PROVED\n";
-        let both = format!("{CHUNK}{deep}");
-        for log in [unknown, deep, &both, CHUNK, "rt: no such crate\n"] {
+        let chunk = wrong("all_0") + ENDS;
+        let unknown = format!("C:1:1: error: no such name\n{ENDS}");
+        let both = wrong("all_0") + &stuck("all_60") + ENDS;
+        let alone = stuck("all_0") + ENDS;
+        assert!(failed_chunks(&alone).is_empty());
+        for log in [
+            &unknown,
+            &alone,
+            &both,
+            &chunk,
+            "rt: no such crate\n",
+            BELOW,
+        ] {
             let report = read(log, "", LIST);
             assert!(!report.passed);
             assert!(report.text.contains("did not compute every case"));
             assert!(!report.text.contains("differ\n"));
         }
         assert!(!read("", "", "").passed);
-        assert!(!read("rt: cases proved", "", "").passed);
+        assert!(!read("crate cases: \nlogic=proved ", "", "").passed);
     }
 }

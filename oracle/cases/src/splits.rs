@@ -17,22 +17,22 @@ use std::cmp::Ordering;
 
 /// The definitions' names, here and in `DECLARATIONS`.
 const USES: &str = "\
-use Rattle·mesh.specs.Mesh.{Mesh}
-use Rattle·split.specs.declared.ConvexSplitStrategy.{ConvexSplitStrategy}
-use Rattle·split.specs.declared.ConvexSplitStrategy.the-variants.{EarClipping, Fan, Centroid}
-use Rattle·split.specs.Splitting.{splitContour, splitParts, splitFault}
+use Rattle.mesh.specs.Mesh.{Mesh}
+use Rattle.split.specs.declared.ConvexSplitStrategy.{ConvexSplitStrategy}
+use Rattle.split.specs.declared.ConvexSplitStrategy.TheVariants.{EarClipping, Fan, Centroid}
+use Rattle.split.specs.Splitting.{split_contour, split_parts, split_fault}
 ";
 
 const DECLARATIONS: &str = "
 data Case : Type 0 where
-  mesh-gives : ConvexSplitStrategy → ℕ → Mesh → List (List Pt) → Case
-  contour-gives : ConvexSplitStrategy → ℕ → List Pt → List (List Pt) → Case
+  mesh_gives : ConvexSplitStrategy → ℕ → Mesh → List (List Pt) → Case
+  contour_gives : ConvexSplitStrategy → ℕ → List Pt → List (List Pt) → Case
   refused : ConvexSplitStrategy → ℕ → Mesh → ℕ → ℕ → ℕ → Case
 
 abbrev holds : Case → Bool
-holds (mesh-gives how limit m ps) = eqContours (splitParts how limit m) ps
-holds (contour-gives how limit l ps) = eqContours (splitContour how limit l) ps
-holds (refused how limit m starts corners f) = eqb (splitFault how limit m starts corners) f
+holds (mesh_gives how limit m ps) = eq_contours (split_parts how limit m) ps
+holds (contour_gives how limit l ps) = eq_contours (split_contour how limit l) ps
+holds (refused how limit m starts corners f) = eqb (split_fault how limit m starts corners) f
 ";
 
 const SPLITS: [Split; 3] = [Ear, Fan, Centroid];
@@ -119,12 +119,12 @@ fn of_mesh(how: Split, limit: u32, mesh: &Mesh) -> Case {
     let name = strategy(how);
     Case::new(
         format!(
-            "mesh-gives {name} {limit} {} {}",
+            "mesh_gives {name} {limit} {} {}",
             antt::mesh(mesh),
             antt::contours(&answer)
         ),
         format!(
-            "splitParts {name} {limit} {} is {}",
+            "split_parts {name} {limit} {} is {}",
             text::mesh(mesh),
             text::contours(&answer)
         ),
@@ -140,12 +140,12 @@ fn of_contour(how: Split, limit: u32, contour: &[Point]) -> Case {
     let name = strategy(how);
     Case::new(
         format!(
-            "contour-gives {name} {limit} {} {}",
+            "contour_gives {name} {limit} {} {}",
             antt::contour(contour),
             antt::contours(&answer)
         ),
         format!(
-            "splitContour {name} {limit} {} is {}",
+            "split_contour {name} {limit} {} is {}",
             text::contour(contour),
             text::contours(&answer)
         ),
@@ -162,7 +162,7 @@ fn refused(how: Split, limit: u32, mesh: &Mesh, answer: &[Contour], lent: Room) 
             antt::mesh(mesh)
         ),
         format!(
-            "splitFault {name} {limit} {} room {starts} {numbers} is {fault}",
+            "split_fault {name} {limit} {} room {starts} {numbers} is {fault}",
             text::mesh(mesh)
         ),
     )

@@ -20,38 +20,38 @@ use judge::Contour;
 
 /// The definitions' names, here and in `DECLARATIONS`.
 const USES: &str = "\
-use Rattle·table.specs.declared.IntRect.{IntRect}
-use Rattle·corners.specs.Corners.{pointsOf, offRange}
-use Rattle·table.specs.Table.{tableBroken, boundsBroken, tableParts, startsOf, cornersOf}
-use Rattle·table.specs.Stored.{storedOf, readFault, writeFault, storedStarts, storedCorners}
-use Rattle·table.specs.Shown.{shownFault, shownPart}
+use Rattle.table.specs.declared.IntRect.{IntRect}
+use Rattle.corners.specs.Corners.{points_of, off_range}
+use Rattle.table.specs.Table.{table_broken, bounds_broken, table_parts, starts_of, corners_of}
+use Rattle.table.specs.Stored.{stored_of, read_fault, write_fault, stored_starts, stored_corners}
+use Rattle.table.specs.Shown.{shown_fault, shown_part}
 ";
 
 const DECLARATIONS: &str = "
 abbrev box : ℤ → ℤ → ℤ → ℤ → IntRect
-box a b c d = record { «min_x» = a; «max_x» = b; «min_y» = c; «max_y» = d }
+box a b c d = record { min_x = a; max_x = b; min_y = c; max_y = d }
 
 data Case : Type 0 where
   breaks : List ℕ → List ℤ → Bool → Bool → Case
-  leaves-bounds : IntRect → List ℤ → Bool → Case
+  leaves_bounds : IntRect → List ℤ → Bool → Case
   parted : List ℕ → List ℤ → List (List Pt) → Case
   tabled : List (List Pt) → List ℕ → List ℤ → Case
   stores : List ℕ → List ℤ → List ℕ → Case
   writes : List ℕ → List ℤ → ℕ → ℕ → Case
   reads : List ℕ → ℕ → ℕ → ℕ → Case
-  reads-back : List ℕ → List ℕ → List ℤ → Case
+  reads_back : List ℕ → List ℕ → List ℤ → Case
   shows : List ℕ → List ℤ → List ℕ → List ℤ → Bool → ℕ → ℕ → List ℤ → Case
 
 abbrev holds : Case → Bool
-holds (breaks s c rules range) = both (eqBool (tableBroken s c) rules) (eqBool (offRange c) range)
-holds (leaves-bounds b c outside) = eqBool (boundsBroken b (pointsOf c)) outside
-holds (parted s c ps) = eqContours (tableParts s c) ps
-holds (tabled ps s c) = both (eqNats (startsOf ps) s) (eqInts (cornersOf ps) c)
-holds (stores s c b) = eqNats (storedOf s c) b
-holds (writes s c room f) = eqb (writeFault s c room) f
-holds (reads b starts corners f) = eqb (readFault b starts corners) f
-holds (reads-back b s c) = both (eqNats (storedStarts b) s) (eqInts (storedCorners b) c)
-holds (shows ls lc rs rc right k f c) = both (eqb (shownFault ls lc rs rc right k) f) (eqInts (shownPart ls lc rs rc right k) c)
+holds (breaks s c rules range) = both (eq_bool (table_broken s c) rules) (eq_bool (off_range c) range)
+holds (leaves_bounds b c outside) = eq_bool (bounds_broken b (points_of c)) outside
+holds (parted s c ps) = eq_contours (table_parts s c) ps
+holds (tabled ps s c) = both (eq_nats (starts_of ps) s) (eq_ints (corners_of ps) c)
+holds (stores s c b) = eq_nats (stored_of s c) b
+holds (writes s c room f) = eqb (write_fault s c room) f
+holds (reads b starts corners f) = eqb (read_fault b starts corners) f
+holds (reads_back b s c) = both (eq_nats (stored_starts b) s) (eq_ints (stored_corners b) c)
+holds (shows ls lc rs rc right k f c) = both (eqb (shown_fault ls lc rs rc right k) f) (eq_ints (shown_part ls lc rs rc right k) c)
 ";
 
 /// Tables at each limit and past it; then random ones, good and damaged, each way
@@ -176,7 +176,7 @@ fn breaks(table: &Table) -> Case {
     Case::new(
         format!("breaks {} {rules} {range}", antt::table(table)),
         format!(
-            "tableBroken {} is {rules}, offRange {range}",
+            "table_broken {} is {rules}, off_range {range}",
             text::table(table)
         ),
     )
@@ -207,12 +207,12 @@ fn bounded(b: [i32; 4], table: &Table) -> Case {
     });
     Case::new(
         format!(
-            "leaves-bounds {} {} {outside}",
+            "leaves_bounds {} {} {outside}",
             bounds(b.map(i128::from)),
             integers(&table.corners)
         ),
         format!(
-            "boundsBroken {b:?} {} is {outside}",
+            "bounds_broken {b:?} {} is {outside}",
             text::numbers(&table.corners)
         ),
     )
@@ -223,7 +223,7 @@ fn parted(table: &Table) -> Case {
     Case::new(
         format!("parted {} {}", antt::table(table), contours(&parts)),
         format!(
-            "tableParts {} is {}",
+            "table_parts {} is {}",
             text::table(table),
             text::contours(&parts)
         ),
@@ -235,7 +235,7 @@ fn tabled(table: &Table) -> Case {
     Case::new(
         format!("tabled {} {}", contours(&parts), antt::table(table)),
         format!(
-            "startsOf {} is {}",
+            "starts_of {} is {}",
             text::contours(&parts),
             text::table(table)
         ),
@@ -247,7 +247,7 @@ fn stores(table: &Table) -> Case {
     Case::new(
         format!("stores {} {}", antt::table(table), bytes(&stored)),
         format!(
-            "storedOf {} is {}",
+            "stored_of {} is {}",
             text::table(table),
             text::numbers(&stored)
         ),
@@ -267,7 +267,7 @@ fn written(table: &Table, room: usize) -> Case {
     let fault = stored::write_fault(table, room);
     Case::new(
         format!("writes {} {room} {fault}", antt::table(table)),
-        format!("writeFault {} room {room} is {fault}", text::table(table)),
+        format!("write_fault {} room {room} is {fault}", text::table(table)),
     )
 }
 
@@ -296,7 +296,7 @@ fn read(given: &[u8], lent: Room) -> Case {
     Case::new(
         format!("reads {} {starts} {numbers} {fault}", bytes(given)),
         format!(
-            "readFault {} room {starts} {numbers} is {fault}",
+            "read_fault {} room {starts} {numbers} is {fault}",
             text::numbers(given)
         ),
     )
@@ -305,9 +305,9 @@ fn read(given: &[u8], lent: Room) -> Case {
 fn reads_back(given: &[u8]) -> Option<Case> {
     let table = stored::decode(given).ok()?;
     Some(Case::new(
-        format!("reads-back {} {}", bytes(given), antt::table(&table)),
+        format!("reads_back {} {}", bytes(given), antt::table(&table)),
         format!(
-            "storedStarts {} is {}",
+            "stored_starts {} is {}",
             text::numbers(given),
             text::table(&table)
         ),
@@ -342,7 +342,7 @@ fn shown_part(left: &Table, right: &Table, side: Side, part: u32) -> Case {
             integers(&corners)
         ),
         format!(
-            "shownPart {}; {} {side:?} {part} is {fault} {}",
+            "shown_part {}; {} {side:?} {part} is {fault} {}",
             text::table(left),
             text::table(right),
             text::numbers(&corners)

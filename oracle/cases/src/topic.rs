@@ -103,7 +103,11 @@ pub mod layers {
     }
 
     pub fn listing() -> Vec<Module> {
-        let own = [("text", "Text"), ("listing", "File"), ("listing", "Listing")];
+        let own = [
+            ("text", "Text"),
+            ("listing", "File"),
+            ("listing", "Listing"),
+        ];
         over(split(), &own)
     }
 

@@ -16,19 +16,19 @@ use judge::Point;
 
 /// The definitions' names, here and in `DECLARATIONS`.
 const USES: &str = "\
-use Rattle·pair.specs.declared.ConvexSum.{ConvexSum}
-use Rattle·walk.specs.Calls.{beginFault, begunOf, begunNumber, begunPlace, pointFault, pointedOf, pointedNumber, pointedPoint}
-use Rattle·walk.specs.Calls.{stepFault, steppedOf, steppedNumber, steppedEdge, steppedPlace, edgedOf, edgedNumber, edgedEdge}
-use Rattle·walk.specs.Calls.{advancedOf, advancedNumber, advancedPlace, pairBeginFault, pairedOf, pairedNumber, pairedPlaces}
-use Rattle·walk.specs.Calls.{pairStepFault, pairSteppedOf, nextNumber, nextCorner, nextPlaces}
-use Rattle·walk.specs.declared.Begun.{Begun}
-use Rattle·walk.specs.declared.Begun.the-variants as begun
-use Rattle·walk.specs.declared.Pointed.{Pointed}
-use Rattle·walk.specs.declared.Pointed.the-variants as pointed
-use Rattle·walk.specs.declared.Stepped.{Stepped}
-use Rattle·walk.specs.declared.Stepped.the-variants as stepped
-use Rattle·walk.specs.declared.Next.{Next}
-use Rattle·walk.specs.declared.Next.the-variants as next
+use Rattle.pair.specs.declared.ConvexSum.{ConvexSum}
+use Rattle.walk.specs.Calls.{begin_fault, begun_of, begun_number, begun_place, point_fault, pointed_of, pointed_number, pointed_point}
+use Rattle.walk.specs.Calls.{step_fault, stepped_of, stepped_number, stepped_edge, stepped_place, edged_of, edged_number, edged_edge}
+use Rattle.walk.specs.Calls.{advanced_of, advanced_number, advanced_place, pair_begin_fault, paired_of, paired_number, paired_places}
+use Rattle.walk.specs.Calls.{pair_step_fault, pair_stepped_of, next_number, next_corner, next_places}
+use Rattle.walk.specs.declared.Begun.{Begun}
+use Rattle.walk.specs.declared.Begun.TheVariants as begun
+use Rattle.walk.specs.declared.Pointed.{Pointed}
+use Rattle.walk.specs.declared.Pointed.TheVariants as pointed
+use Rattle.walk.specs.declared.Stepped.{Stepped}
+use Rattle.walk.specs.declared.Stepped.TheVariants as stepped
+use Rattle.walk.specs.declared.Next.{Next}
+use Rattle.walk.specs.declared.Next.TheVariants as next
 ";
 
 const DECLARATIONS: &str = "
@@ -40,73 +40,73 @@ data Case : Type 0 where
   begins : List ℤ → Bool → ℕ → Place → Case
   points : List ℤ → Place → ℕ → Pt → Case
   steps : List ℤ → Place → ℕ → Pt → Place → Case
-  pair-begins : Bool → List ℤ → List ℤ → ℕ → Place → Place → Case
-  pair-steps : List ℤ → List ℤ → Place → Place → ℕ → Told → Place → Place → Case
+  pair_begins : Bool → List ℤ → List ℤ → ℕ → Place → Place → Case
+  pair_steps : List ℤ → List ℤ → Place → Place → ℕ → Told → Place → Place → Case
 
 abbrev sum : Place → Place → ConvexSum
 sum v w = record { a = v; b = w }
 
-abbrev eqSum : ConvexSum → ConvexSum → Bool
-eqSum s u = both (eqWhole (s .a) (u .a)) (eqWhole (s .b) (u .b))
+abbrev eq_sum : ConvexSum → ConvexSum → Bool
+eq_sum s u = both (eq_whole s.a u.a) (eq_whole s.b u.b)
 
 -- f is the fault number, and the rest the answer where it is 0; a refusal hands a walk back as it came
-abbrev isBegun : Begun → ℕ → Place → Bool
-isBegun (begun.At v) f w = both (eqb f 0) (eqPlace v w)
-isBegun (begun.Refused g) f w = both (not (eqb f 0)) (eqb g f)
+abbrev is_begun : Begun → ℕ → Place → Bool
+is_begun (begun.At v) f w = both (eqb f 0) (eq_place v w)
+is_begun (begun.Refused g) f w = both (not (eqb f 0)) (eqb g f)
 
-abbrev isPointed : Pointed → ℕ → Pt → Bool
-isPointed (pointed.Point q) f r = both (eqb f 0) (both (eqInt (q .x) (r .x)) (eqInt (q .y) (r .y)))
-isPointed (pointed.Refused g) f r = both (not (eqb f 0)) (eqb g f)
+abbrev is_pointed : Pointed → ℕ → Pt → Bool
+is_pointed (pointed.Point q) f r = both (eqb f 0) (both (eq_int q.x r.x) (eq_int q.y r.y))
+is_pointed (pointed.Refused g) f r = both (not (eqb f 0)) (eqb g f)
 
-abbrev isStepped : Stepped → ℕ → Pt → Place → Bool
-isStepped (stepped.Edge e v) f r w = both (eqb f 0) (both (both (eqInt (e .x) (r .x)) (eqInt (e .y) (r .y))) (eqWhole v w))
-isStepped (stepped.Refused g v) f r w = both (not (eqb f 0)) (both (eqb g f) (eqWhole v w))
+abbrev is_stepped : Stepped → ℕ → Pt → Place → Bool
+is_stepped (stepped.Edge e v) f r w = both (eqb f 0) (both (both (eq_int e.x r.x) (eq_int e.y r.y)) (eq_whole v w))
+is_stepped (stepped.Refused g v) f r w = both (not (eqb f 0)) (both (eqb g f) (eq_whole v w))
 
 -- a corner, or none where it is the end or a refusal
-abbrev isNext : Next → ℕ → Told → ConvexSum → Bool
-isNext (next.Corner q s) f (corner r) u = both (eqb f 0) (both (both (eqInt (q .x) (r .x)) (eqInt (q .y) (r .y))) (eqSum s u))
-isNext (next.Corner q s) f nothing u = false
-isNext (next.End s) f (corner r) u = false
-isNext (next.End s) f nothing u = both (eqb f 0) (eqSum s u)
-isNext (next.Refused g s) f (corner r) u = false
-isNext (next.Refused g s) f nothing u = both (not (eqb f 0)) (both (eqb g f) (eqSum s u))
+abbrev is_next : Next → ℕ → Told → ConvexSum → Bool
+is_next (next.Corner q s) f (corner r) u = both (eqb f 0) (both (both (eq_int q.x r.x) (eq_int q.y r.y)) (eq_sum s u))
+is_next (next.Corner q s) f nothing u = false
+is_next (next.End s) f (corner r) u = false
+is_next (next.End s) f nothing u = both (eqb f 0) (eq_sum s u)
+is_next (next.Refused g s) f (corner r) u = false
+is_next (next.Refused g s) f nothing u = both (not (eqb f 0)) (both (eqb g f) (eq_sum s u))
 
 -- a value is told where there is no fault
-abbrev onePlace : List Place → ℕ → Place → Bool
-onePlace [] f w = not (eqb f 0)
-onePlace (v ∷ l) f w = both (eqb f 0) (eqPlace v w)
+abbrev one_place : List Place → ℕ → Place → Bool
+one_place [] f w = not (eqb f 0)
+one_place (v ∷ l) f w = both (eqb f 0) (eq_place v w)
 
-abbrev onePoint : List Pt → ℕ → Pt → Bool
-onePoint [] f r = not (eqb f 0)
-onePoint (q ∷ l) f r = both (eqb f 0) (both (eqInt (q .x) (r .x)) (eqInt (q .y) (r .y)))
+abbrev one_point : List Pt → ℕ → Pt → Bool
+one_point [] f r = not (eqb f 0)
+one_point (q ∷ l) f r = both (eqb f 0) (both (eq_int q.x r.x) (eq_int q.y r.y))
 
-abbrev onePair : List ConvexSum → ℕ → Place → Place → Bool
-onePair [] f v w = not (eqb f 0)
-onePair (s ∷ l) f v w = both (eqb f 0) (both (eqPlace (s .a) v) (eqPlace (s .b) w))
+abbrev one_pair : List ConvexSum → ℕ → Place → Place → Bool
+one_pair [] f v w = not (eqb f 0)
+one_pair (s ∷ l) f v w = both (eqb f 0) (both (eq_place s.a v) (eq_place s.b w))
 
-abbrev oneCorner : List Pt → Told → Bool
-oneCorner [] nothing = true
-oneCorner [] (corner r) = false
-oneCorner (q ∷ l) nothing = false
-oneCorner (q ∷ l) (corner r) = both (eqInt (q .x) (r .x)) (eqInt (q .y) (r .y))
+abbrev one_corner : List Pt → Told → Bool
+one_corner [] nothing = true
+one_corner [] (corner r) = false
+one_corner (q ∷ l) nothing = false
+one_corner (q ∷ l) (corner r) = both (eq_int q.x r.x) (eq_int q.y r.y)
 
 abbrev numbers : ℕ → ℕ → ℕ → Bool
 numbers f g h = both (eqb f h) (eqb g h)
 
 abbrev holds : Case → Bool
 holds (begins l r f w) =
-    both (numbers (beginFault l r) (begunNumber (begunOf l r)) f) (both (isBegun (begunOf l r) f w) (onePlace (begunPlace (begunOf l r)) f w))
+    both (numbers (begin_fault l r) (begun_number (begun_of l r)) f) (both (is_begun (begun_of l r) f w) (one_place (begun_place (begun_of l r)) f w))
 holds (points l w f q) =
-    both (numbers (pointFault l w) (pointedNumber (pointedOf l w)) f) (both (isPointed (pointedOf l w) f q) (onePoint (pointedPoint (pointedOf l w)) f q))
+    both (numbers (point_fault l w) (pointed_number (pointed_of l w)) f) (both (is_pointed (pointed_of l w) f q) (one_point (pointed_point (pointed_of l w)) f q))
 holds (steps l w f e v) =
-    both (both (numbers (stepFault l w) (steppedNumber (steppedOf l w)) f) (numbers (edgedNumber (edgedOf l w)) (advancedNumber (advancedOf l w)) f))
-    (both (both (onePoint (steppedEdge (steppedOf l w)) f e) (onePoint (edgedEdge (edgedOf l w)) f e))
-    (both (both (eqWhole (steppedPlace (steppedOf l w)) v) (eqWhole (advancedPlace (advancedOf l w)) v)) (isStepped (steppedOf l w) f e v)))
-holds (pair-begins m l r f v w) =
-    both (numbers (pairBeginFault m l r) (pairedNumber (pairedOf m l r)) f) (onePair (pairedPlaces (pairedOf m l r)) f v w)
-holds (pair-steps l r v w f c v2 w2) =
-    both (both (numbers (pairStepFault l r (sum v w)) (nextNumber (pairSteppedOf l r (sum v w))) f) (oneCorner (nextCorner (pairSteppedOf l r (sum v w))) c))
-    (both (eqSum (nextPlaces (pairSteppedOf l r (sum v w))) (sum v2 w2)) (isNext (pairSteppedOf l r (sum v w)) f c (sum v2 w2)))
+    both (both (numbers (step_fault l w) (stepped_number (stepped_of l w)) f) (numbers (edged_number (edged_of l w)) (advanced_number (advanced_of l w)) f))
+    (both (both (one_point (stepped_edge (stepped_of l w)) f e) (one_point (edged_edge (edged_of l w)) f e))
+    (both (both (eq_whole (stepped_place (stepped_of l w)) v) (eq_whole (advanced_place (advanced_of l w)) v)) (is_stepped (stepped_of l w) f e v)))
+holds (pair_begins m l r f v w) =
+    both (numbers (pair_begin_fault m l r) (paired_number (paired_of m l r)) f) (one_pair (paired_places (paired_of m l r)) f v w)
+holds (pair_steps l r v w f c v2 w2) =
+    both (both (numbers (pair_step_fault l r (sum v w)) (next_number (pair_stepped_of l r (sum v w))) f) (one_corner (next_corner (pair_stepped_of l r (sum v w))) c))
+    (both (eq_sum (next_places (pair_stepped_of l r (sum v w))) (sum v2 w2)) (is_next (pair_stepped_of l r (sum v w)) f c (sum v2 w2)))
 ";
 
 /// Numbers of a place are 16 bits.
@@ -231,7 +231,7 @@ fn begins(flat: &[i32], reflected: bool) -> Case {
             term(place)
         ),
         format!(
-            "begunOf {} {reflected} is {fault} {answer:?}",
+            "begun_of {} {reflected} is {fault} {answer:?}",
             text::numbers(flat)
         ),
     )
@@ -252,14 +252,14 @@ fn pair_begins(a: &[i32], b: &[i32], reflected: bool) -> Case {
     let (first, second) = (place(a, false), place(b, reflected));
     Case::new(
         format!(
-            "pair-begins {reflected} {} {} {fault} {} {}",
+            "pair_begins {reflected} {} {} {fault} {} {}",
             integers(a),
             integers(b),
             term(first),
             term(second)
         ),
         format!(
-            "pairedOf {reflected} {} {} is {fault} {:?} {:?}",
+            "paired_of {reflected} {} {} is {fault} {:?} {:?}",
             text::numbers(a),
             text::numbers(b),
             first.at,
@@ -282,7 +282,7 @@ fn points(flat: &[i32], given: Given) -> Case {
             point(answer)
         ),
         format!(
-            "pointedOf {} {:?} is {fault} {answer:?}",
+            "pointed_of {} {:?} is {fault} {answer:?}",
             text::numbers(flat),
             given.at
         ),
@@ -312,7 +312,7 @@ fn steps(flat: &[i32], given: Given) -> Case {
             term(after)
         ),
         format!(
-            "steppedOf {} {:?} is {fault} edge {:?} then {:?}",
+            "stepped_of {} {:?} is {fault} edge {:?} then {:?}",
             text::numbers(flat),
             given.at,
             (x, y),
@@ -337,7 +337,7 @@ fn pair(rng: &mut Rng, a: &[i32], b: &[i32]) -> Case {
         term(at_b)
     );
     let said = format!(
-        "pairSteppedOf {} {} {:?} {:?}",
+        "pair_stepped_of {} {} {:?} {:?}",
         text::numbers(a),
         text::numbers(b),
         at_a.at,
@@ -354,7 +354,7 @@ fn pair(rng: &mut Rng, a: &[i32], b: &[i32]) -> Case {
     };
     Case::new(
         format!(
-            "pair-steps {asked} {fault} {told} {} {}",
+            "pair_steps {asked} {fault} {told} {} {}",
             antt::place(after_a, at_a.ends),
             antt::place(after_b, at_b.ends)
         ),

@@ -72,10 +72,10 @@ returns-then-not-within_bounds c = sym (c.loop-k.invariant.2 ∙ outside _ _ (su
 
 pub loop-k-preserved : goal.loop-k-preserved
 loop-k-preserved c = (
-      c.loop-k.invariant.0,
-      search rules,
-      c.loop-k.invariant.2 ∙ passed _ _ (subst (λ n. c.loop-k.k < n) c.loop-k.invariant.0 c.loop-k-test.true) c.corner_at-p.ensures c.within_bounds.ensures c.if-not-within_bounds.false,
-    )
+  c.loop-k.invariant.0,
+  search rules,
+  c.loop-k.invariant.2 ∙ passed _ _ (subst (λ n. c.loop-k.k < n) c.loop-k.invariant.0 c.loop-k-test.true) c.corner_at-p.ensures c.within_bounds.ensures c.if-not-within_bounds.false,
+)
 
 pub returns : goal.returns
 returns c = let l = c.loop-k in

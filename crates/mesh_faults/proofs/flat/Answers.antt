@@ -1,0 +1,25 @@
+-- `mesh_faults::flat` meets its contract: no row before k is flat. Assumes nothing.
+use mathlib.Core.Path.{sym, ◌∙◌}
+use Prim.Native.Nat.{◌≤◌, ◌-◌}
+use native.Mathlib.Omega.{arith}
+use borrow.Author.Rules.{rules}
+use lib.ListN.{length}
+use lib.IntN.{pos}
+use lib.Signed.{le_z}
+use Rattle.mesh.specs.Mesh.{triangle_area, off_grid, flat}
+use Rattle.mesh.proofs.Passes.{Pass, pass_start, pass_found, pass_next, pass_end, row_on_grid}
+use Rattle.mesh_faults.proofs.flat.Goals as goal
+
+pub row_flat-requires : goal.row_flat-requires
+row_flat-requires c = row_on_grid _ (omega arith) c.requires
+
+pub returns-then-row_flat : goal.returns-then-row_flat
+unfolding flat
+returns-then-row_flat c = pass_found _ _ (omega arith) c.loop-k.invariant.1 (sym c.row_flat.ensures ∙ c.if-row_flat.true)
+
+pub loop-k-preserved : goal.loop-k-preserved
+loop-k-preserved c = (omega arith, pass_next _ _ (omega arith) c.loop-k.invariant.1 (sym c.row_flat.ensures ∙ c.if-row_flat.false))
+
+pub returns : goal.returns
+unfolding flat
+returns c = pass_end _ _ (omega arith) c.loop-k.invariant.1

@@ -1,0 +1,17 @@
+-- `mesh_faults::flat` meets its contract: no row before k is flat. Assumes nothing.
+use mathlib.Core.Path.{sym, ◌∙◌}
+use Prim.Native.Nat.{◌≤◌, ◌-◌}
+use native.Mathlib.Omega.{arith}
+use borrow.Author.Rules.{rules}
+use lib.ListN.{length}
+use lib.IntN.{pos}
+use lib.Signed.{le_z}
+use Rattle.mesh.specs.Mesh.{triangle_area, off_grid, flat}
+use Rattle.mesh.proofs.Passes.{Pass, pass_start, pass_found, pass_next, pass_end, row_on_grid}
+use Rattle.mesh_faults.proofs.flat.Given as goal
+
+abbrev pub invariant-loop-k : goal.invariant-loop-k
+invariant-loop-k l = (l.k ≤ length l.mesh) × Pass (λ k t. le_z (triangle_area t) (pos 0)) l.mesh l.k
+
+abbrev pub decreases-loop-k : goal.decreases-loop-k
+decreases-loop-k l = length l.mesh - l.k

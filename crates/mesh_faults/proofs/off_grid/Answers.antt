@@ -1,0 +1,21 @@
+-- `mesh_faults::off_grid` meets its contract: no row before k has a coordinate off the grid.
+-- Assumes nothing.
+use mathlib.Core.Path.{sym, ◌∙◌}
+use Prim.Native.Nat.{◌≤◌, ◌-◌}
+use native.Mathlib.Omega.{arith}
+use borrow.Author.Rules.{rules}
+use lib.ListN.{length}
+use Rattle.mesh.specs.Mesh.{triangle_off, off_grid}
+use Rattle.mesh.proofs.Passes.{Pass, pass_start, pass_found, pass_next, pass_end}
+use Rattle.mesh_faults.proofs.off_grid.Goals as goal
+
+pub returns-then-row_off : goal.returns-then-row_off
+unfolding off_grid
+returns-then-row_off c = pass_found _ _ (omega arith) c.loop-k.invariant.1 (sym c.row_off.ensures ∙ c.if-row_off.true)
+
+pub loop-k-preserved : goal.loop-k-preserved
+loop-k-preserved c = (omega arith, pass_next _ _ (omega arith) c.loop-k.invariant.1 (sym c.row_off.ensures ∙ c.if-row_off.false))
+
+pub returns : goal.returns
+unfolding off_grid
+returns c = pass_end _ _ (omega arith) c.loop-k.invariant.1

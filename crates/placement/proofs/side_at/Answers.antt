@@ -1,0 +1,17 @@
+-- `placement::side_at` meets its contract: the two corners by their places. Assumes nothing.
+use mathlib.Core.Path.{sym, ◌∙◌, subst}
+use borrow.Author.Rules.{rules}
+use mir.Syntax.{w64}
+use Rattle.integers.proofs.Bits.{got}
+use Rattle.plane.specs.Plane.{area_two}
+use Rattle.plane.specs.Machine.{point, CrossSize}
+use Rattle.walk_read.proofs.Grid.{grid_at}
+use Rattle.placement.proofs.side_at.Goals as goal
+
+pub area_two-requires : goal.area_two-requires
+area_two-requires c = let e = c.requires.0 in
+    let l = c.args.contour.now in (
+      grid_at l e.ranged e.from c.corner_at.ensures,
+      grid_at l e.ranged e.to c.corner_at-2.ensures,
+      c.requires.1,
+    )

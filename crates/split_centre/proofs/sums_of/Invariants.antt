@@ -1,0 +1,31 @@
+-- `split_centre::sums_of` meets its contract. The loop's invariant: the sums are those of the
+-- wedges before corner i, and a is corner i - 1 seen from the first; the measure is the corners
+-- left. Assumes nothing.
+use mathlib.Core.Path.{◌≡◌, ◌∙◌, ap, subst}
+use mathlib.Core.List.{List, map}
+use Prim.Native.Nat.{ℕ, ◌+◌, ◌-◌, ◌≤◌, ◌<◌}
+use native.Mathlib.Omega.{arith}
+use lib.ListN.{length, get_or, length-map}
+use lib.IntN.{ℤ}
+use Rattle.plane.specs.declared.IntVector.{IntVector}
+use Rattle.plane.specs.Plane.{Pt, O, ◌-ᵖ◌, cross}
+use Rattle.plane.specs.Machine.{vector, Short}
+use Rattle.points.specs.Points.{corner_of}
+use Rattle.split_centre.specs.declared.Sums.{Sums}
+use Rattle.split_centre.specs.Centre.{Summable, Roomy, Added, Summed}
+use Rattle.split_centre.proofs.Reading.{grid_of, vector_read}
+use Rattle.split_centre.proofs.Fan.{Sofar, sofar_start, sofar_turn, sofar_room, sofar_end, no_sums}
+use Rattle.split_centre.proofs.sums_of.Given as goal
+
+pub record Going (cs : List (List ℤ)) (s : Sums) (a : IntVector) (i : ℕ) : Type 0 where
+  pub from : 2 ≤ i
+  pub upto : i ≤ length cs
+  pub sums : Sofar (get_or (map corner_of cs) 0 O) (map corner_of cs) (i - 2) s
+  pub here : vector a ≡ get_or (map corner_of cs) (i - 1) O -ᵖ get_or (map corner_of cs) 0 O
+  pub short : Short a
+
+abbrev pub invariant-loop-i : goal.invariant-loop-i
+invariant-loop-i l = Going l.contour l.s l.a l.i
+
+abbrev pub decreases-loop-i : goal.decreases-loop-i
+decreases-loop-i l = length l.contour - l.i

@@ -1,0 +1,17 @@
+-- `split_chords::append_fan_parts` meets its contract: the invariant is `Fanning` of Fans. Assumes
+-- nothing.
+use borrow.Author.Rules.{rules}
+use Prim.Native.Nat.{◌-◌, ◌≤◌}
+use native.Mathlib.Omega.{arith}
+use lib.ListN.{length}
+use Rattle.points.specs.Points.{corners_in}
+use Rattle.split.specs.Splitting.{fan_parts}
+use Rattle.split_chords.proofs.Groups.{share_small}
+use Rattle.split_chords.proofs.Fans.{Fanning, fanning_start, fanning_within, fanning_room, fanning_turn, fanning_end}
+use Rattle.split_chords.proofs.append_fan_parts.Given as goal
+
+abbrev pub invariant-loop-i : goal.invariant-loop-i
+invariant-loop-i l = (l.i ≤ l.part_count) × Fanning l.contour (fan_parts l.limit (corners_in l.contour)) (length l.contour - 2) l.part_count l.i l.start l.initial.starts l.initial.points l.initial.tally l.starts l.points l.tally
+
+abbrev pub decreases-loop-i : goal.decreases-loop-i
+decreases-loop-i l = l.part_count - l.i
