@@ -27,28 +27,28 @@ use Rattle.pairs_work.specs.Begun.{job_call, call_fault, Begins}
 module _ (bytes : List ℕ) (e : shape_fault bytes ≡ 0) where
   -- at least 15 words
   pub long_enough : 60 ≤ length bytes
-  long_enough = omega (arith, sized bytes (shaped bytes e).right-length, place bytes)
+  long_enough = omega (arith, sized bytes (shaped bytes e).right_length, place bytes)
 
   pub left_in : 4 * (5 + table_words bytes 5) ≤ length bytes
-  left_in = left_inside bytes (shaped bytes e).right-length
+  left_in = left_inside bytes (shaped bytes e).right_length
 
   pub left_table : {starts : List ℕ} {corners : List ℤ} → length starts ≡ 2049 → length corners ≡ 16384 → TableIn bytes 5 starts corners
   left_table h k =
       let s = shaped bytes e in
-      record { inside = left_in; for_starts = omega (arith, h, s.left-parts); for_corners = omega (arith, k, s.left_corners) }
+      record { inside = left_in; for_starts = omega (arith, h, s.left_parts); for_corners = omega (arith, k, s.left_corners) }
 
   module _ {p : ℕ} (q : p ≡ right_place bytes) where
     pub right_after : (4 ≤ p) × (4 * (p + 3) ≤ length bytes)
-    right_after = (omega (arith, q, place bytes), omega (arith, q, sized bytes (shaped bytes e).right-length))
+    right_after = (omega (arith, q, place bytes), omega (arith, q, sized bytes (shaped bytes e).right_length))
 
     pub right_in : 4 * (p + table_words bytes p) ≤ length bytes
-    right_in = subst (λ n. 4 * (n + table_words bytes n) ≤ length bytes) (sym q) (right_inside bytes (shaped bytes e).right-length)
+    right_in = subst (λ n. 4 * (n + table_words bytes n) ≤ length bytes) (sym q) (right_inside bytes (shaped bytes e).right_length)
 
     pub right_table : {starts : List ℕ} {corners : List ℤ} → length starts ≡ 2049 → length corners ≡ 16384 → TableIn bytes p starts corners
     right_table {starts} {corners} h k =
         let s = shaped bytes e in
         subst (λ n. TableIn bytes n starts corners) (sym q)
-        (record { inside = right_inside bytes s.right-length; for_starts = omega (arith, h, s.right-parts); for_corners = omega (arith, k, s.right_corners) })
+        (record { inside = right_inside bytes s.right_length; for_starts = omega (arith, h, s.right_parts); for_corners = omega (arith, k, s.right_corners) })
 
 -- ---- the front of a buffer
 

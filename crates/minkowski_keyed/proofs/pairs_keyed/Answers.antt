@@ -1,0 +1,64 @@
+-- `minkowski_keyed::pairs_keyed` meets its contract: a refusal, or the answer of `hand_out`, which
+-- is that for the operands. Assumes nothing.
+use mathlib.Core.Path.{sym, ◌∙◌}
+use native.Mathlib.Omega.{arith}
+use borrow.Author.Rules.{rules}
+use lib.ListN.{length}
+use Rattle.table.proofs.Rules.{sound}
+use Rattle.minkowski.specs.Pairs.{result_bounds, pair_contours}
+use Rattle.minkowski_answer.proofs.Answer.{refused}
+use Rattle.minkowski_work.specs.Scratch.{call_of}
+use Rattle.minkowski_work.proofs.Faults.{walks_refused, room_decides}
+use Rattle.minkowski_work.proofs.Walked.{left_judged, right_judged, unrolleds, answered}
+use Rattle.minkowski_keyed.proofs.Numbers.{numberable, keyed}
+use Rattle.minkowski_keyed.proofs.pairs_keyed.Goals as goal
+
+pub returns-then-fault-ne0 : goal.returns-then-fault-ne0
+returns-then-fault-ne0 c = let g = c.args in
+    let x = call_of g.operation g.left_starts.now g.left_corners.now g.right_starts.now g.right_corners.now in
+    let e = walks_refused x.reflected x.left x.right (length g.starts.now) (length g.corners.now) c.requires.ready.accepted c.walks_fault-fault.ensures.told c.if-fault-ne0.true in
+    refused (pair_contours x.reflected x.left x.right) (result_bounds x.reflected x.left.bounds x.right.bounds) g.starts.now g.corners.now e c.if-fault-ne0.true c.refusal.ensures
+
+pub result_bounds-bounds-requires : goal.result_bounds-bounds-requires
+result_bounds-bounds-requires c = let g = c.args in
+    let x = call_of g.operation g.left_starts.now g.left_corners.now g.right_starts.now g.right_corners.now in
+    ((left_judged x c.requires.ready.accepted).bounded, (right_judged x c.requires.ready.accepted).bounded)
+
+pub most_corners-most-requires : goal.most_corners-most-requires
+most_corners-most-requires c = let g = c.args in
+    let x = call_of g.operation g.left_starts.now g.left_corners.now g.right_starts.now g.right_corners.now in
+    ((left_judged x c.requires.ready.accepted).sound, (right_judged x c.requires.ready.accepted).sound)
+
+pub overflow_sub-left : goal.overflow_sub-left
+overflow_sub-left c = let g = c.args in
+    let x = call_of g.operation g.left_starts.now g.left_corners.now g.right_starts.now g.right_corners.now in
+    omega (arith, (sound x.left.starts x.left.corners (left_judged x c.requires.ready.accepted).sound).some)
+
+pub overflow_sub-right : goal.overflow_sub-right
+overflow_sub-right c = let g = c.args in
+    let x = call_of g.operation g.left_starts.now g.left_corners.now g.right_starts.now g.right_corners.now in
+    omega (arith, (sound x.right.starts x.right.corners (right_judged x c.requires.ready.accepted).sound).some)
+
+pub hand_out_keyed-requires-clause-walks : goal.hand_out_keyed-requires-clause-walks
+hand_out_keyed-requires-clause-walks c = let g = c.args in
+    let x = call_of g.operation g.left_starts.now g.left_corners.now g.right_starts.now g.right_corners.now in
+    let t = c.walks_fault-fault.ensures in
+    let n = c.if-fault-ne0.false in
+    let w = t.walked n in
+    let e = c.requires.ready.accepted in unrolleds x w e c.most_corners-most.ensures
+
+pub hand_out_keyed-requires-clause-numbers : goal.hand_out_keyed-requires-clause-numbers
+hand_out_keyed-requires-clause-numbers c = let g = c.args in
+    let x = call_of g.operation g.left_starts.now g.left_corners.now g.right_starts.now g.right_corners.now in
+    let t = c.walks_fault-fault.ensures in
+    let n = c.if-fault-ne0.false in
+    let w = t.walked n in
+    let e = c.requires.ready.accepted in keyed x e w (omega (arith, c.requires.ready.room.small, c.points-1.given)) (sym t.told ∙ n) (omega (arith, c.requires.numbers, c.points-1.given, c.number_walks.ensures.size)) c.number_walks.ensures.numbered
+
+pub returns : goal.returns
+returns c = let g = c.args in
+    let x = call_of g.operation g.left_starts.now g.left_corners.now g.right_starts.now g.right_corners.now in
+    let w = c.walks_fault-fault.ensures in
+    let n = c.if-fault-ne0.false in
+    let d = room_decides x.reflected x.left x.right (length g.starts.now) (length g.corners.now) c.requires.ready.accepted (sym w.told ∙ n) in
+    answered x (w.walked n) d c.result_bounds-bounds.ensures c.hand_out_keyed.ensures
