@@ -4,6 +4,7 @@
 // there no byte past those that it reads changes that. Leans on input and pairs_print.
 #![tactic(auto)]
 
+// One byte more than the longest good job has.
 const JOB: usize = pairs_job::LONGEST + 1;
 
 fn main(rt: HostRuntime) {
