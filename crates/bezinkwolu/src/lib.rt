@@ -3,13 +3,13 @@
 // archive. Leans on the crates boundary_.. and on what their contracts name.
 #![tactic(auto)]
 
-pub mod listing;
-pub mod measure;
-pub mod mesh;
-pub mod pairs;
-pub mod path;
-pub mod place;
-pub mod plane;
-pub mod split;
-pub mod table;
-pub mod walk;
+pub mod listing_calls;
+pub mod measure_calls;
+pub mod mesh_calls;
+pub mod pairs_calls;
+pub mod path_calls;
+pub mod place_calls;
+pub mod plane_calls;
+pub mod split_calls;
+pub mod table_calls;
+pub mod walk_calls;

@@ -4,5 +4,5 @@
 // their contracts name.
 #![tactic(auto)]
 
-pub mod triangles_join;
-pub mod walk_held;
+pub mod triangles_join_calls;
+pub mod walk_held_calls;
