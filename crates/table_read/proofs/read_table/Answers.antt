@@ -1,6 +1,6 @@
 -- `table_read::read_table` meets its contract: the fault first, then the two copies. Assumes
 -- nothing.
-use mathlib.Core.Path.{sym, ◌∙◌}
+use mathlib.Core.Path.{◌≡◌, sym, ◌∙◌}
 use native.Mathlib.Omega.{arith}
 use borrow.Author.Rules.{rules}
 use Rattle.table.proofs.StoredForm.{sized, accepted}
@@ -8,20 +8,25 @@ use Rattle.table_read.proofs.Reading.{room, refused_read, accepted_read}
 use Rattle.table_read.proofs.read_table.Goals as goal
 
 pub word_at-parts-requires : goal.word_at-parts-requires
-word_at-parts-requires c = omega (arith, sized _ (accepted _ _ _ (sym c.read_fault-fault.ensures ∙ c.if-fault-ne0.false)).sized_right)
+word_at-parts-requires c = let none : c.read_fault-fault.result ≡ 0 = omega arith in
+    omega (arith, sized _ (accepted _ _ _ (sym c.read_fault-fault.ensures ∙ none)).sized_right)
 
 pub word_at-count-requires : goal.word_at-count-requires
-word_at-count-requires c = omega (arith, sized _ (accepted _ _ _ (sym c.read_fault-fault.ensures ∙ c.if-fault-ne0.false)).sized_right)
+word_at-count-requires c = let none : c.read_fault-fault.result ≡ 0 = omega arith in
+    omega (arith, sized _ (accepted _ _ _ (sym c.read_fault-fault.ensures ∙ none)).sized_right)
 
 pub read_words-requires : goal.read_words-requires
-read_words-requires c = let r = room (sym c.read_fault-fault.ensures ∙ c.if-fault-ne0.false) c.word_at-parts.ensures c.word_at-count.ensures in
+read_words-requires c = let none : c.read_fault-fault.result ≡ 0 = omega arith in
+    let r = room (sym c.read_fault-fault.ensures ∙ none) c.word_at-parts.ensures c.word_at-count.ensures in
     (r.starts_lie, r.starts_fit)
 
 pub read_numbers-requires : goal.read_numbers-requires
-read_numbers-requires c = let r = room (sym c.read_fault-fault.ensures ∙ c.if-fault-ne0.false) c.word_at-parts.ensures c.word_at-count.ensures in
+read_numbers-requires c = let none : c.read_fault-fault.result ≡ 0 = omega arith in
+    let r = room (sym c.read_fault-fault.ensures ∙ none) c.word_at-parts.ensures c.word_at-count.ensures in
     (r.corners_lie, r.corners_fit)
 
 pub returns : goal.returns
-returns c = let s = c.args in
-    let r = accepted_read s.bytes.now s.starts.now s.corners.now c.read_fault-fault.ensures c.if-fault-ne0.false c.word_at-parts.ensures c.word_at-count.ensures c.read_words.ensures c.read_numbers.ensures in
+returns c = let none : c.read_fault-fault.result ≡ 0 = omega arith in
+    let s = c.args in
+    let r = accepted_read s.bytes.now s.starts.now s.corners.now c.read_fault-fault.ensures none c.word_at-parts.ensures c.word_at-count.ensures c.read_words.ensures c.read_numbers.ensures in
     record { told = r.0; starts = r.1; corners = r.2 }
