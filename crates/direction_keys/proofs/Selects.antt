@@ -1,7 +1,7 @@
 -- A key without a branch: the sign of both extents in one number (`sign_lower`), a key by the
 -- lesser extent and the greater (`key_picked`), and the quarter of a vector by two tests
 -- (`turned_by`). Assumes nothing.
-use mathlib.Core.Path.{◌≡◌, refl, sym, ◌∙◌, ap}
+use mathlib.Core.Path.{◌≡◌, refl, sym, ap}
 use mathlib.Core.Bool.{Bool, true, false, cond}
 use Prim.Native.Nat.{ℕ, ◌+◌, ◌*◌, ◌-◌, ◌≤◌, ◌<◌}
 use native.Mathlib.Omega.{arith}

@@ -14,7 +14,7 @@ use Rattle.minkowski.specs.Pairs.{operand_off}
 use Rattle.minkowski_pairs.proofs.Bounds.{Unrefused}
 use Rattle.pair_walks.specs.Walks.{walks_in}
 use Rattle.pair_numbers.specs.Numbers.{NumberedTo, Numberable, Keyed}
-use Rattle.pair_numbers.proofs.Close.{operands_keyed}
+use Rattle.pair_numbers.proofs.Keyed.{operands_keyed}
 use Rattle.minkowski_work.specs.Scratch.{Call, Accepted, walk_kinds, BothWalked}
 use Rattle.minkowski_work.proofs.Walked.{left_judged, right_judged}
 

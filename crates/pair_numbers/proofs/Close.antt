@@ -2,14 +2,13 @@
 -- (`walks_close`): no edge is longer than the bounds are wide, and the bounds of both are together
 -- no wider than the result's. So such walks with their numbers can be merged by them
 -- (`operands_keyed`). Assumes nothing.
-use mathlib.Core.Path.{◌≡◌, sym, ◌∙◌, ap, subst₂}
+use mathlib.Core.Path.{◌≡◌}
 use mathlib.Core.Bool.{Bool, true, false, cond}
 use mathlib.Core.List.{List, [], map}
-use Prim.Native.Nat.{ℕ, ◌+◌, ◌≤◌, ◌<◌, ◌^◌}
+use Prim.Native.Nat.{ℕ, ◌+◌, ◌≤◌, ◌<◌}
 use native.Mathlib.Omega.{arith}
-use lib.IntN.{ℤ, pos, nat_abs, ◌+ℤ◌, ◌-ℤ◌, neg_ℤ}
-use lib.ListN.{length, get_or, length-take, length-drop}
-use lib.Seq.{get_or-take, get_or-drop}
+use lib.IntN.{ℤ, pos, nat_abs, ◌+ℤ◌, ◌-ℤ◌}
+use lib.ListN.{length, get_or}
 use lib.Signed.{◌≤ℤ◌, lt_z}
 use Rattle.integers.specs.Lists.{All}
 use Rattle.integers.proofs.Elements.{all_get_d, all_map, all_image}
@@ -24,13 +23,11 @@ use Rattle.corners.specs.Corners.{points_of, off_range}
 use Rattle.table.specs.Table.{table_broken, bounds_list, bounds_broken}
 use Rattle.corners.proofs.Range.{was_taken}
 use Rattle.pair.specs.Walk.{turned}
-use Rattle.pair_points.specs.Points.{unrolled, nth_point, edge_at}
+use Rattle.pair_points.specs.Points.{unrolled, edge_at}
 use Rattle.pair_points.proofs.OnContour.{unrolled_points}
 use Rattle.minkowski.specs.Pairs.{Operand, operand_parts, sum_bounds, result_bounds}
 use Rattle.minkowski_pairs.proofs.Bounds.{InBounds, turned_bounds, inside_neg, parts_inside, Unrefused}
-use Rattle.direction_keys.specs.Marks.{SmallEdge, Close}
-use Rattle.pair_walks.specs.Walks.{walks_in, walk_in, Walks, lefts_in, rights_in}
-use Rattle.pair_numbers.specs.Numbers.{NumberedTo, Keyed}
+use Rattle.direction_keys.specs.Marks.{Close}
 
 -- ---- edges within bounds
 
@@ -141,32 +138,3 @@ walks_close {reflected} {l} {r} u {p} {q} h k =
     (result_walk reflected l.bounds r.bounds (ranges u.result_bounds_lem)) _ _
     (all_get_d (All (InBounds l.bounds)) (map (unrolled false) (operand_parts l)) [] (walks_within false l u.left_table u.left_bounds) p h)
     (all_get_d (All (InBounds (walk_bounds reflected r.bounds))) (map (unrolled reflected) (operand_parts r)) [] (walks_within reflected r u.right_table u.right_bounds) q k)
-
--- ---- the walks of two operands in a buffer, with a number a point
-
-module _
-    (reflected : Bool) (l r : Operand) (firsts : List ℕ) (points : List (List ℤ)) (left right : ℕ)
-    (lefts : lefts_in firsts points left right ≡ map (unrolled false) (operand_parts l)) (rights : rights_in firsts points left right ≡ map (unrolled reflected) (operand_parts r)) where
-  abbrev ws : List (List Pt)
-  ws = walks_in firsts points (left + right)
-
-  pub operands_keyed :
-      {numbers : List ℕ} → Unrefused reflected l r → Walks firsts points (left + right) → length points < 2 ^ 32 → length points ≤ length numbers → NumberedTo (left + right) ws firsts numbers left →
-      Keyed firsts points numbers left right
-  operands_keyed u w few size n = record { walks = w; few = few; size = size; numbered = n; close = close }
-    where
-      all : length ws ≡ left + right
-      all = sym w.gathered.parts
-
-      left_at : {p : ℕ} → p < left → get_or (map (unrolled false) (operand_parts l)) p [] ≡ walk_in firsts points (left + right) p
-      left_at {p} h = ap (λ a. get_or a p []) (sym lefts) ∙ get_or-take left ws p [] h
-
-      right_at : (q : ℕ) → get_or (map (unrolled reflected) (operand_parts r)) q [] ≡ walk_in firsts points (left + right) (left + q)
-      right_at q = ap (λ a. get_or a q []) (sym rights) ∙ get_or-drop left ws q []
-
-      close : (p q : ℕ) → p < left → q < right → Close (walk_in firsts points (left + right) p) (walk_in firsts points (left + right) (left + q))
-      close p q h k =
-          subst₂ Close (left_at h) (right_at q)
-          (walks_close u
-          (omega (arith, h, all, ap length lefts, length-take left ws))
-          (omega (arith, k, all, ap length rights, length-drop left ws)))

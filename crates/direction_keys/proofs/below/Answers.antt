@@ -1,10 +1,5 @@
 -- `direction_keys::below` meets its contract: the upright extent, scaled, outweighs the other.
 -- Assumes nothing.
-use mathlib.Core.Path.{◌≡◌, refl, sym, ◌∙◌, ap, ap₂, subst}
-use lib.IntN.{pos, ◌+ℤ◌, ◌*ℤ◌}
-use lib.Signed.{lt_z}
-use mir.Syntax.{w64}
-use mir.Val.{SFits, to_z, of_z}
 use Rattle.integers.proofs.Bits.{kept}
 use Rattle.direction_keys.proofs.Selects.{read, scaled_fits, sign_fits, sign_lower}
 use Rattle.direction_keys.proofs.below.Goals as goal

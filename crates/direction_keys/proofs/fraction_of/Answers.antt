@@ -1,10 +1,7 @@
 -- `direction_keys::fraction_of` meets its contract: two divisions of 30 bits each are one of 60.
 -- Assumes nothing.
 use native.Mathlib.Omega.{arith}
-use native.Mathlib.Nat.{mod-lt}
-use Prim.Native.Nat.{◌*◌}
-use Rattle.direction_keys.proofs.Fractions.{fraction_most, two_steps, high_most}
-use borrow.Author.Rules.{rules}
+use Rattle.direction_keys.proofs.Fractions.{fraction_most, two_steps}
 use Rattle.direction_keys.proofs.fraction_of.Goals as goal
 
 pub returns : goal.returns

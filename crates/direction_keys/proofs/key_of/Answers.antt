@@ -1,14 +1,12 @@
 -- `direction_keys::key_of` meets its contract: its quarter and its extents are those of
 -- `turned_back`. Assumes nothing.
-use mathlib.Core.Path.{◌≡◌, refl, sym, ◌∙◌, ap, ap₂, subst, subst₂}
+use mathlib.Core.Path.{◌≡◌, refl, sym, ◌∙◌, ap, subst}
 use mathlib.Core.Bool.{Bool, true, false, cond}
-use Prim.Native.Nat.{ℕ, ◌+◌, ◌≤◌, ◌<◌}
+use Prim.Native.Nat.{ℕ, ◌+◌, ◌<◌}
 use native.Mathlib.Omega.{arith}
 use lib.IntN.{pos, nat_abs}
 use lib.Signed.{lt_z}
-use mir.Syntax.{w64}
-use mir.Val.{Fits}
-use Rattle.plane.specs.Plane.{Pt, lower}
+use Rattle.plane.specs.Plane.{lower}
 use Rattle.plane.specs.declared.IntVector.{IntVector}
 use Rattle.plane.specs.Machine.{Short, vector}
 use Rattle.plane.specs.Halves.{Nz}
@@ -16,7 +14,6 @@ use Rattle.direction_keys.specs.Keys.{turned_as, turned_back, key_of, key}
 use Rattle.direction_keys.proofs.Quarters.{turns, along_some}
 use Rattle.direction_keys.proofs.Compare.{key_most}
 use Rattle.direction_keys.proofs.Selects.{read, turned_by}
-use borrow.Author.Rules.{rules}
 use Rattle.direction_keys.proofs.key_of.Goals as goal
 
 -- at most three turns

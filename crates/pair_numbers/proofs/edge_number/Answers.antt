@@ -1,15 +1,14 @@
 -- `pair_numbers::edge_number` meets its contract. Assumes nothing.
-use mathlib.Core.Path.{◌≡◌, refl, sym, ◌∙◌, ap, ap₂, subst}
-use Prim.Native.Nat.{ℕ, ◌+◌, ◌*◌, ◌-◌, ◌≤◌, ◌<◌}
+use mathlib.Core.Path.{sym, ◌∙◌, ap, subst}
+use Prim.Native.Nat.{◌*◌}
 use native.Mathlib.Omega.{arith}
-use lib.ListN.{length, get_or, length-map, length-set}
+use lib.ListN.{length-map}
 use Rattle.points.specs.Points.{corner_of}
 use Rattle.pair_merge.specs.Putting.{points_in}
 use Rattle.plane.specs.Halves.{Nz}
 use Rattle.direction_keys.specs.Keys.{key}
 use Rattle.direction_keys.proofs.Steps.{edge_nz, right_is}
 use Rattle.pair_numbers.proofs.Filling.{small_edge}
-use borrow.Author.Rules.{rules}
 use Rattle.pair_numbers.proofs.edge_number.Goals as goal
 
 pub key_of-requires : goal.key_of-requires

@@ -1,15 +1,12 @@
 -- `pair_numbers::mark` meets its contract: with no edge after, and by how the two compare. Assumes
 -- nothing.
-use mathlib.Core.Path.{◌≡◌, refl, sym, ◌∙◌, ap, ap₂, subst}
-use Prim.Native.Nat.{ℕ, ◌+◌, ◌*◌, ◌-◌, ◌≤◌, ◌<◌}
+use mathlib.Core.Path.{sym, ◌∙◌, ap₂}
 use native.Mathlib.Omega.{arith}
-use lib.ListN.{length, get_or, length-map, length-set}
+use lib.ListN.{length-map}
 use Rattle.points.specs.Points.{corner_of}
 use Rattle.pair_merge.specs.Putting.{points_in}
-use Rattle.plane.specs.declared.Ordering.TheVariants.{Less, Equal, Greater}
 use Rattle.plane.specs.Plane.{angle_cmp}
 use Rattle.pair_numbers.proofs.Filling.{mark_last, mark_by}
-use borrow.Author.Rules.{rules}
 use Rattle.pair_numbers.proofs.mark.Goals as goal
 
 pub returns-then-i-a : goal.returns-then-i-a

@@ -1,9 +1,9 @@
 -- `pair_numbers::number_of` meets its contract: of the last point, and of an edge, whose mark can
 -- be taken off. Assumes nothing.
-use mathlib.Core.Path.{◌≡◌, refl, sym, ◌∙◌, ap, ap₂}
+use mathlib.Core.Path.{◌≡◌, sym, ◌∙◌, ap, ap₂}
 use mathlib.Core.Bool.{Bool, true, false}
 use mathlib.Core.List.{List}
-use Prim.Native.Nat.{ℕ, ◌+◌, ◌-◌, ◌≤◌, ◌<◌}
+use Prim.Native.Nat.{ℕ, ◌+◌, ◌-◌, ◌<◌}
 use native.Mathlib.Omega.{arith}
 use lib.ListN.{length, length-map}
 use Rattle.plane.specs.Plane.{Pt}
@@ -12,7 +12,6 @@ use Rattle.pair_merge.specs.Putting.{points_in}
 use Rattle.direction_keys.specs.Marks.{last}
 use Rattle.direction_keys.proofs.Steps.{left_last, right_last, left_is, right_is, mark_most}
 use Rattle.pair_numbers.specs.Numbers.{number_of}
-use borrow.Author.Rules.{rules}
 use Rattle.pair_numbers.proofs.number_of.Goals as goal
 
 at_last : (first : Bool) (a : List Pt) (i : ℕ) → i + 1 ≡ length a → last ≡ number_of first a i

@@ -1,12 +1,10 @@
 -- `pair_numbers::number_walks` meets its contract. The loop's invariant: the walks passed have
 -- their numbers. Assumes nothing.
-use mathlib.Core.Path.{◌≡◌, refl, sym, ◌∙◌, ap, subst}
-use Prim.Native.Nat.{ℕ, ◌+◌, ◌-◌, ◌≤◌, ◌<◌}
+use mathlib.Core.Path.{◌∙◌}
+use Prim.Native.Nat.{◌+◌, ◌-◌}
 use native.Mathlib.Omega.{arith}
-use lib.ListN.{length, get_or, take, drop, length-take, length-drop}
-use Rattle.pair_walks.specs.Walks.{walks_in}
+use lib.ListN.{get_or, drop, length-take, length-drop}
 use Rattle.pair_walks.proofs.Walks.{firsts_enough, walk_placed, walk_ready}
-use Rattle.pair_numbers.specs.Numbers.{NumberedTo}
 use Rattle.pair_numbers.proofs.Filling.{numbered_more}
 use Rattle.pair_numbers.proofs.number_walks.Goals as goal
 

@@ -1,13 +1,10 @@
 -- `pair_numbers::number_walks` meets its contract. The loop's invariant: the walks passed have
 -- their numbers. Assumes nothing.
-use mathlib.Core.Path.{◌≡◌, refl, sym, ◌∙◌, ap, subst}
-use Prim.Native.Nat.{ℕ, ◌+◌, ◌-◌, ◌≤◌, ◌<◌}
-use native.Mathlib.Omega.{arith}
-use lib.ListN.{length, get_or, take, drop, length-take, length-drop}
+use mathlib.Core.Path.{◌≡◌}
+use Prim.Native.Nat.{◌+◌, ◌-◌, ◌≤◌}
+use lib.ListN.{length}
 use Rattle.pair_walks.specs.Walks.{walks_in}
-use Rattle.pair_walks.proofs.Walks.{firsts_enough, walk_placed, walk_ready}
 use Rattle.pair_numbers.specs.Numbers.{NumberedTo}
-use Rattle.pair_numbers.proofs.Filling.{numbered_more}
 use Rattle.pair_numbers.proofs.number_walks.Given as goal
 
 abbrev pub invariant-loop-n : goal.invariant-loop-n
