@@ -1,4 +1,5 @@
--- A key by its steepness: what it is up to the diagonal of its quarter, and past it. Assumes nothing.
+-- A key by its steepness: what it is up to the diagonal of its quarter, and past it. Assumes
+-- nothing.
 use mathlib.Core.Path.{◌≡◌}
 use Prim.Native.Nat.{ℕ, ◌+◌, ◌*◌, ◌-◌, ◌≤◌, ◌<◌}
 use borrow.Author.Tests.{ltb-true, ltb-false}
