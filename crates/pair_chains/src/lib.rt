@@ -166,7 +166,7 @@ pub fn merge_two(
 {
     let mut a = start(x, at);
     let mut b = start(y, 0);
-    while going_two(a, x, b, y) {
+    'lanes: while going_two(a, x, b, y) {
         a = step(points, numbers, a, out);
         b = step(points, numbers, b, work);
     }
@@ -215,7 +215,7 @@ pub fn merge_four(
     let mut b = start(q, 0);
     let mut c = start(r, 0);
     let mut d = start(s, 0);
-    while going_four(a, b, c, d, x) {
+    'lanes: while going_four(a, b, c, d, x) {
         a = step(points, numbers, a, out);
         b = step(points, numbers, b, wb);
         c = step(points, numbers, c, wc);
@@ -267,7 +267,7 @@ pub fn count_four(numbers: &[u64], x: Pairs) -> Four
     let mut b = start(q, 0);
     let mut c = start(r, 0);
     let mut d = start(s, 0);
-    while going_four(a, b, c, d, x) {
+    'lanes: while going_four(a, b, c, d, x) {
         a = step_on(numbers, a);
         b = step_on(numbers, b);
         c = step_on(numbers, c);

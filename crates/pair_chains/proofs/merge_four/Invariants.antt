@@ -7,8 +7,8 @@ use mathlib.Core.Path.{◌∙◌}
 use Rattle.pair_chains.proofs.Lanes.{four_going, Of, of_start, of_low, of_turn, of_next, of_less, of_rest, of_done}
 use Rattle.pair_chains.proofs.merge_four.Given as goal
 
-abbrev pub invariant-loop-x : goal.invariant-loop-x
-invariant-loop-x l = Of l.points l.numbers l.x.a l.initial.out l.at l.a l.out × Of l.points l.numbers l.x.b l.initial.wb 0 l.b l.wb × Of l.points l.numbers l.x.c l.initial.wc 0 l.c l.wc × Of l.points l.numbers l.x.d l.initial.wd 0 l.d l.wd
+abbrev pub invariant-lanes : goal.invariant-lanes
+invariant-lanes l = Of l.points l.numbers l.x.a l.initial.out l.at l.a l.out × Of l.points l.numbers l.x.b l.initial.wb 0 l.b l.wb × Of l.points l.numbers l.x.c l.initial.wc 0 l.c l.wc × Of l.points l.numbers l.x.d l.initial.wd 0 l.d l.wd
 
-abbrev pub decreases-loop-x : goal.decreases-loop-x
-decreases-loop-x l = l.x.a.end - (l.a.i + l.a.j)
+abbrev pub decreases-lanes : goal.decreases-lanes
+decreases-lanes l = l.x.a.end - (l.a.i + l.a.j)
