@@ -16,12 +16,10 @@ use mesh::{MAX_TRIANGLES, Row};
 fn off_grid(mesh: &[Row]) -> bool
     ensures { result ≡ off_grid (rows_mesh mesh.now) }
 {
-    let mut k: usize = 0;
-    while k < mesh.len() {
-        if mesh_sound::row_off(mesh[k]) {
+    for row in mesh {
+        if mesh_sound::row_off(*row) {
             return true;
         }
-        k += 1;
     }
     false
 }
@@ -31,12 +29,10 @@ fn flat(mesh: &[Row]) -> bool
     requires { off_grid (rows_mesh mesh.now) ≡ false }
     ensures { result ≡ flat (rows_mesh mesh.now) }
 {
-    let mut k: usize = 0;
-    while k < mesh.len() {
-        if mesh_sound::row_flat(mesh[k]) {
+    for row in mesh {
+        if mesh_sound::row_flat(*row) {
             return true;
         }
-        k += 1;
     }
     false
 }

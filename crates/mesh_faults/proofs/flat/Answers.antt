@@ -15,11 +15,11 @@ row_flat-requires c = row_on_grid _ (omega arith) c.requires
 
 pub returns-then-row_flat : goal.returns-then-row_flat
 unfolding flat
-returns-then-row_flat c = pass_found _ _ (omega arith) c.loop-k.invariant.1 (sym c.row_flat.ensures ∙ c.if-row_flat.true)
+returns-then-row_flat c = pass_found _ _ (omega arith) c.loop-row.invariant (sym c.row_flat.ensures ∙ c.if-row_flat.true)
 
-pub loop-k-preserved : goal.loop-k-preserved
-loop-k-preserved c = (omega arith, pass_next _ _ (omega arith) c.loop-k.invariant.1 (sym c.row_flat.ensures ∙ c.if-row_flat.false))
+pub loop-row-preserved : goal.loop-row-preserved
+loop-row-preserved c = (pass_next _ _ (omega arith) c.loop-row.invariant (sym c.row_flat.ensures ∙ c.if-row_flat.false))
 
 pub returns : goal.returns
 unfolding flat
-returns c = pass_end _ _ (omega arith) c.loop-k.invariant.1
+returns c = pass_end _ _ (omega arith) c.loop-row.invariant

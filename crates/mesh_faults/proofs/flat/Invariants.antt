@@ -10,8 +10,6 @@ use Rattle.mesh.specs.Mesh.{triangle_area, off_grid, flat}
 use Rattle.mesh.proofs.Passes.{Pass, pass_start, pass_found, pass_next, pass_end, row_on_grid}
 use Rattle.mesh_faults.proofs.flat.Given as goal
 
-abbrev pub invariant-loop-k : goal.invariant-loop-k
-invariant-loop-k l = (l.k ≤ length l.mesh) × Pass (λ k t. le_z (triangle_area t) (pos 0)) l.mesh l.k
+abbrev pub invariant-loop-row : goal.invariant-loop-row
+invariant-loop-row l = Pass (λ k t. le_z (triangle_area t) (pos 0)) l.mesh l.row-index
 
-abbrev pub decreases-loop-k : goal.decreases-loop-k
-decreases-loop-k l = length l.mesh - l.k

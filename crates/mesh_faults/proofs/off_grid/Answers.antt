@@ -11,11 +11,11 @@ use Rattle.mesh_faults.proofs.off_grid.Goals as goal
 
 pub returns-then-row_off : goal.returns-then-row_off
 unfolding off_grid
-returns-then-row_off c = pass_found _ _ (omega arith) c.loop-k.invariant.1 (sym c.row_off.ensures ∙ c.if-row_off.true)
+returns-then-row_off c = pass_found _ _ (omega arith) c.loop-row.invariant (sym c.row_off.ensures ∙ c.if-row_off.true)
 
-pub loop-k-preserved : goal.loop-k-preserved
-loop-k-preserved c = (omega arith, pass_next _ _ (omega arith) c.loop-k.invariant.1 (sym c.row_off.ensures ∙ c.if-row_off.false))
+pub loop-row-preserved : goal.loop-row-preserved
+loop-row-preserved c = (pass_next _ _ (omega arith) c.loop-row.invariant (sym c.row_off.ensures ∙ c.if-row_off.false))
 
 pub returns : goal.returns
 unfolding off_grid
-returns c = pass_end _ _ (omega arith) c.loop-k.invariant.1
+returns c = pass_end _ _ (omega arith) c.loop-row.invariant

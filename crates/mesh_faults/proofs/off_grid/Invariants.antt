@@ -9,8 +9,6 @@ use Rattle.mesh.specs.Mesh.{triangle_off, off_grid}
 use Rattle.mesh.proofs.Passes.{Pass, pass_start, pass_found, pass_next, pass_end}
 use Rattle.mesh_faults.proofs.off_grid.Given as goal
 
-abbrev pub invariant-loop-k : goal.invariant-loop-k
-invariant-loop-k l = (l.k ≤ length l.mesh) × Pass (λ k t. triangle_off t) l.mesh l.k
+abbrev pub invariant-loop-row : goal.invariant-loop-row
+invariant-loop-row l = Pass (λ k t. triangle_off t) l.mesh l.row-index
 
-abbrev pub decreases-loop-k : goal.decreases-loop-k
-decreases-loop-k l = length l.mesh - l.k
