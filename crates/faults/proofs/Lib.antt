@@ -1,0 +1,2 @@
+-- Faults and their numbers.
+pub mod Numbers

@@ -1,0 +1,2 @@
+-- Numbers of faults.
+pub mod Told
