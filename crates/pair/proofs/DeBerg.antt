@@ -6,8 +6,8 @@ use mathlib.Core.Path.{◌≡◌, refl, sym, ◌∙◌, ap}
 use mathlib.Core.List.{List, [], ◌∷◌}
 use Rattle.integers.specs.Lists.{All}
 use Rattle.integers.proofs.Elements.{all_map2}
-use Rattle.plane.specs.declared.Ordering.{Ordering}
-use Rattle.plane.specs.declared.Ordering.TheVariants.{Less, Equal, Greater}
+use Rattle.std.specs.declared.cmp.Ordering.{Ordering}
+use Rattle.std.specs.declared.cmp.Ordering.TheVariants.{Less, Equal, Greater}
 use Rattle.plane.specs.Plane.{Pt, ◌+ᵖ◌, angle_cmp}
 use Rattle.plane.specs.Contour.{edges}
 use Rattle.plane.specs.Halves.{Nz}

@@ -4,7 +4,7 @@
 use Rattle.std.specs.Prelude.{◌≡◌, cond, List, [], ◌∷◌, reverse, pos}
 use Rattle.std.specs.Int.Signed.{lt_z}
 use Rattle.integers.specs.Lists.{rotate}
-use Rattle.plane.specs.declared.Ordering.TheVariants.{Less, Equal, Greater}
+use Rattle.std.specs.declared.cmp.Ordering.TheVariants.{Less, Equal, Greater}
 use Rattle.plane.specs.Plane.{Pt, ◌+ᵖ◌, angle_cmp}
 use Rattle.plane.specs.Contour.{edges, contour_area}
 use Rattle.pair.specs.Walk.{least_at, corner_at}

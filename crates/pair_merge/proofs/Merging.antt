@@ -10,8 +10,8 @@ use native.Mathlib.Omega.{arith}
 use lib.ListN.{length, drop, get_or-map, length-map, length-append}
 use lib.IntN.{ℤ}
 use Rattle.integers.proofs.Order.{by_test}
-use Rattle.plane.specs.declared.Ordering.{Ordering}
-use Rattle.plane.specs.declared.Ordering.TheVariants.{Less, Equal, Greater}
+use Rattle.std.specs.declared.cmp.Ordering.{Ordering}
+use Rattle.std.specs.declared.cmp.Ordering.TheVariants.{Less, Equal, Greater}
 use Rattle.plane.specs.Plane.{Pt, ◌+ᵖ◌, ◌-ᵖ◌, angle_cmp, is_greater}
 use Rattle.points.specs.Points.{corner_of, corner_in}
 use Rattle.pair_points.specs.Points.{edges_along, merged_of, second_next, rest_of, nth_point, edge_at}

@@ -11,7 +11,8 @@ ghost use Rattle.points.specs.Points.{corner_in, Grid};
 ghost use Rattle.pair_points.specs.Points.{edges_along, merged_of, second_next, rest_of, edge_at};
 ghost use Rattle.pair_merge.specs.Putting.{points_in, Mergeable, RoomAfter, CornersPut, Reached};
 
-use plane::{IntPoint, IntVector, Ordering};
+use plane::{IntPoint, IntVector};
+use std::cmp::Ordering;
 
 // Where a merge stands once one list has no edge left: a point of each, and how many corners are
 // put.

@@ -11,7 +11,7 @@ ghost use Rattle.direction_keys.specs.Marks.{mark, right_number, SmallEdge};
 ghost use Rattle.pair_walks.specs.Walks.{walks_in};
 ghost use Rattle.pair_numbers.specs.Numbers.{number_of, NumbersOf, Numberable, NumberedTo};
 
-use plane::Ordering;
+use std::cmp::Ordering;
 
 // Above the number of any edge: that of the last point.
 const LAST: u64 = 18446744073709551615;

@@ -15,7 +15,7 @@ use Rattle.integers.specs.Lists.{All}
 use Rattle.integers.proofs.Order.{by_test}
 use Rattle.integers.proofs.Tests.{differ}
 use Rattle.integers.proofs.Ring.{◌:≡ᵖ◌, pt, ringᵖ}
-use Rattle.plane.specs.declared.Ordering.TheVariants.{Less, Equal, Greater}
+use Rattle.std.specs.declared.cmp.Ordering.TheVariants.{Less, Equal, Greater}
 use Rattle.plane.specs.Plane.{Pt, O, ◌+ᵖ◌, ◌-ᵖ◌, angle_cmp, is_equal, is_greater}
 use Rattle.plane.proofs.Terms.{◌+E◌, ◌-E◌}
 use Rattle.plane.proofs.Vectors.{+ᵖ_comm}

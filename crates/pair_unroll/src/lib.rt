@@ -12,7 +12,8 @@ ghost use Rattle.points.specs.Points.{corner_in, Appended};
 ghost use Rattle.pair_unroll.specs.Unroll.{straight_on, goes_on, Adding, PointAdded, points_from, Walkable, Unrollable, UnrolledBy};
 
 use pair::Place;
-use plane::{IntPoint, Ordering};
+use plane::IntPoint;
+use std::cmp::Ordering;
 use walk::Begun;
 use walk_move::point_of;
 

@@ -3,13 +3,13 @@
 -- corner put between two neighbours (`contour_insert`). Assumes nothing.
 use mathlib.Core.Path.{◌≡◌, refl, sym, ◌∙◌, ap}
 use mathlib.Core.List.Permᴰ
-use mathlib.Core.List.{List, [], ◌∷◌, ◌++◌, map, map-map, reverse}
+use mathlib.Core.List.{List, [], ◌∷◌, ◌++◌, map, reverse}
 use Prim.Native.Nat.{ℕ}
 use lib.IntN.{ℤ, pos, neg_ℤ, ◌+ℤ◌, ◌-ℤ◌, +ℤ_idr}
 use Rattle.integers.specs.Lists.{sumℤ, rotate, links, neighbours, swap, both}
-use Rattle.integers.proofs.Ring.{con, ◌:+◌, ◌:-◌, ◌:*◌, :neg, ◌:≡◌, pt, int, ring}
-use Rattle.integers.proofs.Sums.{sum_cons, sum_perm, sum_neg, sum_add}
-use Rattle.integers.proofs.Neighbours.{links_cons, neighbours_cons, perm_neighbours_rotate, perm_neighbours_reverse, map_neighbours, sum_neighbours_diff}
+use Rattle.integers.proofs.Ring.{con, ◌:+◌, ◌:-◌, ◌:≡◌, pt, int, ring}
+use Rattle.integers.proofs.Sums.{sum_perm, sum_neg, sum_add}
+use Rattle.integers.proofs.Neighbours.{perm_neighbours_rotate, perm_neighbours_reverse, map_neighbours, sum_neighbours_diff}
 use Rattle.plane.specs.Plane.{Pt, ◌+ᵖ◌, cross, area_two}
 use Rattle.plane.specs.Contour.{contour_area}
 use Rattle.plane.proofs.Terms.{◌+E◌, cross_e, area_two_e}

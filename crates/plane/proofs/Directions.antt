@@ -4,23 +4,22 @@
 -- `angle_cmp` deciding it (`angle_cases`); irreflexive, transitive, trichotomous, congruent for the
 -- same direction; within a half a positive cross (`lt_in_half`); the same direction is cross 0 with
 -- a positive dot (`same_dot`). Assumes nothing.
-use mathlib.Core.Path.{◌≡◌, refl, sym, ◌∙◌, ap, subst, subst₂}
-use mathlib.Core.Bool.{Bool, true, false, not, cond}
-use mathlib.Core.List.{List, [], ◌∷◌}
+use mathlib.Core.Path.{◌≡◌, refl, sym, ◌∙◌, ap, subst}
+use mathlib.Core.Bool.{Bool, true, false}
+use mathlib.Core.List.{[], ◌∷◌}
 use mathlib.Core.Logic.{◌⊎◌, inl, inr, ⊎_elim, ◌↔◌}
 use native.Mathlib.Omega.{arith}
-use lib.IntN.{ℤ, pos, negsuc, neg_ℤ, ◌+ℤ◌, ◌-ℤ◌, ◌*ℤ◌}
-use lib.Signed.{◌≤ℤ◌, ◌<ℤ◌, le_z, lt_z, ≤ℤ_refl}
+use lib.IntN.{ℤ, pos, neg_ℤ, ◌+ℤ◌, ◌-ℤ◌, ◌*ℤ◌}
+use lib.Signed.{◌≤ℤ◌, ◌<ℤ◌}
 use Rattle.integers.proofs.Ring.{con, ◌:+◌, ◌:-◌, ◌:*◌, :neg, ◌:≡◌, pt, int, ring}
 use Rattle.integers.proofs.Order.{zarith, add_parts, neg_parts, <-≤, ≤_antisym, Sign, negative, null, positive, sign}
 use Rattle.integers.proofs.Arith.{◌:≤◌, ◌:<◌, ◌:=◌, ◌:∧◌, ◌⇒◌, :⊥, arithℤ}
 use Rattle.integers.proofs.Signs.{nn_mul, pos_mul, nn_square, nn_cancel, pos_cancel, pos_is}
-use Rattle.integers.proofs.Tests.{zneeds, differ, <-lt_z, ≤-lt_z}
-use Rattle.plane.specs.declared.Ordering.{Ordering}
-use Rattle.plane.specs.declared.Ordering.TheVariants.{Less, Equal, Greater}
-use Rattle.plane.specs.Plane.{Pt, O, ◌+ᵖ◌, ◌-ᵖ◌, negᵖ, cross, dot, lower, by_cross, by_halves, angle_cmp, is_zero}
+use Rattle.integers.proofs.Tests.{differ, <-lt_z, ≤-lt_z}
+use Rattle.std.specs.declared.cmp.Ordering.TheVariants.{Less, Equal, Greater}
+use Rattle.plane.specs.Plane.{Pt, O, negᵖ, cross, dot, lower, by_cross, by_halves, angle_cmp, is_zero}
 use Rattle.plane.specs.Halves.{Up, above, level, sgn, Nz}
-use Rattle.plane.proofs.Terms.{◌+E◌, neg_e, cross_e, dot_e}
+use Rattle.plane.proofs.Terms.{neg_e, cross_e, dot_e}
 use Rattle.plane.proofs.Vectors.{pt_eq, cross_self, cross_neg_neg, is_zero_false}
 
 -- ---- the upper half

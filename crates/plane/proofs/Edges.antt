@@ -1,21 +1,20 @@
 -- The edges of a contour: as many as corners, from another corner, the other way round, read
 -- backwards from the same corner, turned through the origin, by place; and whether two points are
 -- one (`eq_pt`), which is whether the edge between them is zero (`is_zero_sub`). Assumes nothing.
-use mathlib.Core.Path.{◌≡◌, refl, sym, ◌∙◌, ap, ap₂}
+use mathlib.Core.Path.{◌≡◌, refl, sym, ◌∙◌, ap}
 use mathlib.Core.Bool.{true, false, cond}
-use mathlib.Core.List.{List, [], ◌∷◌, ◌++◌, map, append_assoc, reverse, reverse-cons, reverse-append}
-use Prim.Native.Nat.{ℕ, suc, ◌-◌, ◌<◌}
+use mathlib.Core.List.{List, [], ◌∷◌, ◌++◌, map, reverse}
+use Prim.Native.Nat.{ℕ, suc, ◌<◌}
 use native.Mathlib.Omega.{arith}
 use borrow.Author.Tests.{eqb-true, eqb-false}
 use lib.Dec.{eqb}
-use lib.ListN.{length, take, drop, get_or, length-drop, length-reverse, length-map, drop_of_length-le, get_or-map}
-use lib.Seq.{take-suc, take_all, drop-cons, split_at}
+use lib.ListN.{length, get_or, length-map, get_or-map}
 use Rattle.integers.specs.Lists.{rotate, links, neighbours, swap, both}
 use Rattle.integers.specs.Test.{eq_z}
 use Rattle.integers.proofs.Ring.{◌:≡ᵖ◌, pt, ringᵖ}
 use Rattle.integers.proofs.Order.{zarith, sub_parts, by_test}
 use Rattle.integers.proofs.Tests.{differ, eq_z_true, eq_z_refl}
-use Rattle.integers.proofs.Rotation.{rotate_eq, rotate_zero, rotate_append, map_rotate, map-reverse}
+use Rattle.integers.proofs.Rotation.{map_rotate, map-reverse}
 use Rattle.integers.proofs.Neighbours.{length_neighbours, neighbours_rotate, neighbours_reverse, neighbours_cons, links_reverse, map_neighbours, get_or_neighbours, get_or_neighbours_last}
 use Rattle.plane.specs.Plane.{Pt, O, ◌-ᵖ◌, negᵖ, eq_pt, is_zero}
 use Rattle.plane.specs.Contour.{edges, last_of}

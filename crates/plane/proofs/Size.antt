@@ -2,7 +2,7 @@
 -- `sizes`), and what the tests `inRange` and `on_grid` tell. Assumes nothing.
 use mathlib.Core.Path.{◌≡◌, refl}
 use mathlib.Core.Bool.{Bool, true, false, cond}
-use mathlib.Core.List.{List, [], ◌∷◌}
+use mathlib.Core.List.{[], ◌∷◌}
 use lib.IntN.{ℤ, pos, negsuc, ◌-ℤ◌, ◌*ℤ◌}
 use lib.Signed.{le_z, lt_z}
 use mir.Syntax.{w32, w64}

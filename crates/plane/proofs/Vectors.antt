@@ -5,13 +5,13 @@
 -- Not here: the direction order (`Directions`). Assumes nothing.
 use mathlib.Core.Path.{◌≡◌, refl, sym, ◌∙◌, ap}
 use mathlib.Core.Bool.{Bool, true, false, cond}
-use mathlib.Core.List.{List, [], ◌∷◌}
-use lib.IntN.{ℤ, pos, neg_ℤ, ◌+ℤ◌, ◌-ℤ◌, ◌*ℤ◌}
+use mathlib.Core.List.{[], ◌∷◌}
+use lib.IntN.{ℤ, pos, neg_ℤ, ◌+ℤ◌, ◌*ℤ◌}
 use Rattle.integers.specs.Test.{eq_z}
-use Rattle.integers.proofs.Ring.{Expr, con, ◌:+◌, ◌:-◌, ◌:*◌, :neg, ◌:≡◌, ◌:≡ᵖ◌, pt, int, ring, ringᵖ}
+use Rattle.integers.proofs.Ring.{con, ◌:+◌, ◌:*◌, :neg, ◌:≡◌, ◌:≡ᵖ◌, pt, int, ring, ringᵖ}
 use Rattle.integers.proofs.Tests.{eq_z_true, differ}
 use Rattle.plane.specs.Plane.{Pt, O, ◌+ᵖ◌, ◌-ᵖ◌, negᵖ, cross, dot, rot, area_two, turn, is_zero}
-use Rattle.plane.proofs.Terms.{PtE, OE, ◌+E◌, ◌-E◌, neg_e, cross_e, dot_e, rot_e, area_two_e, turn_e}
+use Rattle.plane.proofs.Terms.{OE, ◌+E◌, ◌-E◌, neg_e, cross_e, dot_e, rot_e, area_two_e, turn_e}
 
 -- ---- vectors
 

@@ -4,8 +4,8 @@ use Rattle.std.specs.Prelude.{Bool, true, false, cond, ℤ, pos, negsuc, neg_ℤ
 use Rattle.std.specs.Int.Signed.{le_z, lt_z}
 use Rattle.integers.specs.Pair.{XY}
 use Rattle.integers.specs.Test.{eq_z}
-use Rattle.plane.specs.declared.Ordering.{Ordering}
-use Rattle.plane.specs.declared.Ordering.TheVariants.{Less, Equal, Greater}
+use Rattle.std.specs.declared.cmp.Ordering.{Ordering}
+use Rattle.std.specs.declared.cmp.Ordering.TheVariants.{Less, Equal, Greater}
 
 -- A point of the grid, or the vector from one point to another.
 abbrev pub Pt : Type 0

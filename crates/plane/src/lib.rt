@@ -8,27 +8,21 @@ ghost use Rattle.std.specs.Prelude.{◌≡◌, ◌-ℤ◌, ◌*ℤ◌};
 ghost use Rattle.plane.specs.Plane.{in_range, on_grid, eq_pt, cross, area_two, lower, is_zero, by_cross, angle_cmp, ◌-ᵖ◌};
 ghost use Rattle.plane.specs.Machine.{Coordinate, Extent, CrossSize, OnGrid, Short, point, vector};
 
+use std::cmp::Ordering;
+
 // A point of the integer grid.
 #[repr(C)]
-#[derive(Clone, Copy)]
+#[derive(Clone, Copy, Debug, PartialEq, Eq)]
 pub struct IntPoint {
     pub x: i32,
     pub y: i32,
 }
 
 // The difference of two points, in the Rust's wide number.
-#[derive(Clone, Copy)]
+#[derive(Clone, Copy, Debug, PartialEq, Eq)]
 pub struct IntVector {
     pub x: i64,
     pub y: i64,
-}
-
-// The answer of a comparison.
-#[derive(Clone, Copy)]
-pub enum Ordering {
-    Less,
-    Equal,
-    Greater,
 }
 
 // Document 01's fault 2: a coordinate is strictly between -2^30 and 2^30.
@@ -38,20 +32,14 @@ pub const LIMIT: i32 = 1073741824;
 pub fn in_range(z: i32) -> bool
     ensures { result ≡ in_range z }
 {
-    if z <= -LIMIT {
-        return false;
-    }
-    z < LIMIT
+    -LIMIT < z && z < LIMIT
 }
 
 // Whether both coordinates of a point are.
 pub fn on_grid(p: IntPoint) -> bool
     ensures { result ≡ on_grid (point p) }
 {
-    if in_range(p.x) {
-        return in_range(p.y);
-    }
-    false
+    in_range(p.x) && in_range(p.y)
 }
 
 // One coordinate less another, widened.
@@ -101,63 +89,41 @@ pub fn area_two(a: IntPoint, b: IntPoint, c: IntPoint) -> i64
 pub fn same_point(a: IntPoint, b: IntPoint) -> bool
     ensures { result ≡ eq_pt (point a) (point b) }
 {
-    if a.x != b.x {
-        return false;
-    }
-    a.y == b.y
+    a == b
 }
 
 // Whether v is the zero vector.
+#[tactic(auto, unfolding(crate::specs::Plane::is_zero))]
 pub fn is_zero(v: IntVector) -> bool
     ensures { result ≡ is_zero (vector v) }
 {
-    if v.x != 0 {
-        return false;
-    }
-    v.y == 0
+    v == IntVector { x: 0, y: 0 }
 }
 
 // Whether v points below, or straight to the left.
 pub fn lower(v: IntVector) -> bool
     ensures { result ≡ lower (vector v) }
 {
-    if v.y < 0 {
-        return true;
-    }
-    if v.y > 0 {
-        return false;
-    }
-    v.x < 0
+    v.y < 0 || v.y == 0 && v.x < 0
 }
 
 // Before, beside or after, by the sign of a cross product: a positive one is before.
+#[tactic(auto, unfolding(crate::specs::Plane::by_cross))]
 pub fn by_cross(k: i64) -> Ordering
     ensures { result ≡ by_cross k }
 {
-    if k > 0 {
-        return Ordering::Less;
-    }
-    if k < 0 {
-        return Ordering::Greater;
-    }
-    Ordering::Equal
+    0.cmp(&k)
 }
 
 // The direction of a against that of b, from angle 0 up to a full turn.
+#[tactic(auto, unfolding(crate::specs::Plane::angle_cmp))]
 pub fn angle_cmp(a: IntVector, b: IntVector) -> Ordering
     requires { Short a × Short b }
     ensures { result ≡ angle_cmp (vector a) (vector b) }
 {
-    let below = lower(a);
-    let other = lower(b);
-    if below {
-        if other {
-            return by_cross(cross_product(a, b));
-        }
-        return Ordering::Greater;
+    match (lower(a), lower(b)) {
+        (true, false) => Ordering::Greater,
+        (false, true) => Ordering::Less,
+        _ => by_cross(cross_product(a, b)),
     }
-    if other {
-        return Ordering::Less;
-    }
-    by_cross(cross_product(a, b))
 }

@@ -14,7 +14,8 @@ ghost use Rattle.walk_merge.specs.Merging.{heading_by, stop_of, Took, MayStep, S
 
 use corners::corner_count;
 use pair::ConvexSum;
-use plane::{IntVector, Ordering};
+use plane::IntVector;
+use std::cmp::Ordering;
 use walk_move::advance_of;
 use walk_pick::Step;
 

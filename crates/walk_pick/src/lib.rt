@@ -11,7 +11,8 @@ ghost use Rattle.pair.specs.Pair.{lesser, next_step};
 ghost use Rattle.walk_pick.specs.Picking.{Judged, pick_of, StepShort};
 
 use pair::ConvexSum;
-use plane::{IntVector, Ordering};
+use plane::IntVector;
+use std::cmp::Ordering;
 use walk_move::edge_of;
 
 // The walk that steps next, and its edge; neither where none has a step left.

@@ -1,26 +1,24 @@
--- `plane::in_range` meets its contract: the code's tests are the definition's. Assumes nothing.
-use mathlib.Core.Path.{◌≡◌, sym, ◌∙◌, ap}
+-- `plane::in_range` meets its contract: the definition tries the same two bounds. Assumes nothing.
+use mathlib.Core.Path.{◌≡◌}
 use mathlib.Core.Bool.{true, false}
-use borrow.Author.Rules.{rules}
 use lib.IntN.{ℤ, pos, negsuc}
-use lib.Signed.{le_z, lt_z}
-use mir.Syntax.{w32}
-use mir.Val.{SFits, to_z, of_z}
+use lib.Signed.{lt_z}
+use Rattle.integers.proofs.Tests.{≤-le_z, <-le_z, lt_z-<, lt_z-≤}
 use Rattle.integers.proofs.Bits.{kept}
 use Rattle.plane.specs.Plane.{in_range}
 use Rattle.plane.proofs.in_range.Goals as goal
 
 module _ {u z : ℤ} (p : u ≡ z) where
-  low : le_z u (negsuc 1073741823) ≡ true → false ≡ in_range z
+  within : lt_z (negsuc 1073741823) u ≡ true → lt_z u (pos 1073741824) ≡ in_range z
   unfolding in_range
-  low e = rw (← p, e)
+  within e = rw (← p, <-le_z {x = u} {y = negsuc 1073741823} (lt_z-< (negsuc 1073741823) u e))
 
-  high : le_z u (negsuc 1073741823) ≡ false → lt_z u (pos 1073741824) ≡ in_range z
+  below : lt_z (negsuc 1073741823) u ≡ false → lt_z (negsuc 1073741823) u ≡ in_range z
   unfolding in_range
-  high e = rw (← p, e)
+  below e = rw (← p, e, ≤-le_z {x = u} {y = negsuc 1073741823} (lt_z-≤ (negsuc 1073741823) u e))
 
 pub returns-then-z : goal.returns-then-z
-returns-then-z c = low (kept c.ranges.z) c.if-z.true
+returns-then-z c = within (kept c.ranges.z) c.if-z.true
 
-pub returns : goal.returns
-returns c = high (kept c.ranges.z) c.if-z.false
+pub returns-else-z : goal.returns-else-z
+returns-else-z c = below (kept c.ranges.z) c.if-z.false
