@@ -9,8 +9,10 @@ ghost use Rattle.std.specs.Prelude.{◌≡◌, false, map, length, drop};
 ghost use Rattle.corners.specs.Corners.{off_range};
 ghost use Rattle.table.specs.Table.{starts_broken, max_contour};
 ghost use Rattle.table.specs.Stored.{words_of, word_at, signed, stored_starts, length_broken, stored_broken, read_fault};
+ghost use Rattle.faults.specs.Told.{told};
 ghost use Rattle.table_read.specs.Read.{counts_read, starts_read, corners_read};
 
+use faults::Fault;
 use table::Counts;
 use table_words::{HEADER, WORD, word_at};
 
@@ -83,25 +85,25 @@ fn stored_off_range(bytes: &[u8], from: usize) -> bool
     false
 }
 
-// The fault of reading the bytes into so many places for starts and into lent corners; 0 for none.
-fn read_fault(bytes: &[u8], starts: usize, corners: &[i32]) -> u32
-    ensures { result ≡ read_fault bytes.now starts (length corners.now) }
+// The fault of reading the bytes into so many places for starts and into lent corners.
+fn read_fault(bytes: &[u8], starts: usize, corners: &[i32]) -> Result<(), Fault>
+    ensures { told result ≡ read_fault bytes.now starts (length corners.now) }
 {
     if stored_broken(bytes) {
-        return integers::fault::RULES;
+        return Err(Fault::Rules);
     }
     let parts = word_at(bytes, 0) as usize;
     let count = word_at(bytes, 1) as usize;
     if stored_off_range(bytes, parts + 3) {
-        return integers::fault::RANGE;
+        return Err(Fault::Range);
     }
     if starts < parts + 1 {
-        return integers::fault::START_ROOM;
+        return Err(Fault::StartRoom);
     }
     if corners::corner_count(corners) < count {
-        return integers::fault::CORNER_ROOM;
+        return Err(Fault::CornerRoom);
     }
-    0
+    Ok(())
 }
 
 // Reads a stored table into the lent starts and corners. Refuses with 7, 2, 22, 21, in this order,
@@ -111,10 +113,9 @@ pub fn read_table(bytes: &[u8], starts: &mut [u32], corners: &mut [i32]) -> Coun
     ensures starts { starts.new ≡ starts_read bytes.now starts.old corners.old }
     ensures corners { corners.new ≡ corners_read bytes.now starts.old corners.old }
 {
-    let fault = read_fault(bytes, starts.len(), corners);
-    if fault != 0 {
+    if let Err(fault) = read_fault(bytes, starts.len(), corners) {
         return Counts {
-            fault: fault,
+            fault: fault.number(),
             parts: 0,
             corners: 0,
         };
@@ -125,8 +126,8 @@ pub fn read_table(bytes: &[u8], starts: &mut [u32], corners: &mut [i32]) -> Coun
     table_words::read_words(bytes, 2, first + 1, starts);
     table_words::read_numbers(bytes, first + 3, corners::WIDTH * (count as usize), corners);
     Counts {
-        fault: fault,
-        parts: parts,
+        fault: 0,
+        parts,
         corners: count,
     }
 }
