@@ -1,10 +1,10 @@
 -- Faults and their numbers: each is that of its own number, and what is judged is known by the
 -- number that is told of it. Assumes nothing.
-use Rattle.std.specs.Prelude.{ℕ, ◌≡◌, refl, Ok, Err}
-use Rattle.std.proofs.Common.{sym, ◌∙◌, ap}
+use Rattle.std.specs.Prelude.{ℕ, Result, ◌≡◌, ◌<◌, refl, Ok, Err}
+use Rattle.std.proofs.Common.{sym, ◌∙◌, ap, arith}
 use Rattle.faults.specs.declared.Fault.{Fault}
 use Rattle.faults.specs.declared.Fault.TheVariants as fault
-use Rattle.faults.specs.Told.{number, numbered, judged}
+use Rattle.faults.specs.Told.{number, told, numbered, judged}
 
 pub numbered_number : (f : Fault) → numbered (number f) ≡ f
 unfolding numbered
@@ -56,3 +56,27 @@ judged_by x {f} e = judged_err x f ∙ ap (λ n. judged n x) e
 -- and of 0
 pub judged_ok : {T : Type 0} (x : T) {n : ℕ} → n ≡ 0 → Ok x ≡ judged n x
 judged_ok x e = ap (λ n. judged n x) (sym e)
+
+-- no fault has the number 0
+pub number_above : (f : Fault) → 0 < number f
+number_above fault.Triangles = omega arith
+number_above fault.Range = omega arith
+number_above fault.Stray = omega arith
+number_above fault.Naming = omega arith
+number_above fault.Edge = omega arith
+number_above fault.Flat = omega arith
+number_above fault.Rules = omega arith
+number_above fault.Winding = omega arith
+number_above fault.Bounds = omega arith
+number_above fault.Result = omega arith
+number_above fault.Total = omega arith
+number_above fault.Part = omega arith
+number_above fault.File = omega arith
+number_above fault.Path = omega arith
+number_above fault.Empty = omega arith
+number_above fault.CornerRoom = omega arith
+number_above fault.StartRoom = omega arith
+number_above fault.Place = omega arith
+
+pub refused_above : {T : Type 0} {r : Result T Fault} {f : Fault} → r ≡ Err f → 0 < told r
+refused_above {f = f} e = omega (arith, number_above f, ap told e)

@@ -7,11 +7,14 @@
 #![tactic(auto)]
 
 ghost use Rattle.std.specs.Prelude.{◌≡◌, false, ◌<◌};
+ghost use Rattle.faults.specs.Told.{told};
 ghost use Rattle.table.specs.Table.{table_broken, part_count};
 ghost use Rattle.table.specs.Shown.{shown_fault, shown_part, part_numbers};
 ghost use Rattle.table_shown.specs.Place.{part_place, shown_place};
 
-// The fault of asking for part k of the left or the right table; 0 for none. Both tables are
+use faults::Fault;
+
+// The fault of asking for part k of the left or the right table. Both tables are
 // judged, also the one not asked for.
 fn shown_fault(
     left_starts: &[u32],
@@ -20,27 +23,27 @@ fn shown_fault(
     right_corners: &[i32],
     right: bool,
     k: usize,
-) -> u32
-    ensures { result ≡ shown_fault
+) -> Result<(), Fault>
+    ensures { told result ≡ shown_fault
         left_starts.now left_corners.now
         right_starts.now right_corners.now right k }
 {
     if table::rules_broken(left_starts, left_corners) {
-        return integers::fault::RULES;
+        return Err(Fault::Rules);
     }
     if table::rules_broken(right_starts, right_corners) {
-        return integers::fault::RULES;
+        return Err(Fault::Rules);
     }
     if right {
         if right_starts.len() - 1 <= k {
-            return integers::fault::PART;
+            return Err(Fault::Part);
         }
-        return 0;
+        return Ok(());
     }
     if left_starts.len() - 1 <= k {
-        return integers::fault::PART;
+        return Err(Fault::Part);
     }
-    0
+    Ok(())
 }
 
 // The numbers of part k's corners, where they lie in the lent corners.
@@ -76,7 +79,7 @@ pub fn show_part<'a>(
         right_starts.now right_corners.entry.ref_ptr right k }
 {
     let part = k as usize;
-    let number = shown_fault(
+    let judged = shown_fault(
         left_starts,
         left_corners,
         right_starts,
@@ -84,10 +87,11 @@ pub fn show_part<'a>(
         right,
         part,
     );
-    *fault = number;
-    if number != 0 {
+    if let Err(refused) = judged {
+        *fault = refused.number();
         return &left_corners[0..0];
     }
+    *fault = 0;
     if right {
         return part_of(right_starts, right_corners, part);
     }

@@ -7,10 +7,12 @@
 
 ghost use Rattle.std.specs.Prelude.{◌≡◌, map, ◌+◌, ◌*◌, ◌≤◌, length};
 ghost use Rattle.integers.specs.Word.{unsigned};
+ghost use Rattle.faults.specs.Told.{told};
 ghost use Rattle.table.specs.Stored.{write_fault};
 ghost use Rattle.table_words.specs.Place.{put_words};
 ghost use Rattle.table_write.specs.Written.{answer_written, bytes_written};
 
+use faults::Fault;
 use table_words::{HEADER, WORD, put_word};
 
 // What `write_table` answers: the fault number, 0 for none, and how many bytes were written, 0
@@ -21,20 +23,20 @@ pub struct Stored {
     pub length: usize,
 }
 
-// The fault of writing the table into so many bytes; 0 for none.
-fn write_fault(starts: &[u32], corners: &[i32], room: usize) -> u32
-    ensures { result ≡ write_fault starts.now corners.now room }
+// The fault of writing the table into so many bytes.
+fn write_fault(starts: &[u32], corners: &[i32], room: usize) -> Result<(), Fault>
+    ensures { told result ≡ write_fault starts.now corners.now room }
 {
     if table::rules_broken(starts, corners) {
-        return integers::fault::RULES;
+        return Err(Fault::Rules);
     }
     if corners::off_range(corners) {
-        return integers::fault::RANGE;
+        return Err(Fault::Range);
     }
     if room < HEADER + WORD * starts.len() + WORD * corners.len() {
-        return integers::fault::CORNER_ROOM;
+        return Err(Fault::CornerRoom);
     }
-    0
+    Ok(())
 }
 
 // Writes the words from word `from` on.
@@ -68,10 +70,9 @@ pub fn write_table(starts: &[u32], corners: &[i32], bytes: &mut [u8]) -> Stored
     ensures told { result ≡ answer_written starts.now corners.now bytes.old }
     ensures bytes { bytes.new ≡ bytes_written starts.now corners.now bytes.old }
 {
-    let number = write_fault(starts, corners, bytes.len());
-    if number != 0 {
+    if let Err(fault) = write_fault(starts, corners, bytes.len()) {
         return Stored {
-            fault: number,
+            fault: fault.number(),
             length: 0,
         };
     }
@@ -81,7 +82,7 @@ pub fn write_table(starts: &[u32], corners: &[i32], bytes: &mut [u8]) -> Stored
     write_words(starts, 2, bytes);
     write_corners(corners, starts.len() + 2, bytes);
     Stored {
-        fault: number,
+        fault: 0,
         length: HEADER + WORD * starts.len() + WORD * corners.len(),
     }
 }

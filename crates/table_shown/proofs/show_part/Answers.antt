@@ -1,6 +1,6 @@
 -- `table_shown::show_part` meets its contract: the fault that `shown_fault` tells, and the part of
 -- the operand asked for. Assumes nothing.
-use mathlib.Core.Path.{◌≡◌, sym, ◌∙◌, ap, subst}
+use mathlib.Core.Path.{◌≡◌, refl, sym, ◌∙◌, ap, subst}
 use mathlib.Core.Bool.{Bool, true, false, cond}
 use mathlib.Core.List.{List, []}
 use Prim.Native.Nat.{ℕ, ◌+◌, ◌<◌}
@@ -12,6 +12,8 @@ use Rattle.table.specs.Table.{table_broken, part_count}
 use Rattle.table.specs.Shown.{shown_fault, part_numbers, shown_part}
 use Rattle.table.proofs.Shown.{shows, refused, accepted}
 use Rattle.table_shown.specs.Place.{part_place, shown_place}
+use Rattle.faults.specs.Told.{told, number}
+use Rattle.faults.proofs.Numbers.{number_above}
 use Rattle.table_shown.proofs.show_part.Goals as goal
 
 module _ (ls : List ℕ) (lc : List ℤ) (rs : List ℕ) (rc : List ℤ) (right : Bool) (k : ℕ) {n : ℕ} (e : n ≡ shown_fault ls lc rs rc right k) where
@@ -53,26 +55,27 @@ module _ (ls : List ℕ) (lp : ℕ × ℕ) (rs : List ℕ) (rp : ℕ × ℕ) (ri
   place_left : {p : ℕ × ℕ} → n ≡ 0 → right ≡ false → p ≡ part_place ls lp k → p ≡ shown_place n ls lp rs rp right k
   place_left z r q = q ∙ sym (at_part z ∙ ap (λ b. part_place (cond b rs ls) (cond b rp lp) k) r)
 
-pub returns-then-number-ne0 : goal.returns-then-number-ne0
-returns-then-number-ne0 c = let e = c.shown_fault-number.ensures in
-    record { shown = none _ _ _ _ _ _ e c.if-number-ne0.true; told = e; placed = at_left _ _ _ _ _ _ c.if-number-ne0.true }
+pub returns-in-Err : goal.returns-in-Err
+returns-in-Err c = let e = c.number.ensures ∙ ap told (sym c.in-Err.is) ∙ c.shown_fault-judged.ensures in
+    let some : c.number.result ≡ 0 → ⊥ = λ z. absurd (omega (arith, z, c.number.ensures, number_above c.in-Err.refused)) in
+    record { shown = none _ _ _ _ _ _ e some; told = e; placed = at_left _ _ _ _ _ _ some }
 
 pub part_of-requires : goal.part_of-requires
-part_of-requires c = of_right _ _ _ _ _ _ c.shown_fault-number.ensures c.if-number-ne0.false c.if-right.true
+part_of-requires c = let z = ap told c.in_default.is in
+    of_right _ _ _ _ _ _ c.shown_fault-judged.ensures z c.if-right.true
 
 pub returns-then-right : goal.returns-then-right
-returns-then-right c = let e = c.shown_fault-number.ensures in
-    let z = c.if-number-ne0.false in
+returns-then-right c = let e = sym (ap told c.in_default.is) ∙ c.shown_fault-judged.ensures in
     let r = c.if-right.true in
     let p = c.part_of.ensures in
-    record { shown = part_right _ _ _ _ _ _ e z r p.numbers; told = e; placed = place_right _ _ _ _ _ _ z r p.placed }
+    record { shown = part_right _ _ _ _ _ _ e refl r p.numbers; told = e; placed = place_right _ _ _ _ _ _ refl r p.placed }
 
 pub part_of-requires-2 : goal.part_of-requires-2
-part_of-requires-2 c = of_left _ _ _ _ _ _ c.shown_fault-number.ensures c.if-number-ne0.false c.if-right.false
+part_of-requires-2 c = let z = ap told c.in_default.is in
+    of_left _ _ _ _ _ _ c.shown_fault-judged.ensures z c.if-right.false
 
 pub returns : goal.returns
-returns c = let e = c.shown_fault-number.ensures in
-    let z = c.if-number-ne0.false in
+returns c = let e = sym (ap told c.in_default.is) ∙ c.shown_fault-judged.ensures in
     let r = c.if-right.false in
     let p = c.part_of-2.ensures in
-    record { shown = part_left _ _ _ _ _ _ e z r p.numbers; told = e; placed = place_left _ _ _ _ _ _ z r p.placed }
+    record { shown = part_left _ _ _ _ _ _ e refl r p.numbers; told = e; placed = place_left _ _ _ _ _ _ refl r p.placed }
