@@ -1,5 +1,5 @@
-// Why an input is refused: the faults by name (`Fault`), and the numbers by which programs and the C
-// interface tell them ("Faults that come from the input", "Faults that come from the state" of
+// Why an input is refused: the faults by name (`Fault`), and the numbers by which programs and the
+// C interface tell them ("Faults that come from the input", "Faults that come from the state" of
 // document 01, and those of document 02's requests). What is judged answers `Result<.., Fault>`;
 // `told` of specs/Told.antt reads the number off it, 0 where it is accepted. Leans on integers,
 // whose specs/Faults.antt has the numbers and the order in which kinds are tried.
@@ -41,7 +41,8 @@ pub enum Fault {
     // A result bound not strictly between -2^30 and 2^30.
     Result = 10,
 
-    // Doubled areas of the mesh add up to more than 2^63-1, or a measured one leaves signed 64 bits.
+    // Doubled areas of the mesh add up to more than 2^63-1, or a measured one leaves signed 64
+    // bits.
     Total = 11,
 
     // A part number past the table.
