@@ -1,4 +1,4 @@
--- Tests of an f64 against two ends, -b and b. In order: what owning an f64 tells; finite; ≤ b, of
+-- Tests of an f64 against two ends, -b and b. In order: what owning an f64 tells; ≤ b, of
 -- multiples and of floats; < b; the two ends used here; what passing tells (`range_number`,
 -- `grid_number`, `grid_size`). Assumes nothing.
 use mathlib.Core.Path.{◌≡◌, refl, sym, ap, ◌∙◌, subst}
@@ -20,27 +20,6 @@ use Rattle.grid.specs.Grid.{within_range, on_grid}
 -- what owning an f64 tells, at a number that is finite
 held : (x : Float) → fits binary64 x ≡ true → T (finite x) → Number x
 held x h f = record { fitting = subst T (sym h) tt; finite = f }
-
--- ---- finite
-
-finite_under : (x : Float) → lt x (inf false) ≡ true → lt (inf true) x ≡ finite x
-unfolding lt
-finite_under nan h = refl
-finite_under (inf true) h = refl
-finite_under (inf false) h = differ h
-finite_under (fin s m e) h = refl
-
-finite_over : (x : Float) → lt x (inf false) ≡ false → false ≡ finite x
-unfolding lt
-finite_over nan h = refl
-finite_over (inf s) h = refl
-finite_over (fin s m e) h = sym h
-
-pub number_under : (x : Float) → fits binary64 x ≡ true → lt x (inf false) ≡ true → lt (inf true) x ≡ number x
-number_under x f h = finite_under x h ∙ sym (number_finite x f)
-
-pub number_over : (x : Float) → fits binary64 x ≡ true → lt x (inf false) ≡ false → false ≡ number x
-number_over x f h = finite_over x h ∙ sym (number_finite x f)
 
 -- ---- at most b: of integers
 

@@ -10,11 +10,12 @@ use lib.Count.{count_trailing_zeros}
 use lib.Dec.{T, T_not, leb, ltb, eqb, leb→le, le→leb, lt→ltb, eqb→eq}
 use lib.IntN.{ℤ, pos, negsuc}
 use lib.Pow.{pow-lt}
-use lib.Ieee.{Float, nan, inf, fin, binary64, fits, is_nan, up, down, lt, le, minus, odd, of_fields, of_bits, to_bits, ones, top}
+use lib.Ieee.{Float, nan, inf, fin, binary64, fits, up, down, lt, le, minus, odd, of_fields, of_bits, to_bits, ones, top}
 use lib.Ieee.Fits.{and_l, and_r, down_pos}
 use lib.Ieee.Bits.{of_bits-to_bits}
-use Rattle.integers.proofs.Tests.{differ}
-use Rattle.floats.proofs.Comparisons.{same_test, and_true, leb_or}
+use Rattle.integers.proofs.Tests.{differ, ≤-lt_z, le_z-≤}
+use Rattle.floats.specs.Floats.{multiple}
+use Rattle.floats.proofs.Comparisons.{Number, same_test, and_true, leb_or, lt_multiple, le_multiple}
 use Rattle.floats.proofs.Values.{exponent_le}
 use Rattle.grid.specs.Grid.{step_count}
 
@@ -98,20 +99,34 @@ passed_step {x} f p =
 
 -- ---- so the code's answers
 
+one : Number (power 0)
+unfolding fits
+one = record { fitting = tt; finite = tt }
+
+-- 1 is at most each of the powers
+least : (k : ℕ) → k < 11 → T (le (power 0) (power k))
+unfolding lt le
+least = each_below 11 (λ k. T (le (power 0) (power k))) (tt, (tt, (tt, (tt, (tt, (tt, (tt, (tt, (tt, (tt, (tt, tt)))))))))))
+
+from_one : (x : Float) → T (step_count x) → T (le (power 0) x)
+from_one x t = let p = step_power x t in subst (λ y. T (le (power 0) y)) (sym p.2) (least p.0 p.1)
+
+-- what is at least 1 is not below it
+not_below : (x : Float) → fits binary64 x ≡ true → le (power 0) x ≡ true → lt x (power 0) ≡ false
+not_below nan f h = unfold le in differ h
+not_below (inf true) f h = unfold le in differ h
+not_below (inf false) f h = unfold lt in refl
+not_below (fin s m e) f h =
+    let X : Number (fin s m e) = record { fitting = subst T (sym f) tt; finite = tt } in
+    lt_multiple (fin s m e) (power 0) X one ∙ ≤-lt_z (le_z-≤ (multiple (power 0)) (multiple (fin s m e)) (sym (le_multiple one X) ∙ h))
+
 module _ (x : Float) where
-  pub step_low : lt x (power 0) ≡ true → false ≡ step_count x
-  step_low e = same_test false (step_count x) (λ t. absurd t) (λ t. T_not (lt x (power 0)) (step_passed x t).low (subst T (sym e) tt))
+  pub step_low : le (power 0) x ≡ false → false ≡ step_count x
+  step_low e = same_test false (step_count x) (λ t. absurd t) (λ t. subst T e (from_one x t))
 
   pub step_high : le x (power 10) ≡ false → false ≡ step_count x
   step_high e = same_test false (step_count x) (λ t. absurd t) (λ t. subst T e (step_passed x t).high)
 
-  pub step_bits : fits binary64 x ≡ true → lt x (power 0) ≡ false → le x (power 10) ≡ true → no_digits x ≡ step_count x
+  pub step_bits : fits binary64 x ≡ true → le (power 0) x ≡ true → le x (power 10) ≡ true → no_digits x ≡ step_count x
   step_bits f l h = same_test (no_digits x) (step_count x)
-      (λ t. passed_step (subst T (sym f) tt) (record { low = subst (λ b. T (not b)) (sym l) tt; high = subst T (sym h) tt; digits = t })) (λ t. (step_passed x t).digits)
-
--- what compares is no NaN
-pub no_nan : (x y : Float) → le x y ≡ true → T (not (is_nan x))
-unfolding le is_nan
-no_nan nan y h = differ h
-no_nan (inf s) y h = tt
-no_nan (fin s m e) y h = tt
+      (λ t. passed_step (subst T (sym f) tt) (record { low = subst (λ b. T (not b)) (sym (not_below x f l)) tt; high = subst T (sym h) tt; digits = t })) (λ t. (step_passed x t).digits)

@@ -20,21 +20,14 @@ const EDGE: f64 = 1073741823.5;
 pub fn is_finite(x: f64) -> bool
     ensures { result ≡ number x }
 {
-    let infinity: f64 = 1.0 / 0.0;
-    if x < infinity {
-        return -infinity < x;
-    }
-    false
+    x.is_finite()
 }
 
 // Whether a coordinate of a current point lies within the range, its ends included.
 pub fn within_range(x: f64) -> bool
     ensures { result ≡ within_range x }
 {
-    if x <= RANGE {
-        return -RANGE <= x;
-    }
-    false
+    x <= RANGE && -RANGE <= x
 }
 
 // The weight of an f64's exponent in its bits: below it stand the digits after the first.
@@ -44,23 +37,14 @@ const EXPONENT_UNIT: u64 = 0x10_0000_0000_0000;
 pub fn is_step_count(steps: f64) -> bool
     ensures { result ≡ step_count steps }
 {
-    if steps < 1.0 {
-        return false;
-    }
-    if steps <= 1024.0 {
-        return f64::to_bits(steps) % EXPONENT_UNIT == 0;
-    }
-    false
+    1.0 <= steps && steps <= 1024.0 && steps.to_bits() % EXPONENT_UNIT == 0
 }
 
 // Whether v rounds to a number strictly between -2^30 and 2^30; an infinity does not.
 pub fn on_grid(v: f64) -> bool
     ensures { result ≡ on_grid v }
 {
-    if v < EDGE {
-        return -EDGE < v;
-    }
-    false
+    v < EDGE && -EDGE < v
 }
 
 // x less the origin, rounded once, times the step count.
@@ -77,20 +61,14 @@ const SHIFT: f64 = 6755399441055744.0;
 fn half_beside(v: f64) -> f64
     ensures { result ≡ fin (lt v (fin false 0 (pos 0))) 1 (negsuc 0) }
 {
-    if v < 0.0 {
-        return -0.5;
-    }
-    0.5
+    if v < 0.0 { -0.5 } else { 0.5 }
 }
 
 // One on that side.
 fn one_beside(v: f64) -> i32
     ensures { result ≡ signed (lt v (fin false 0 (pos 0))) 1 }
 {
-    if v < 0.0 {
-        return -1;
-    }
-    1
+    if v < 0.0 { -1 } else { 1 }
 }
 
 // v to the nearest whole number, halves away from zero.
@@ -103,7 +81,8 @@ pub fn nearest(v: f64) -> i32
     let k = whole as i32;
     // a half that went towards zero
     if v == whole + half_beside(v) {
-        return k + one_beside(v);
+        k + one_beside(v)
+    } else {
+        k
     }
-    k
 }

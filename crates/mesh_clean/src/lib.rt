@@ -30,10 +30,7 @@ fn packed_of(row: Row, i: usize) -> u64
 fn choose(test: bool, yes: u64, no: u64) -> u64
     ensures { result ≡ cond test yes no }
 {
-    if test {
-        return yes;
-    }
-    no
+    if test { yes } else { no }
 }
 
 // Of a row that triangle k names over the edge from a to b, points as numbers: whether its first
@@ -50,13 +47,10 @@ fn names_back(far: Row, k: usize, a: u64, b: u64) -> bool
     let first = mesh::neighbor_of(far, 0) == k;
     let second = mesh::neighbor_of(far, 1) == k;
     let third = mesh::neighbor_of(far, 2) == k;
-    let last = choose(third, v0, 18446744073709551615 - b);
+    let last = choose(third, v0, u64::MAX - b);
     let from = choose(first, v1, choose(second, v2, last));
     let to = choose(first, v2, choose(second, v0, v1));
-    if from != b {
-        return false;
-    }
-    to == a
+    from == b && to == a
 }
 
 // What the second pass has seen so far: whether every edge that it asked for is shared, and how
@@ -68,37 +62,26 @@ pub struct Seen {
     pub after: usize,
 }
 
-// 1 where a test holds, else 0; compiled without a branch, for a test that cannot be foretold.
-fn one_if(test: bool) -> usize
-    ensures { (result ≡ cond test 1 0) × (result ≤ 1) }
-{
-    if test {
-        return 1;
-    }
-    0
-}
-
 // The side of triangle k across whose edge, from a to b, it names n: counted, and where n is before
 // k, whether n's first side that names k runs from b to a. A side that names a triangle after its
-// own is only counted, and one that names none passed over: one branch, n < k, tells both from the
-// rest.
+// own is only counted, and one that names none passed over, by a test taken as a number: one branch,
+// n < k, tells both from the rest.
 fn count_side(mesh: &[Row], k: usize, n: usize, a: u64, b: u64, s: Seen) -> Seen
     requires { (k < length mesh.now) × (s.before < 2 ^ 32) × (s.after < 2 ^ 32) }
     ensures { Counted (rows_mesh mesh.now) k n a b s result }
 {
     if n < k {
-        let shared = names_back(mesh[n], k, a, b);
-        return Seen {
-            shared: shared,
+        Seen {
+            shared: names_back(mesh[n], k, a, b),
             before: s.before + 1,
             after: s.after,
-        };
-    }
-    let more = one_if(n != NIL_INDEX);
-    Seen {
-        shared: true,
-        before: s.before,
-        after: s.after + more,
+        }
+    } else {
+        Seen {
+            shared: true,
+            before: s.before,
+            after: s.after + usize::from(n != NIL_INDEX),
+        }
     }
 }
 
@@ -133,13 +116,11 @@ fn all_linked(mesh: &[Row]) -> bool
         before: 0,
         after: 0,
     };
-    let mut k: usize = 0;
-    while k < mesh.len() {
+    for k in 0..mesh.len() {
         s = count_row(mesh, k, s);
         if !s.shared {
             return false;
         }
-        k += 1;
     }
     s.before == s.after
 }
@@ -150,8 +131,5 @@ pub fn is_clean(mesh: &[Row]) -> bool
     requires { length mesh.now ≤ max_triangles }
     ensures { result ≡ clean (rows_mesh mesh.now) }
 {
-    if !mesh_sound::all_sound(mesh) {
-        return false;
-    }
-    all_linked(mesh)
+    mesh_sound::all_sound(mesh) && all_linked(mesh)
 }

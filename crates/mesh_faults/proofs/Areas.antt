@@ -1,21 +1,21 @@
 -- The areas of a mesh added up row by row: z of those before row k (`Sum`), at the start, one more,
 -- past 2^63 - 1, at the end. Assumes nothing.
-use mathlib.Core.Path.{◌≡◌, refl, sym, ◌∙◌, ap}
-use mathlib.Core.Bool.{Bool, true, false}
+use mathlib.Core.Path.{◌≡◌, sym, ◌∙◌, ap}
+use mathlib.Core.Bool.{true, false}
 use mathlib.Core.List.{List, [], ◌∷◌, map}
-use Prim.Native.Nat.{ℕ, suc, ◌+◌, ◌-◌, ◌≤◌, ◌<◌}
+use Prim.Native.Nat.{ℕ, suc, ◌+◌, ◌≤◌, ◌<◌}
 use native.Mathlib.Omega.{arith}
 use native.Mathlib.Numerals.{add-one}
 use lib.ListN.{length, get_or, drop, length-drop, drop_of_length-le}
 use lib.Seq.{drop-cons, get_or-drop}
 use lib.IntN.{ℤ, pos, ◌+ℤ◌}
-use lib.Signed.{◌≤ℤ◌, ◌<ℤ◌, lt_z}
+use lib.Signed.{◌≤ℤ◌, ◌<ℤ◌}
 use Rattle.integers.specs.Lists.{All, sumℤ}
 use Rattle.integers.proofs.Elements.{get_or_all}
 use Rattle.integers.proofs.Sums.{sum_cons}
-use Rattle.integers.proofs.Order.{zarith, add_parts, <-≤}
+use Rattle.integers.proofs.Order.{zarith, add_parts}
 use Rattle.integers.proofs.Tests.{<-lt_z, ≤-lt_z}
-use Rattle.mesh.specs.Mesh.{Triangle, Mesh, no_triangle, triangle_at, triangle_area, flat, mesh_area, too_large}
+use Rattle.mesh.specs.Mesh.{Triangle, no_triangle, triangle_at, triangle_area, flat, mesh_area, too_large}
 use Rattle.mesh.specs.Rows.{row_triangle, rows_mesh}
 use Rattle.mesh.proofs.Accepted.{area_rule}
 use Rattle.mesh.proofs.Rows.{length_rows, triangle_row}

@@ -43,14 +43,11 @@ fn too_large(mesh: &[Row]) -> bool
     ensures { result ≡ too_large (rows_mesh mesh.now) }
 {
     let mut total: i64 = 0;
-    let mut k: usize = 0;
-    while k < mesh.len() {
-        let sum = mesh_sound::add_area(total, mesh::area_of(mesh[k]));
-        let mesh_sound::Added::Total(next) = sum else {
+    for row in mesh {
+        let Some(next) = mesh_sound::add_area(total, mesh::area_of(*row)) else {
             return true;
         };
         total = next;
-        k += 1;
     }
     false
 }

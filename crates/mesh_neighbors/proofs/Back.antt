@@ -4,7 +4,6 @@ use mathlib.Core.Path.{◌≡◌, sym, ◌∙◌, ap}
 use mathlib.Core.Bool.{true, false, cond}
 use mathlib.Core.List.{List, []}
 use Prim.Native.Nat.{ℕ, ◌<◌}
-use borrow.Author.Tests.{eq-eqb, ne_eqb}
 use lib.Dec.{eqb}
 use lib.ListN.{length, get_or}
 use lib.IntN.{ℤ}
@@ -28,25 +27,23 @@ module _ (rows : List (List ℤ)) {n : ℕ} (k : ℕ) (h : n < length rows) (a b
       ap (λ t. back_fault t k a b) (triangle_row rows n h)
       ∙ sym (λ w. cond (eqb (ei w) k) (cond (eqb (ej w) k) 4 (cond (eqb (el w) k) 4 (edge_fault a b (vertex u 2) (vertex u 1)))) (cond (eqb (ej w) k) (cond (eqb (el w) k) 4 (edge_fault a b (vertex u 0) (vertex u 2))) (cond (eqb (el w) k) (edge_fault a b (vertex u 1) (vertex u 0)) 4)))
 
-  module _ (x : i ≡ k) where
-    pub first_second : j ≡ k → 4 ≡ answer
-    first_second y = sym (by_tests ∙ rw (eq-eqb i k x, eq-eqb j k y))
+  pub first_alone : eqb i k ≡ true → eqb j k ≡ false → eqb l k ≡ false → {p q : Pt} {r : ℕ} → p ≡ vertex u 2 → q ≡ vertex u 1 → r ≡ edge_fault a b p q → r ≡ answer
+  first_alone x y z ep eq er = er ∙ (λ w. edge_fault a b (ep w) (eq w)) ∙ sym (by_tests ∙ rw (x, y, z))
 
-    pub first_third : (j ≡ k → ⊥) → l ≡ k → 4 ≡ answer
-    first_third y z = sym (by_tests ∙ rw (eq-eqb i k x, ne_eqb j k y, eq-eqb l k z))
+  pub second_alone : eqb i k ≡ false → eqb j k ≡ true → eqb l k ≡ false → {p q : Pt} {r : ℕ} → p ≡ vertex u 0 → q ≡ vertex u 2 → r ≡ edge_fault a b p q → r ≡ answer
+  second_alone x y z ep eq er = er ∙ (λ w. edge_fault a b (ep w) (eq w)) ∙ sym (by_tests ∙ rw (x, y, z))
 
-    pub first_alone : (j ≡ k → ⊥) → (l ≡ k → ⊥) → {p q : Pt} {r : ℕ} → p ≡ vertex u 2 → q ≡ vertex u 1 → r ≡ edge_fault a b p q → r ≡ answer
-    first_alone y z ep eq er = er ∙ (λ w. edge_fault a b (ep w) (eq w)) ∙ sym (by_tests ∙ rw (eq-eqb i k x, ne_eqb j k y, ne_eqb l k z))
+  pub third_alone : eqb i k ≡ false → eqb j k ≡ false → eqb l k ≡ true → {p q : Pt} {r : ℕ} → p ≡ vertex u 1 → q ≡ vertex u 0 → r ≡ edge_fault a b p q → r ≡ answer
+  third_alone x y z ep eq er = er ∙ (λ w. edge_fault a b (ep w) (eq w)) ∙ sym (by_tests ∙ rw (x, y, z))
 
-  module _ (x : i ≡ k → ⊥) where
-    pub second_third : j ≡ k → l ≡ k → 4 ≡ answer
-    second_third y z = sym (by_tests ∙ rw (ne_eqb i k x, eq-eqb j k y, eq-eqb l k z))
+  pub first_second : eqb i k ≡ true → eqb j k ≡ true → 4 ≡ answer
+  first_second x y = sym (by_tests ∙ rw (x, y))
 
-    pub second_alone : j ≡ k → (l ≡ k → ⊥) → {p q : Pt} {r : ℕ} → p ≡ vertex u 0 → q ≡ vertex u 2 → r ≡ edge_fault a b p q → r ≡ answer
-    second_alone y z ep eq er = er ∙ (λ w. edge_fault a b (ep w) (eq w)) ∙ sym (by_tests ∙ rw (ne_eqb i k x, eq-eqb j k y, ne_eqb l k z))
+  pub first_third : eqb i k ≡ true → eqb j k ≡ false → eqb l k ≡ true → 4 ≡ answer
+  first_third x y z = sym (by_tests ∙ rw (x, y, z))
 
-    pub third_alone : (j ≡ k → ⊥) → l ≡ k → {p q : Pt} {r : ℕ} → p ≡ vertex u 1 → q ≡ vertex u 0 → r ≡ edge_fault a b p q → r ≡ answer
-    third_alone y z ep eq er = er ∙ (λ w. edge_fault a b (ep w) (eq w)) ∙ sym (by_tests ∙ rw (ne_eqb i k x, ne_eqb j k y, eq-eqb l k z))
+  pub second_third : eqb i k ≡ false → eqb j k ≡ true → eqb l k ≡ true → 4 ≡ answer
+  second_third x y z = sym (by_tests ∙ rw (x, y, z))
 
-    pub no_side : (j ≡ k → ⊥) → (l ≡ k → ⊥) → 4 ≡ answer
-    no_side y z = sym (by_tests ∙ rw (ne_eqb i k x, ne_eqb j k y, ne_eqb l k z))
+  pub no_side : eqb i k ≡ false → eqb j k ≡ false → eqb l k ≡ false → 4 ≡ answer
+  no_side x y z = sym (by_tests ∙ rw (x, y, z))

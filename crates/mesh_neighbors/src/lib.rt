@@ -15,28 +15,21 @@ use plane::IntPoint;
 fn earlier_of(a: u32, b: u32) -> u32
     ensures { result ≡ earlier a b }
 {
-    if a == 0 {
-        return b;
+    match (a, b) {
+        (0, other) | (other, 0) => other,
+        _ => a.min(b),
     }
-    if b == 0 {
-        return a;
-    }
-    if a < b {
-        return a;
-    }
-    b
 }
 
 // 5 where the edge from p to q is not the one from a to b; else 0.
 fn edge_fault(a: IntPoint, b: IntPoint, p: IntPoint, q: IntPoint) -> u32
     ensures { result ≡ edge_fault (point a) (point b) (point p) (point q) }
 {
-    if plane::same_point(a, p) {
-        if plane::same_point(b, q) {
-            return 0;
-        }
+    if plane::same_point(a, p) && plane::same_point(b, q) {
+        0
+    } else {
+        integers::fault::EDGE
     }
-    integers::fault::EDGE
 }
 
 // 4 where triangle n does not name k back exactly once, 5 where the edge that it shares so does not
@@ -50,25 +43,18 @@ fn back_fault(mesh: &[Row], n: usize, k: usize, a: IntPoint, b: IntPoint) -> u32
     let first = mesh::neighbor_of(far, 0) == k;
     let second = mesh::neighbor_of(far, 1) == k;
     let third = mesh::neighbor_of(far, 2) == k;
-    if first {
-        if second {
-            return integers::fault::NAMING;
+    match (first, second, third) {
+        (true, false, false) => {
+            edge_fault(a, b, mesh::vertex_of(far, 2), mesh::vertex_of(far, 1))
         }
-        if third {
-            return integers::fault::NAMING;
+        (false, true, false) => {
+            edge_fault(a, b, mesh::vertex_of(far, 0), mesh::vertex_of(far, 2))
         }
-        return edge_fault(a, b, mesh::vertex_of(far, 2), mesh::vertex_of(far, 1));
-    }
-    if second {
-        if third {
-            return integers::fault::NAMING;
+        (false, false, true) => {
+            edge_fault(a, b, mesh::vertex_of(far, 1), mesh::vertex_of(far, 0))
         }
-        return edge_fault(a, b, mesh::vertex_of(far, 0), mesh::vertex_of(far, 2));
+        _ => integers::fault::NAMING,
     }
-    if third {
-        return edge_fault(a, b, mesh::vertex_of(far, 1), mesh::vertex_of(far, 0));
-    }
-    integers::fault::NAMING
 }
 
 // The first of 3, 4 and 5 that holds of n, the neighbour of triangle k across the edge from a to b;
@@ -79,16 +65,10 @@ fn side_fault(mesh: &[Row], k: usize, n: usize, o: usize, p: usize, a: IntPoint,
     if n == NIL_INDEX {
         return 0;
     }
-    if n == k {
+    if n == k || n >= mesh.len() {
         return integers::fault::STRAY;
     }
-    if n >= mesh.len() {
-        return integers::fault::STRAY;
-    }
-    if o == n {
-        return integers::fault::NAMING;
-    }
-    if p == n {
+    if o == n || p == n {
         return integers::fault::NAMING;
     }
     back_fault(mesh, n, k, a, b)
@@ -117,10 +97,8 @@ pub fn neighbor_fault(mesh: &[Row]) -> u32
     ensures { result ≡ neighbour_fault (rows_mesh mesh.now) }
 {
     let mut fault: u32 = 0;
-    let mut k: usize = 0;
-    while k < mesh.len() {
+    for k in 0..mesh.len() {
         fault = earlier_of(fault, row_fault(mesh, k));
-        k += 1;
     }
     fault
 }

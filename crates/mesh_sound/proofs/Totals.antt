@@ -7,18 +7,18 @@ use lib.IntN.{ℤ, pos}
 use lib.Signed.{◌≤ℤ◌, ◌<ℤ◌, lt_z}
 use Rattle.integers.proofs.Order.{by_test}
 use Rattle.integers.proofs.Tests.{lt_z-≤, lt_z-<}
-use Rattle.mesh_sound.specs.declared.Added.TheVariants.{Total, Past}
+use Rattle.std.specs.Prelude.{Some, None}
 use Rattle.mesh_sound.specs.Totals.{added_of}
 
-pub total_of : {z : ℤ} (n : ℤ) → added_of z ≡ Total n → (n ≡ z) × (z ≤ℤ pos 9223372036854775807)
+pub total_of : {z : ℤ} (n : ℤ) → added_of z ≡ Some n → (n ≡ z) × (z ≤ℤ pos 9223372036854775807)
 unfolding added_of
 total_of {z} n h =
     by_test (lt_z (pos 9223372036854775807) z)
-    (λ e. absurd (let q : Past ≡ Total n = sym (ap (λ t. cond t Past (Total z)) e) ∙ h in let k : ◌≡◌ {A = ℕ} 0 1 = cc in omega (arith, k)))
-    (λ e. ((let q : Total z ≡ Total n = sym (ap (λ t. cond t Past (Total z)) e) ∙ h in cc), lt_z-≤ (pos 9223372036854775807) z e))
+    (λ e. absurd (let q : None ≡ Some n = sym (ap (λ t. cond t None (Some z)) e) ∙ h in let k : ◌≡◌ {A = ℕ} 0 1 = cc in omega (arith, k)))
+    (λ e. ((let q : Some z ≡ Some n = sym (ap (λ t. cond t None (Some z)) e) ∙ h in cc), lt_z-≤ (pos 9223372036854775807) z e))
 
-pub past_of : {z : ℤ} → added_of z ≡ Past → pos 9223372036854775807 <ℤ z
+pub past_of : {z : ℤ} → added_of z ≡ None → pos 9223372036854775807 <ℤ z
 unfolding added_of
 past_of {z} h =
     by_test (lt_z (pos 9223372036854775807) z) (λ e. lt_z-< (pos 9223372036854775807) z e)
-    (λ e. absurd (let q : Total z ≡ Past = sym (ap (λ t. cond t Past (Total z)) e) ∙ h in let k : ◌≡◌ {A = ℕ} 0 1 = cc in omega (arith, k)))
+    (λ e. absurd (let q : Some z ≡ None = sym (ap (λ t. cond t None (Some z)) e) ∙ h in let k : ◌≡◌ {A = ℕ} 0 1 = cc in omega (arith, k)))

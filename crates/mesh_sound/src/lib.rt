@@ -16,13 +16,9 @@ use mesh::Row;
 pub fn row_off(row: Row) -> bool
     ensures { result ≡ triangle_off (row_triangle row) }
 {
-    if !plane::on_grid(mesh::vertex_of(row, 0)) {
-        return true;
-    }
-    if !plane::on_grid(mesh::vertex_of(row, 1)) {
-        return true;
-    }
-    !plane::on_grid(mesh::vertex_of(row, 2))
+    !plane::on_grid(mesh::vertex_of(row, 0))
+        || !plane::on_grid(mesh::vertex_of(row, 1))
+        || !plane::on_grid(mesh::vertex_of(row, 2))
 }
 
 // Whether a row's doubled area is not above 0.
@@ -33,32 +29,21 @@ pub fn row_flat(row: Row) -> bool
     mesh::area_of(row) <= 0
 }
 
-// The sum of a total and an area, or whether it is past 2^63 - 1.
-#[derive(Clone, Copy)]
-pub enum Added {
-    Total(i64),
-    Past,
-}
-
-// total + area, where both are at least 0.
-pub fn add_area(total: i64, area: i64) -> Added
+// total + area, where both are at least 0, or none where that is past 2^63 - 1.
+#[tactic(auto, unfolding(crate::specs::Totals::added_of))]
+pub fn add_area(total: i64, area: i64) -> Option<i64>
     requires { (pos 0 ≤ℤ total) × (pos 0 ≤ℤ area) }
     ensures { result ≡ added_of (total +ℤ area) }
 {
-    if total > 9223372036854775807 - area {
-        return Added::Past;
-    }
-    Added::Total(total + area)
+    total.checked_add(area)
 }
 
 // Whether a row is on the grid and its doubled area above 0.
+#[tactic(auto, using(crate::proofs::Passes::on_grid_lem), unfolding(crate::specs::Sound::sound))]
 fn row_sound(row: Row) -> bool
     ensures { result ≡ sound (row_triangle row) }
 {
-    if row_off(row) {
-        return false;
-    }
-    !row_flat(row)
+    !row_off(row) && !row_flat(row)
 }
 
 // Whether every row is sound and the doubled areas add up to at most 2^63 - 1.
@@ -66,17 +51,14 @@ pub fn all_sound(mesh: &[Row]) -> bool
     ensures { result ≡ sound_from (pos 0) (rows_mesh mesh.now) }
 {
     let mut total: i64 = 0;
-    let mut k: usize = 0;
-    while k < mesh.len() {
-        if !row_sound(mesh[k]) {
+    for row in mesh {
+        if !row_sound(*row) {
             return false;
         }
-        let sum = add_area(total, mesh::area_of(mesh[k]));
-        let Added::Total(next) = sum else {
+        let Some(next) = add_area(total, mesh::area_of(*row)) else {
             return false;
         };
         total = next;
-        k += 1;
     }
     true
 }

@@ -40,50 +40,42 @@ pub fn absolute(z: i64) -> u64
     requires { nat_abs z < 2 ^ 63 }
     ensures { result ≡ nat_abs z }
 {
-    if z >= 0 {
-        return z as u64;
-    }
-    (-z) as u64
+    z.unsigned_abs()
 }
 
-// (ah, al) + (bh, bl): the low words are added so that they wrap, and the carry goes to the high
-// word.
-pub fn add_magnitudes(ah: u64, al: u64, bh: u64, bl: u64) -> Words
-    requires { ah + bh + 1 < 2 ^ 64 }
-    ensures { magnitude result ≡ two_words ah al + two_words bh bl }
+// a + b: the low words are added so that they wrap, and the carry goes to the high word.
+pub fn add_magnitudes(a: Words, b: Words) -> Words
+    requires { a.high + b.high + 1 < 2 ^ 64 }
+    ensures { magnitude result ≡ magnitude a + magnitude b }
 {
-    let sum = integers::add_words(al, bl);
+    let sum = integers::add_words(a.low, b.low);
     Words {
-        high: ah + bh + sum.carry,
+        high: a.high + b.high + sum.carry,
         low: sum.low,
     }
 }
 
-// (ah, al) - (bh, bl).
-pub fn subtract_magnitudes(ah: u64, al: u64, bh: u64, bl: u64) -> Words
-    requires { two_words bh bl ≤ two_words ah al }
-    ensures { magnitude result + two_words bh bl ≡ two_words ah al }
+// a - b.
+pub fn subtract_magnitudes(a: Words, b: Words) -> Words
+    requires { magnitude b ≤ magnitude a }
+    ensures { magnitude result + magnitude b ≡ magnitude a }
 {
-    if al >= bl {
-        return Words {
-            high: ah - bh,
-            low: al - bl,
-        };
-    }
+    let (low, borrow) = a.low.overflowing_sub(b.low);
     Words {
-        high: ah - bh - 1,
-        low: al + (u64::MAX - bl) + 1,
+        high: a.high - b.high - u64::from(borrow),
+        low,
     }
 }
 
-// Whether (ah, al) < (bh, bl).
-pub fn less_magnitude(ah: u64, al: u64, bh: u64, bl: u64) -> bool
-    ensures { result ≡ ltb (two_words ah al) (two_words bh bl) }
+// Whether a < b.
+pub fn less_magnitude(a: Words, b: Words) -> bool
+    ensures { result ≡ ltb (magnitude a) (magnitude b) }
 {
-    if ah == bh {
-        return al < bl;
+    if a.high == b.high {
+        a.low < b.low
+    } else {
+        a.high < b.high
     }
-    ah < bh
 }
 
 // a * b.
@@ -91,16 +83,9 @@ pub fn multiply(a: i64, b: i64) -> SignedProduct
     requires { (nat_abs a < 2 ^ 63) × (nat_abs b < 2 ^ 32) }
     ensures { value result ≡ a *ℤ b }
 {
-    let words = multiply_words(absolute(a), absolute(b) as u32);
-    if a < 0 {
-        return SignedProduct {
-            negative: b >= 0,
-            words: words,
-        };
-    }
     SignedProduct {
-        negative: b < 0,
-        words: words,
+        negative: (a < 0) != (b < 0),
+        words: multiply_words(absolute(a), absolute(b) as u32),
     }
 }
 
@@ -108,15 +93,16 @@ pub fn multiply(a: i64, b: i64) -> SignedProduct
 fn add_opposite(negative: bool, a: Words, b: Words) -> SignedProduct
     ensures { value result ≡ signed negative (magnitude a) +ℤ signed (not negative) (magnitude b) }
 {
-    if less_magnitude(a.high, a.low, b.high, b.low) {
-        return SignedProduct {
+    if less_magnitude(a, b) {
+        SignedProduct {
             negative: !negative,
-            words: subtract_magnitudes(b.high, b.low, a.high, a.low),
-        };
-    }
-    SignedProduct {
-        negative: negative,
-        words: subtract_magnitudes(a.high, a.low, b.high, b.low),
+            words: subtract_magnitudes(b, a),
+        }
+    } else {
+        SignedProduct {
+            negative,
+            words: subtract_magnitudes(a, b),
+        }
     }
 }
 
@@ -125,14 +111,12 @@ pub fn add(a: SignedProduct, b: SignedProduct) -> SignedProduct
     requires { a.words.high + b.words.high + 1 < 2 ^ 64 }
     ensures { value result ≡ value a +ℤ value b }
 {
-    let x = a.words;
-    let y = b.words;
-    let negative = a.negative;
-    if negative == b.negative {
-        return SignedProduct {
-            negative: negative,
-            words: add_magnitudes(x.high, x.low, y.high, y.low),
-        };
+    if a.negative == b.negative {
+        SignedProduct {
+            negative: a.negative,
+            words: add_magnitudes(a.words, b.words),
+        }
+    } else {
+        add_opposite(a.negative, a.words, b.words)
     }
-    add_opposite(negative, x, y)
 }

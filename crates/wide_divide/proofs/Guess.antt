@@ -54,11 +54,11 @@ module _ (u x v : ℕ) (hv : 2 ^ 63 ≤ v) (hu : u < v) (hx : x < 2 ^ 32) where
     guess_early h = right (rest * H + x - q * (v % H)) (omega arith)
 
     -- the remainder where rest 2^32 is past a word
-    pub guess_late : v < 2 ^ 64 → H ≤ rest → Divided (u * 2 ^ 32 + x) v (record { quotient = q; remainder = (rest - H) * H + x + (18446744073709551615 - q * (v % H)) + 1 }) × (q < 2 ^ 32)
-    guess_late f h = right ((rest - H) * H + x + (18446744073709551615 - q * (v % H)) + 1) (late (product_fits f))
+    pub guess_late : v < 2 ^ 64 → H ≤ rest → Divided (u * 2 ^ 32 + x) v (record { quotient = q; remainder = ((rest - H) * H + x + (18446744073709551616 - q * (v % H))) % 18446744073709551616 }) × (q < 2 ^ 32)
+    guess_late f h = right (((rest - H) * H + x + (18446744073709551616 - q * (v % H))) % 18446744073709551616) (late (product_fits f) g.most)
       where
-        late : {p : ℕ} → p < 2 ^ 64 → (rest - H) * H + x + (18446744073709551615 - p) + 1 + p ≡ rest * H + x
-        late l = omega (arith, h)
+        late : {p : ℕ} → p < 2 ^ 64 → rest * H + x < p + v → ((rest - H) * H + x + (18446744073709551616 - p)) % 18446744073709551616 + p ≡ rest * H + x
+        late l m = omega (arith, f, h)
 
   -- q v₀ > rest 2^32 + x, so q is too large
   pub guess_some : (q rest : ℕ) → rest * H + x < q * (v % H) → 1 ≤ q

@@ -41,7 +41,7 @@ fn divide_digit(u: u64, x: u64, v: u64) -> Quotient
     let product = q * lower;
     Quotient {
         quotient: q,
-        remainder: (rest - HALF) * HALF + x + (u64::MAX - product) + 1,
+        remainder: ((rest - HALF) * HALF + x).wrapping_sub(product),
     }
 }
 
@@ -63,7 +63,7 @@ fn doublings(d: u64) -> u32
     requires { 0 < d }
     ensures { Normal d result }
 {
-    u64::leading_zeros(d)
+    d.leading_zeros()
 }
 
 // (high, low) by d, where high is below d, so that the quotient fits a word. One division where
@@ -94,10 +94,9 @@ pub fn divide_with_rounding(high: u64, low: u64, d: u64) -> u64
     ensures { result ≡ nearest (two_words high low) d }
 {
     let q = divide(high, low, d);
-    let up = q.quotient;
-    let rest = q.remainder;
-    if rest >= d - rest {
-        return up + 1;
+    if q.remainder >= d - q.remainder {
+        q.quotient + 1
+    } else {
+        q.quotient
     }
-    up
 }

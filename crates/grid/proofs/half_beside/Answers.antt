@@ -8,6 +8,6 @@ pub returns-then-v : goal.returns-then-v
 unfolding of_bits neg
 returns-then-v c = ap (λ s. fin s 1 (negsuc 0)) (sym c.if-v.true)
 
-pub returns : goal.returns
+pub returns-else-v : goal.returns-else-v
 unfolding of_bits neg
-returns c = ap (λ s. fin s 1 (negsuc 0)) (sym c.if-v.false)
+returns-else-v c = ap (λ s. fin s 1 (negsuc 0)) (sym c.if-v.false)

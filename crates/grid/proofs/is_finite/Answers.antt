@@ -1,12 +1,10 @@
--- `grid::is_finite` meets its contract: 1 / 0 is the infinity. Assumes nothing.
-use lib.Ieee.{of_bits, div, neg}
-use Rattle.grid.proofs.Bands.{number_under, number_over}
+-- `grid::is_finite` meets its contract: a number that an f64 holds is one that is finite. Assumes
+-- nothing.
+use mathlib.Core.Path.{sym, ◌∙◌}
+use Rattle.std.specs.Float.{float_is_finite}
+use Rattle.floats.proofs.Comparisons.{number_finite}
 use Rattle.grid.proofs.is_finite.Goals as goal
 
-pub returns-then-x-infinity : goal.returns-then-x-infinity
-unfolding of_bits div neg
-returns-then-x-infinity c = number_under c.args.x c.well_formed.0.1 c.if-x-infinity.true
-
 pub returns : goal.returns
-unfolding of_bits div neg
-returns c = number_over c.args.x c.well_formed.0.1 c.if-x-infinity.false
+unfolding float_is_finite
+returns c = c.is_finite.ensures.value ∙ sym (number_finite c.args.x c.well_formed.0.1)

@@ -2,7 +2,6 @@
 use mathlib.Core.Path.{◌∙◌, sym, ap}
 use mathlib.Core.Bool.{false}
 use native.Mathlib.Omega.{arith}
-use borrow.Author.Rules.{rules}
 use lib.IntN.{pos}
 use lib.Ieee.{fin, binary64, add, eq, lt, of_bits, to_signed}
 use lib.Ieee.Casts.{to_signed_in}
@@ -33,9 +32,9 @@ returns-then-v-whole c = let v = c.args.v in
     add_is (got w32 (to_signed 31 (near v)) (to_signed_in 31 (near v)) ∙ r.gives) (got w32 o.result o.type_inv ∙ o.ensures) (overflow_add-result c)
     ∙ r.tie_away (ap (λ h. eq v (add binary64 (near v) h)) (sym c.half_beside.ensures) ∙ c.if-v-whole.true)
 
-pub returns : goal.returns
+pub returns-else-v-whole : goal.returns-else-v-whole
 unfolding of_bits
-returns c = let v = c.args.v in
+returns-else-v-whole c = let v = c.args.v in
     let r = shifted v c.well_formed.0.1 c.requires in
     got w32 (to_signed 31 (near v)) (to_signed_in 31 (near v)) ∙ r.gives
     ∙ r.no_tie (ap (λ h. eq v (add binary64 (near v) h)) (sym c.half_beside.ensures) ∙ c.if-v-whole.false)

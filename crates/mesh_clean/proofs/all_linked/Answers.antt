@@ -1,18 +1,15 @@
 -- `mesh_clean::all_linked` meets its contract: the invariant is `Linking` of Passes. Assumes
 -- nothing.
-use mathlib.Core.Path.{refl}
-use Prim.Native.Nat.{◌≤◌, ◌-◌}
 use native.Mathlib.Omega.{arith}
 use borrow.Author.Tests.{not-true, not-false}
-use lib.ListN.{length}
-use Rattle.mesh_clean.proofs.Passes.{Linking, linking_start, linking_row, linking_next, linking_end}
+use Rattle.mesh_clean.proofs.Passes.{linking_row, linking_next, linking_end}
 use Rattle.mesh_clean.proofs.all_linked.Goals as goal
 
 pub returns-then-not-s : goal.returns-then-not-s
-returns-then-not-s c = linking_row c.args.mesh.now (omega arith) c.loop-k.invariant.1 c.count_row-s.ensures (not-true _ c.if-not-s.true)
+returns-then-not-s c = linking_row c.args.mesh.now (omega arith) c.loop-k.invariant c.count_row-s.ensures (not-true _ c.if-not-s.true)
 
 pub loop-k-preserved : goal.loop-k-preserved
-loop-k-preserved c = (omega arith, linking_next c.args.mesh.now (omega arith) c.loop-k.invariant.1 c.count_row-s.ensures (not-false _ c.if-not-s.false))
+loop-k-preserved c = linking_next c.args.mesh.now (omega arith) c.loop-k.invariant c.count_row-s.ensures (not-false _ c.if-not-s.false)
 
 pub returns : goal.returns
-returns c = linking_end c.args.mesh.now (omega arith) c.loop-k.invariant.1
+returns c = linking_end c.args.mesh.now (omega arith) c.loop-k.invariant

@@ -1,7 +1,5 @@
 -- `mesh_clean::count_row` meets its contract: the cases of Tests. Assumes nothing.
-use native.Mathlib.Omega.{arith}
-use borrow.Author.Rules.{rules}
-use Rattle.mesh_clean.proofs.Tests.{few_more, looked, row_first, row_second, row_third}
+use Rattle.mesh_clean.proofs.Tests.{looked, row_first, row_second, row_third}
 use Rattle.mesh_clean.proofs.count_row.Goals as goal
 
 pub returns-then-not-s0 : goal.returns-then-not-s0

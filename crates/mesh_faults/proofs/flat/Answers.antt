@@ -1,13 +1,8 @@
 -- `mesh_faults::flat` meets its contract: no row before k is flat. Assumes nothing.
 use mathlib.Core.Path.{sym, ◌∙◌}
-use Prim.Native.Nat.{◌≤◌, ◌-◌}
 use native.Mathlib.Omega.{arith}
-use borrow.Author.Rules.{rules}
-use lib.ListN.{length}
-use lib.IntN.{pos}
-use lib.Signed.{le_z}
-use Rattle.mesh.specs.Mesh.{triangle_area, off_grid, flat}
-use Rattle.mesh.proofs.Passes.{Pass, pass_start, pass_found, pass_next, pass_end, row_on_grid}
+use Rattle.mesh.specs.Mesh.{flat}
+use Rattle.mesh.proofs.Passes.{pass_found, pass_next, pass_end, row_on_grid}
 use Rattle.mesh_faults.proofs.flat.Goals as goal
 
 pub row_flat-requires : goal.row_flat-requires

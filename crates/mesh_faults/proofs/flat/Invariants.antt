@@ -1,13 +1,8 @@
 -- `mesh_faults::flat` meets its contract: no row before k is flat. Assumes nothing.
-use mathlib.Core.Path.{sym, ◌∙◌}
-use Prim.Native.Nat.{◌≤◌, ◌-◌}
-use native.Mathlib.Omega.{arith}
-use borrow.Author.Rules.{rules}
-use lib.ListN.{length}
 use lib.IntN.{pos}
 use lib.Signed.{le_z}
-use Rattle.mesh.specs.Mesh.{triangle_area, off_grid, flat}
-use Rattle.mesh.proofs.Passes.{Pass, pass_start, pass_found, pass_next, pass_end, row_on_grid}
+use Rattle.mesh.specs.Mesh.{triangle_area}
+use Rattle.mesh.proofs.Passes.{Pass}
 use Rattle.mesh_faults.proofs.flat.Given as goal
 
 abbrev pub invariant-loop-row : goal.invariant-loop-row

@@ -16,7 +16,6 @@ use Rattle.mesh.specs.Rows.{rows_mesh}
 use Rattle.mesh.proofs.Rows.{length_rows}
 use Rattle.mesh_neighbors.specs.Earliest.{neighbour_kinds, neighbour_fault}
 use Rattle.mesh_clean.proofs.Accepted.{clean_accepted}
-use borrow.Author.Rules.{rules}
 use Rattle.mesh_faults.proofs.mesh_fault.Goals as goal
 
 many : (rows : List (List ℤ)) → max_triangles < length rows → too_many (rows_mesh rows) ≡ true

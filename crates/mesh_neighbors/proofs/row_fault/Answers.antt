@@ -1,6 +1,5 @@
 -- `mesh_neighbors::row_fault` meets its contract: each side by Side, the three by Earliest. Assumes
 -- nothing.
-use borrow.Author.Rules.{rules}
 use native.Mathlib.Omega.{arith}
 use Rattle.mesh.specs.Mesh.{after}
 use Rattle.mesh.specs.Rows.{rows_mesh}

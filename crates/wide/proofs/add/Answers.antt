@@ -27,5 +27,5 @@ one_sign s t {k} m n h e = sum_same k m n s e ∙ ap (λ b. signed s m +ℤ sign
 two_signs : (s t : Bool) {v : ℤ} (m n : ℕ) → beq s t ≡ false → v ≡ signed s m +ℤ signed (not s) n → v ≡ signed s m +ℤ signed t n
 two_signs s t m n h e = e ∙ ap (λ b. signed s m +ℤ signed b n) (other s t h)
 
-pub returns-then-negative-b : goal.returns-then-negative-b
-returns-then-negative-b c = one_sign c.args.a.negative c.args.b.negative (magnitude c.args.a.words) (magnitude c.args.b.words) c.if-negative-b.true c.add_magnitudes.ensures
+pub returns-then-a-b : goal.returns-then-a-b
+returns-then-a-b c = one_sign c.args.a.negative c.args.b.negative (magnitude c.args.a.words) (magnitude c.args.b.words) c.if-a-b.true c.add_magnitudes.ensures
