@@ -8,12 +8,11 @@ use mathlib.Core.Path.{◌≡◌, refl, sym, ◌∙◌, ap, ap₂, subst}
 use mathlib.Core.Bool.{Bool, true, false, not, cond}
 use mathlib.Core.List.{List, [], ◌∷◌, ◌++◌, map, map-append, append_assoc, append-nil}
 use Prim.Native.Nat.{ℕ, suc, ◌+◌, ◌-◌, ◌≤◌, ◌<◌}
-use native.Mathlib.Numerals.{add-one}
 use native.Mathlib.Omega.{arith}
 use borrow.Author.Tests.{ltb-true, ltb-false}
 use lib.Dec.{ltb}
-use lib.ListN.{length, get_or, set, take, drop, length-append, length-drop, length-map, length-set}
-use lib.Seq.{drop-cons, drop-drop, get_or-drop, length-take-le, take_all, take-suc, take-suc-set}
+use lib.ListN.{length, get_or, set, take, drop, length-append, length-drop, length-map}
+use lib.Seq.{drop-cons, drop-drop, get_or-drop, length-take-le, take_all, take-suc}
 use lib.IntN.{ℤ, pos}
 use Rattle.integers.specs.Lists.{rotate}
 use Rattle.integers.specs.Test.{eq_z}
@@ -28,7 +27,7 @@ use Rattle.plane.specs.Contour.{last_of}
 use Rattle.convex.specs.Joining.{kept_by, turning, without_straight}
 use Rattle.convex.specs.Zipper.{Zipper, from_last_z}
 use Rattle.convex_ring.specs.declared.Progress.{Progress}
-use Rattle.points.specs.Points.{corner_of, corner_in, pair_of, first_points, Appended}
+use Rattle.points.specs.Points.{corner_of, corner_in, pair_of, Appended}
 use Rattle.points.proofs.Points.{appended_none, appended_one, appended_more}
 use Rattle.convex_ring.specs.Buffers.{Holds}
 use Rattle.convex_contour.specs.declared.Run.{Run}

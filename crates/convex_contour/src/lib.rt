@@ -28,10 +28,7 @@ fn place_before(size: usize, done: usize, place: usize) -> usize
     requires { 0 < size }
     ensures { result ≡ place_before size done place }
 {
-    if place > done {
-        return place - 1;
-    }
-    size - 1
+    if place > done { place - 1 } else { size - 1 }
 }
 
 // Whether two ways, one after the other, do not go straight on.
@@ -56,9 +53,10 @@ fn append_corner(
 {
     if bends(d, e) {
         points::put_point(points, count, b);
-        return count + 1;
+        count + 1
+    } else {
+        count
     }
-    count
 }
 
 // The corners at the places from `from` to before `to` come after the run's corner: each is judged
@@ -68,17 +66,15 @@ fn append_run(corners: &[[i32; 2]], from: usize, to: usize, points: &mut [[i32; 
     ensures { Ran (between corners.now from to) points.old r points.new result }
 {
     let mut t = r;
-    let mut i = from;
-    while i < to {
+    for i in from..to {
         let c = points::point_at(corners, i);
         let way = plane::subtract(c, t.corner);
         let count = append_corner(points, t.count, t.way, t.corner, way);
         t = Run {
             corner: c,
-            way: way,
-            count: count,
+            way,
+            count,
         };
-        i += 1;
     }
     t
 }

@@ -18,22 +18,16 @@ fn copy_starts(from: &[u32], n: usize, to: &mut [u32])
     requires { (n ≤ length from.now) × (n ≤ length to.old) }
     ensures { to.new ≡ overlay (take n from.now) to.old }
 {
-    let mut i: usize = 0;
-    while i < n {
-        let x = from[i];
-        to[i] = x;
-        i += 1;
-    }
+    to[..n].copy_from_slice(&from[..n]);
 }
 
-// Point i as corner i.
+// Point i as corner i. It is not read by `points::point_at`, which asks for points on the grid.
 fn put_point(points: &[[i32; 2]], i: usize, to: &mut [i32])
     requires { (i < length points.now) × (i < length (points_of to.old)) }
     ensures { to.new ≡ with_corner to.old i (corner_in points.now i) }
 {
-    let c = points[i];
-    let p = IntPoint { x: c[0], y: c[1] };
-    corners::put_corner(to, i, p);
+    let [x, y] = points[i];
+    corners::put_corner(to, i, IntPoint { x, y });
 }
 
 // The first n points as corners, on the front of the lent ones.
@@ -41,10 +35,8 @@ fn copy_points(points: &[[i32; 2]], n: usize, to: &mut [i32])
     requires { (n ≤ length points.now) × (n ≤ length (points_of to.old)) }
     ensures { to.new ≡ overlay (numbers_of (first_points n points.now)) to.old }
 {
-    let mut i: usize = 0;
-    while i < n {
+    for i in 0..n {
         put_point(points, i, to);
-        i += 1;
     }
 }
 
@@ -53,7 +45,7 @@ pub fn refusal(fault: u32) -> Counts
     ensures { result ≡ record { fault = fault; parts = 0; corners = 0 } }
 {
     Counts {
-        fault: fault,
+        fault,
         parts: 0,
         corners: 0,
     }

@@ -38,7 +38,7 @@ module _ (size : ℕ) (rows : List (List ℤ)) (cs : List (List ℤ)) (es : List
   abbrev r : List Pt
   r = around cs p.pending p.done
 
-  abbrev answer : ℕ
+  abbrev pub answer : ℕ
   answer = chosen (rows_mesh rows) flags x r
 
   abbrev u : Triangle

@@ -26,7 +26,7 @@ fn move_top(corners: &mut [[i32; 2]], p: Progress) -> Progress
     Progress {
         pending: top,
         done: first,
-        last: p.last,
+        ..p
     }
 }
 
@@ -57,8 +57,8 @@ fn push(
     points::put_point(corners, top, far.vertex);
     Progress {
         pending: top + 1,
-        done: p.done,
         last: p.done,
+        ..p
     }
 }
 
@@ -75,22 +75,17 @@ fn step(
         p corners.new edges.new taken.new result }
 {
     let pending = p.pending;
-    let edge = edges[pending - 1];
-    let inside = edge[0];
-    let across = edge[1];
-    if across == NIL_INDEX {
-        return move_top(corners, p);
-    }
-    if taken[across] {
+    let [inside, across] = edges[pending - 1];
+    if across == NIL_INDEX || taken[across] {
         return move_top(corners, p);
     }
     let far = mesh::far_of(mesh[across], inside);
-    let vertex = far.vertex;
-    if convex_ring::joins_over(corners, vertex, pending, p.done) {
+    if convex_ring::joins_over(corners, far.vertex, pending, p.done) {
         taken[across] = true;
-        return push(corners, edges, across, far, p);
+        push(corners, edges, across, far, p)
+    } else {
+        move_top(corners, p)
     }
-    move_top(corners, p)
 }
 
 // Vertex i of triangle k as pending corner i, with the edge to the next vertex.

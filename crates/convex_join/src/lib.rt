@@ -7,14 +7,31 @@
 
 ghost use Rattle.std.specs.Prelude.{◌≡◌, ◌*◌, ◌^◌, ◌<◌, ◌≤◌, length};
 ghost use Rattle.integers.specs.Faults.{first_fault};
-ghost use Rattle.mesh.specs.Mesh.{max_triangles, mesh_kinds};
+ghost use Rattle.mesh.specs.Mesh.{mesh_kinds};
 ghost use Rattle.mesh.specs.Rows.{rows_mesh};
-ghost use Rattle.convex_regions.specs.Parts.{tiny, small, medium};
+ghost use Rattle.convex_regions.specs.Parts.{tiny};
 ghost use Rattle.convex.specs.Joining.{PartsAnswered};
 
 use convex_regions::{MEDIUM, SMALL, TINY};
-use mesh::Row;
+use mesh::{MAX_TRIANGLES, Row};
 use table::Counts;
+
+// Starts and points for the parts of a mesh of each size.
+const TINY_STARTS: usize = TINY + 1;
+
+const TINY_POINTS: usize = 3 * TINY;
+
+const SMALL_STARTS: usize = SMALL + 1;
+
+const SMALL_POINTS: usize = 3 * SMALL;
+
+const MEDIUM_STARTS: usize = MEDIUM + 1;
+
+const MEDIUM_POINTS: usize = 3 * MEDIUM;
+
+const LARGE_STARTS: usize = MAX_TRIANGLES + 1;
+
+const LARGE_POINTS: usize = 3 * MAX_TRIANGLES;
 
 // The parts of an accepted mesh, by way of lent buffers that hold those of any mesh of so many
 // triangles.
@@ -36,44 +53,30 @@ fn join_within(
     convex_gather::hand_out(begins, points, t, starts, corners)
 }
 
+// The parts of an accepted mesh, by way of local buffers of STARTS starts and POINTS points.
+fn join_in<const STARTS: usize, const POINTS: usize>(
+    mesh: &[Row],
+    starts: &mut [u32],
+    corners: &mut [i32],
+) -> Counts
+    requires { (first_fault (mesh_kinds (rows_mesh mesh.now)) ≡ 0)
+        × (length mesh.now < STARTS)
+        × (3 * length mesh.now ≤ POINTS)
+        × (STARTS < 2 ^ 32)
+        × (POINTS < 2 ^ 32) }
+    ensures { PartsAnswered (rows_mesh mesh.now) starts.old corners.old result starts.new corners.new }
+{
+    let mut begins = [0u32; STARTS];
+    let mut points = [[0i32; 2]; POINTS];
+    join_within(mesh, &mut begins, &mut points, starts, corners)
+}
+
 // The parts of a tiny mesh that is accepted.
 pub fn join_tiny(mesh: &[Row], starts: &mut [u32], corners: &mut [i32]) -> Counts
     requires { (length mesh.now ≤ tiny) × (first_fault (mesh_kinds (rows_mesh mesh.now)) ≡ 0) }
     ensures { PartsAnswered (rows_mesh mesh.now) starts.old corners.old result starts.new corners.new }
 {
-    let mut begins = [0u32; TINY + 1];
-    let mut points = [[0i32; 2]; 3 * TINY];
-    join_within(mesh, &mut begins, &mut points, starts, corners)
-}
-
-// The parts of a small mesh that is accepted.
-fn join_small(mesh: &[Row], starts: &mut [u32], corners: &mut [i32]) -> Counts
-    requires { (length mesh.now ≤ small) × (first_fault (mesh_kinds (rows_mesh mesh.now)) ≡ 0) }
-    ensures { PartsAnswered (rows_mesh mesh.now) starts.old corners.old result starts.new corners.new }
-{
-    let mut begins = [0u32; SMALL + 1];
-    let mut points = [[0i32; 2]; 3 * SMALL];
-    join_within(mesh, &mut begins, &mut points, starts, corners)
-}
-
-// The parts of a medium mesh that is accepted.
-fn join_medium(mesh: &[Row], starts: &mut [u32], corners: &mut [i32]) -> Counts
-    requires { (length mesh.now ≤ medium) × (first_fault (mesh_kinds (rows_mesh mesh.now)) ≡ 0) }
-    ensures { PartsAnswered (rows_mesh mesh.now) starts.old corners.old result starts.new corners.new }
-{
-    let mut begins = [0u32; MEDIUM + 1];
-    let mut points = [[0i32; 2]; 3 * MEDIUM];
-    join_within(mesh, &mut begins, &mut points, starts, corners)
-}
-
-// The parts of any mesh that is accepted.
-fn join_large(mesh: &[Row], starts: &mut [u32], corners: &mut [i32]) -> Counts
-    requires { (length mesh.now ≤ max_triangles) × (first_fault (mesh_kinds (rows_mesh mesh.now)) ≡ 0) }
-    ensures { PartsAnswered (rows_mesh mesh.now) starts.old corners.old result starts.new corners.new }
-{
-    let mut begins = [0u32; mesh::MAX_TRIANGLES + 1];
-    let mut points = [[0i32; 2]; 3 * mesh::MAX_TRIANGLES];
-    join_within(mesh, &mut begins, &mut points, starts, corners)
+    join_in::<TINY_STARTS, TINY_POINTS>(mesh, starts, corners)
 }
 
 // The convex parts of a mesh, joined from its triangles: starts and corners (x, y in turn) on the
@@ -88,13 +91,12 @@ pub fn to_convex_polygons(mesh: &[Row], starts: &mut [u32], corners: &mut [i32])
     }
     let n = mesh.len();
     if n <= TINY {
-        return join_tiny(mesh, starts, corners);
+        join_tiny(mesh, starts, corners)
+    } else if n <= SMALL {
+        join_in::<SMALL_STARTS, SMALL_POINTS>(mesh, starts, corners)
+    } else if n <= MEDIUM {
+        join_in::<MEDIUM_STARTS, MEDIUM_POINTS>(mesh, starts, corners)
+    } else {
+        join_in::<LARGE_STARTS, LARGE_POINTS>(mesh, starts, corners)
     }
-    if n <= SMALL {
-        return join_small(mesh, starts, corners);
-    }
-    if n <= MEDIUM {
-        return join_medium(mesh, starts, corners);
-    }
-    join_large(mesh, starts, corners)
 }

@@ -1,20 +1,21 @@
--- All regions: a region gathered (`contour_whole`, `contour_room`, `joined`);
+-- All regions: work arrays with nothing put in yet (`total_blank`); a region gathered
+-- (`contour_whole`, `contour_room`, `joined`);
 -- a triangle visited (`visited_skip`, `visited_join`); all of them (`Visiting`: `visiting_start`,
 -- `visiting_turn`, `visiting_end`). Assumes nothing.
 use mathlib.Core.Path.{◌≡◌, refl, sym, ◌∙◌, ap, ap₂, subst}
 use mathlib.Core.Bool.{Bool, true, false, cond}
 use mathlib.Core.List.{List, [], ◌∷◌, ◌++◌, map, flatten, append_assoc, append-nil}
-use Prim.Native.Nat.{ℕ, zero, suc, ◌+◌, ◌*◌, ◌-◌, ◌≤◌, ◌<◌}
+use Prim.Native.Nat.{ℕ, zero, suc, ◌+◌, ◌*◌, ◌≤◌, ◌<◌}
 use native.Mathlib.Numerals.{add-one}
 use native.Mathlib.Omega.{arith}
-use lib.ListN.{length, get_or, set, take, drop, length-append, length-set, drop_of_length-le}
-use lib.Seq.{drop-cons, take-suc-set, length-take-le, get_or-take}
+use lib.ListN.{length, get_or, set, take, drop, replicate, length-set, drop_of_length-le}
+use lib.Seq.{drop-cons, length-take-le, get_or-take}
 use lib.IntN.{ℤ, pos, negsuc, nat_abs}
 use Rattle.integers.specs.Lists.{up_to}
 use Rattle.integers.proofs.Counting.{length-up_to, get_or-up_to}
 use Rattle.integers.specs.Faults.{first_fault}
 use Rattle.plane.specs.Plane.{Pt, in_range, on_grid}
-use Rattle.mesh.specs.Mesh.{Mesh, none, mesh_kinds, max_triangles}
+use Rattle.mesh.specs.Mesh.{Mesh, mesh_kinds, max_triangles}
 use Rattle.mesh.specs.Rows.{rows_mesh}
 use Rattle.mesh.proofs.Rows.{length_rows}
 use Rattle.mesh.proofs.Accepted.{accepted}
@@ -34,6 +35,12 @@ use Rattle.convex_contour.specs.Contour.{contour_at, Whole}
 use Rattle.convex_regions.specs.Parts.{total, in_corner, in_edge, in_flag, Fresh, Room, seen_next, parts_next, Joined, Visited}
 use Rattle.convex_grow.proofs.Growth.{free_le}
 use Rattle.convex_contour.proofs.Contours.{contour_zipper, length_contour}
+
+-- ---- nothing is put in work arrays that are filled with one value
+
+pub total_blank : {A : Type 0} (f : A → ℕ) (a : A) (n : ℕ) → f a ≡ 0 → total f (replicate n a) ≡ 0
+total_blank f a zero e = refl
+total_blank f a (suc n) e = omega (arith, e, total_blank f a n e)
 
 -- ---- a region gathered
 

@@ -1,16 +1,14 @@
 -- The buffers that the parts of a mesh are gathered in, one region after another. Assumes nothing.
-use Rattle.std.specs.Prelude.{◌≡◌, Bool, cond, ℕ, ◌+◌, ◌*◌, ◌≤◌, ◌<◌, length, get_or, take, ℤ, nat_abs}
-use mathlib.Core.List.{List, [], ◌∷◌, ◌++◌, flatten}
+use Rattle.std.specs.Prelude.{◌≡◌, Bool, cond, ℕ, ◌+◌, ◌*◌, ◌≤◌, ◌<◌, length, get_or, ℤ, nat_abs}
+use mathlib.Core.List.{List, [], ◌∷◌, ◌++◌}
 use Rattle.plane.specs.Plane.{Pt}
 use Rattle.mesh.specs.Mesh.{Mesh}
 use Rattle.mesh.specs.Rows.{number}
-use Rattle.table.specs.Table.{starts_of}
 use Rattle.convex.specs.Joining.{is_in}
 use Rattle.convex.specs.Zipper.{zipped, contour_z}
 use Rattle.points.specs.declared.Tally.{Tally}
 use Rattle.points.specs.Gathered.{Gathered}
 use Rattle.convex_ring.specs.Buffers.{free, Marked, RegionBuffers}
-use Rattle.points.specs.Points.{first_points}
 
 -- a mesh of at most so many triangles is tiny, small, or medium: its work arrays are of that size
 abbrev pub tiny : ℕ

@@ -5,16 +5,16 @@
 // convex_gather.
 #![tactic(auto)]
 
-ghost use Rattle.std.specs.Prelude.{◌≡◌, false, [], ◌<◌, ◌≤◌, ◌*◌, length, get_or};
+ghost use Rattle.std.specs.Prelude.{◌≡◌, false, [], ◌+◌, ◌<◌, ◌≤◌, ◌*◌, ◌^◌, length, get_or};
 ghost use Rattle.integers.specs.Faults.{first_fault};
 ghost use Rattle.mesh.specs.Mesh.{max_triangles, mesh_kinds};
 ghost use Rattle.mesh.specs.Rows.{rows_mesh};
 ghost use Rattle.convex.specs.Joining.{parts};
 ghost use Rattle.convex_ring.specs.Buffers.{Marked, RegionBuffers};
 ghost use Rattle.points.specs.Gathered.{Gathered};
-ghost use Rattle.convex_regions.specs.Parts.{tiny, small, medium, Fresh, Room, Joined, Visited};
+ghost use Rattle.convex_regions.specs.Parts.{Fresh, Room, Joined, Visited};
 
-use mesh::Row;
+use mesh::{MAX_TRIANGLES, Row};
 use points::Tally;
 
 // A mesh of at most so many triangles is tiny, small, or medium; `large` is any that is accepted.
@@ -23,6 +23,15 @@ pub const TINY: usize = 16;
 pub const SMALL: usize = 128;
 
 pub const MEDIUM: usize = 512;
+
+// Places for the corners and edges of a region of a mesh of each size.
+const TINY_PLACES: usize = TINY + 2;
+
+const SMALL_PLACES: usize = SMALL + 2;
+
+const MEDIUM_PLACES: usize = MEDIUM + 2;
+
+const LARGE_PLACES: usize = MAX_TRIANGLES + 2;
 
 // The region that starts with triangle k, which is not taken, is gathered.
 fn append_region(
@@ -47,7 +56,7 @@ fn append_region(
     let parts = t.parts + 1;
     points::put_start(starts, parts, count);
     Tally {
-        parts: parts,
+        parts,
         corners: count,
     }
 }
@@ -70,9 +79,10 @@ fn visit(
         points.old t corners.new edges.new taken.new starts.new points.new result }
 {
     if taken[k] {
-        return t;
+        t
+    } else {
+        append_region(mesh, corners, edges, taken, starts, points, k, t)
     }
-    append_region(mesh, corners, edges, taken, starts, points, k, t)
 }
 
 // Unvisited triangles start regions in table order.
@@ -97,10 +107,8 @@ fn visit_all(
         parts: 0,
         corners: 0,
     };
-    let mut k: usize = 0;
-    while k < mesh.len() {
+    for k in 0..mesh.len() {
         t = visit(mesh, corners, edges, taken, starts, points, k, t);
-        k += 1;
     }
     t
 }
@@ -128,9 +136,17 @@ fn gather_within(
     visit_all(mesh, corners, edges, &mut taken[..n], starts, points)
 }
 
-// The parts of a tiny mesh that is accepted.
-fn gather_tiny(mesh: &[Row], starts: &mut [u32], points: &mut [[i32; 2]]) -> Tally
-    requires { (length mesh.now ≤ tiny)
+// The parts of an accepted mesh of at most MARKS triangles, by way of work arrays of its own: a
+// mark for each, and two places more for corners.
+fn gather_in<const MARKS: usize, const PLACES: usize>(
+    mesh: &[Row],
+    starts: &mut [u32],
+    points: &mut [[i32; 2]],
+) -> Tally
+    requires { (length mesh.now ≤ MARKS)
+        × (length mesh.now + 2 ≤ PLACES)
+        × (MARKS < 2 ^ 32)
+        × (PLACES < 2 ^ 32)
         × (first_fault (mesh_kinds (rows_mesh mesh.now)) ≡ 0)
         × (length mesh.now < length starts.old)
         × (3 * length mesh.now ≤ length points.old) }
@@ -138,57 +154,9 @@ fn gather_tiny(mesh: &[Row], starts: &mut [u32], points: &mut [[i32; 2]]) -> Tal
         × (result.parts ≤ length mesh.now)
         × (result.corners ≤ 3 * length mesh.now) }
 {
-    let mut corners = [[0i32; 2]; TINY + 2];
-    let mut edges = [[0usize; 2]; TINY + 2];
-    let mut taken = [false; TINY];
-    gather_within(mesh, &mut corners, &mut edges, &mut taken, starts, points)
-}
-
-// The parts of a small mesh that is accepted.
-fn gather_small(mesh: &[Row], starts: &mut [u32], points: &mut [[i32; 2]]) -> Tally
-    requires { (length mesh.now ≤ small)
-        × (first_fault (mesh_kinds (rows_mesh mesh.now)) ≡ 0)
-        × (length mesh.now < length starts.old)
-        × (3 * length mesh.now ≤ length points.old) }
-    ensures { Gathered starts.new points.new result (parts (rows_mesh mesh.now))
-        × (result.parts ≤ length mesh.now)
-        × (result.corners ≤ 3 * length mesh.now) }
-{
-    let mut corners = [[0i32; 2]; SMALL + 2];
-    let mut edges = [[0usize; 2]; SMALL + 2];
-    let mut taken = [false; SMALL];
-    gather_within(mesh, &mut corners, &mut edges, &mut taken, starts, points)
-}
-
-// The parts of a medium mesh that is accepted.
-fn gather_medium(mesh: &[Row], starts: &mut [u32], points: &mut [[i32; 2]]) -> Tally
-    requires { (length mesh.now ≤ medium)
-        × (first_fault (mesh_kinds (rows_mesh mesh.now)) ≡ 0)
-        × (length mesh.now < length starts.old)
-        × (3 * length mesh.now ≤ length points.old) }
-    ensures { Gathered starts.new points.new result (parts (rows_mesh mesh.now))
-        × (result.parts ≤ length mesh.now)
-        × (result.corners ≤ 3 * length mesh.now) }
-{
-    let mut corners = [[0i32; 2]; MEDIUM + 2];
-    let mut edges = [[0usize; 2]; MEDIUM + 2];
-    let mut taken = [false; MEDIUM];
-    gather_within(mesh, &mut corners, &mut edges, &mut taken, starts, points)
-}
-
-// The parts of any mesh that is accepted: document 01 has at most 1,024 triangles.
-fn gather_large(mesh: &[Row], starts: &mut [u32], points: &mut [[i32; 2]]) -> Tally
-    requires { (length mesh.now ≤ max_triangles)
-        × (first_fault (mesh_kinds (rows_mesh mesh.now)) ≡ 0)
-        × (length mesh.now < length starts.old)
-        × (3 * length mesh.now ≤ length points.old) }
-    ensures { Gathered starts.new points.new result (parts (rows_mesh mesh.now))
-        × (result.parts ≤ length mesh.now)
-        × (result.corners ≤ 3 * length mesh.now) }
-{
-    let mut corners = [[0i32; 2]; mesh::MAX_TRIANGLES + 2];
-    let mut edges = [[0usize; 2]; mesh::MAX_TRIANGLES + 2];
-    let mut taken = [false; mesh::MAX_TRIANGLES];
+    let mut corners = [[0i32; 2]; PLACES];
+    let mut edges = [[0usize; 2]; PLACES];
+    let mut taken = [false; MARKS];
     gather_within(mesh, &mut corners, &mut edges, &mut taken, starts, points)
 }
 
@@ -205,13 +173,12 @@ pub fn gather(mesh: &[Row], starts: &mut [u32], points: &mut [[i32; 2]]) -> Tall
 {
     let n = mesh.len();
     if n <= TINY {
-        return gather_tiny(mesh, starts, points);
+        gather_in::<TINY, TINY_PLACES>(mesh, starts, points)
+    } else if n <= SMALL {
+        gather_in::<SMALL, SMALL_PLACES>(mesh, starts, points)
+    } else if n <= MEDIUM {
+        gather_in::<MEDIUM, MEDIUM_PLACES>(mesh, starts, points)
+    } else {
+        gather_in::<MAX_TRIANGLES, LARGE_PLACES>(mesh, starts, points)
     }
-    if n <= SMALL {
-        return gather_small(mesh, starts, points);
-    }
-    if n <= MEDIUM {
-        return gather_medium(mesh, starts, points);
-    }
-    gather_large(mesh, starts, points)
 }

@@ -4,7 +4,7 @@
 -- (`around_ring`) and three of them by their places (`around_near`, `around_far`, `around_below`,
 -- `around_back`); what they ask, of sound buffers (`around_of`). Assumes nothing.
 use mathlib.Core.Path.{◌≡◌, refl, sym, ◌∙◌, ap, ap₂}
-use mathlib.Core.Bool.{Bool, true}
+use mathlib.Core.Bool.{Bool}
 use mathlib.Core.List.{List, [], ◌∷◌, ◌++◌, map, map-append, reverse, reverse-cons}
 use Prim.Native.Nat.{ℕ, zero, suc, ◌+◌, ◌-◌, ◌≤◌, ◌<◌}
 use native.Mathlib.Numerals.{add-one}
@@ -12,7 +12,7 @@ use native.Mathlib.Omega.{arith}
 use lib.ListN.{length, get_or, set, take, drop, length-append, length-drop, length-map, length-set, get_or-append, get_or-map}
 use lib.Seq.{take-suc, drop-cons, drop-set-lt, get_or-set_same, get_or-set_other, get_or-take, get_or-drop, get_or-append-add, length-take-le}
 use lib.IntN.{ℤ}
-use Rattle.plane.specs.Plane.{Pt, O}
+use Rattle.plane.specs.Plane.{O}
 use Rattle.mesh.specs.Mesh.{Mesh, opposite}
 use Rattle.mesh.specs.Rows.{row_triangle}
 use Rattle.mesh.proofs.Sides.{opposite_side}

@@ -29,10 +29,8 @@ fn joins_at(a0: IntPoint, a: IntPoint, p: IntPoint, b: IntPoint, b0: IntPoint) -
     requires { OnGrid a0 × OnGrid a × OnGrid p × OnGrid b × OnGrid b0 }
     ensures { result ≡ joins (point a0) (point a) (point p) (point b) (point b0) }
 {
-    if plane::cross_product(plane::subtract(a, a0), plane::subtract(p, a)) >= 0 {
-        return plane::cross_product(plane::subtract(b, p), plane::subtract(b0, b)) >= 0;
-    }
-    false
+    plane::cross_product(plane::subtract(a, a0), plane::subtract(p, a)) >= 0
+        && plane::cross_product(plane::subtract(b, p), plane::subtract(b0, b)) >= 0
 }
 
 // The corner 1 + i places after the top one, round the contour.
@@ -41,9 +39,10 @@ fn ring_at(corners: &[[i32; 2]], pending: usize, done: usize, i: usize) -> IntPo
     ensures { (point result ≡ get_or (around corners.now pending done) i O) × OnGrid result }
 {
     if done + i < corners.len() {
-        return points::point_at(corners, done + i);
+        points::point_at(corners, done + i)
+    } else {
+        points::point_at(corners, done + i - corners.len())
     }
-    points::point_at(corners, done + i - corners.len())
 }
 
 // The corner before the top one, round the contour.
@@ -52,9 +51,10 @@ fn ring_end(corners: &[[i32; 2]], pending: usize, done: usize) -> IntPoint
     ensures { (point result ≡ get_or (around corners.now pending done) (length (around corners.now pending done) - 1) O) × OnGrid result }
 {
     if pending > 1 {
-        return points::point_at(corners, pending - 2);
+        points::point_at(corners, pending - 2)
+    } else {
+        points::point_at(corners, corners.len() - 1)
     }
-    points::point_at(corners, corners.len() - 1)
 }
 
 // Whether the point p joins after the top corner.

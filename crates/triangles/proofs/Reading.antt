@@ -1,11 +1,9 @@
 -- The rows that are read so far are those of the triangles so far. Assumes nothing.
--- Read     after i of the structs: the rows' first i are theirs, and there are as many rows as
--- before
-use mathlib.Core.Path.{◌≡◌, refl, sym, ap, subst, ◌∙◌}
+use mathlib.Core.Path.{◌≡◌, refl, sym, ap, ◌∙◌}
 use mathlib.Core.List.{List, [], ◌∷◌, ◌++◌, map}
 use Prim.Native.Nat.{ℕ, suc, ◌+◌, ◌≤◌, ◌<◌}
 use native.Mathlib.Omega.{arith}
-use lib.ListN.{length, get_or, set, take, length-set}
+use lib.ListN.{length, get_or, set, take}
 use lib.Seq.{take-suc, take-suc-set, take_all}
 use lib.IntN.{ℤ}
 use Rattle.mesh.specs.Rows.{row_triangle, rows_mesh}
@@ -15,13 +13,6 @@ use Rattle.triangles.specs.Triangles.{no_struct, struct_triangle, triangles_mesh
 map_append : {X Y : Type 0} (f : X → Y) (xs ys : List X) → map f (xs ++ ys) ≡ map f xs ++ map f ys
 map_append f [] ys = refl
 map_append f (x ∷ xs) ys = ap (λ (t : List _). f x ∷ t) (map_append f xs ys)
-
-pub record Read (size : ℕ) (ys : List IntTriangle) : Type 0 where
-  pub i : ℕ
-  pub rows : List (List ℤ)
-  pub within : i ≤ length ys
-  pub long : length rows ≡ size
-  pub so : rows_mesh (take i rows) ≡ triangles_mesh (take i ys)
 
 pub none_read : (ys : List IntTriangle) (rows : List (List ℤ)) → rows_mesh (take 0 rows) ≡ triangles_mesh (take 0 ys)
 unfolding rows_mesh triangles_mesh

@@ -1,17 +1,13 @@
 // A mesh lent as a slice of triangle structs (geom/triangle.rs), read into the rows that the
-// joining works over: one function reads a struct, and one for each size of work array reads all of
-// them (what is read so far: proofs/Reading.antt). The sizes are three of joining's, so that a
-// small mesh does not wait for the filling of a large array. Leans on convex_regions, plane and
+// joining works over: one function reads a struct, and one reads all of them into an array of the
+// size that its caller names (what is read so far: proofs/Reading.antt). Leans on plane and
 // table_words.
 #![tactic(auto)]
 
-ghost use Rattle.std.specs.Prelude.{◌≡◌, ◌<◌, ◌≤◌, length, get_or};
-ghost use Rattle.mesh.specs.Mesh.{max_triangles};
+ghost use Rattle.std.specs.Prelude.{◌≡◌, ◌<◌, ◌≤◌, ◌^◌, length, get_or};
 ghost use Rattle.mesh.specs.Rows.{row_triangle};
-ghost use Rattle.convex_regions.specs.Parts.{tiny, small};
 ghost use Rattle.triangles.specs.Triangles.{no_struct, struct_triangle, AreRead};
 
-use convex_regions::{SMALL, TINY};
 use mesh::Row;
 use plane::IntPoint;
 
@@ -51,62 +47,14 @@ pub fn triangle_at(mesh: &[IntTriangle], k: usize) -> IntTriangle
     mesh[k]
 }
 
-// Rows for a tiny mesh, before they are read.
-fn blank_tiny() -> [Row; TINY] {
-    [[0i32; mesh::ROW]; TINY]
-}
-
-// The rows of a tiny mesh, on the front of the array.
-pub fn rows_tiny(mesh: &[IntTriangle]) -> [Row; TINY]
-    requires { length mesh.now ≤ tiny }
+// The rows of a mesh, on the front of an array of ROWS rows.
+pub fn rows_in<const ROWS: usize>(mesh: &[IntTriangle]) -> [Row; ROWS]
+    requires { (length mesh.now ≤ ROWS) × (ROWS < 2 ^ 32) }
     ensures { AreRead mesh.now result }
 {
-    let mut rows = blank_tiny();
-    let mut k: usize = 0;
-    while k < mesh.len() {
-        let t = triangle_at(mesh, k);
-        rows[k] = row_of(t);
-        k += 1;
-    }
-    rows
-}
-
-// Rows for a small mesh, before they are read.
-fn blank_small() -> [Row; SMALL] {
-    [[0i32; mesh::ROW]; SMALL]
-}
-
-// The rows of a small mesh, on the front of the array.
-pub fn rows_small(mesh: &[IntTriangle]) -> [Row; SMALL]
-    requires { length mesh.now ≤ small }
-    ensures { AreRead mesh.now result }
-{
-    let mut rows = blank_small();
-    let mut k: usize = 0;
-    while k < mesh.len() {
-        let t = triangle_at(mesh, k);
-        rows[k] = row_of(t);
-        k += 1;
-    }
-    rows
-}
-
-// Rows for any mesh, before they are read.
-fn blank_large() -> [Row; mesh::MAX_TRIANGLES] {
-    [[0i32; mesh::ROW]; mesh::MAX_TRIANGLES]
-}
-
-// The rows of any mesh, on the front of the array.
-pub fn rows_large(mesh: &[IntTriangle]) -> [Row; mesh::MAX_TRIANGLES]
-    requires { length mesh.now ≤ max_triangles }
-    ensures { AreRead mesh.now result }
-{
-    let mut rows = blank_large();
-    let mut k: usize = 0;
-    while k < mesh.len() {
-        let t = triangle_at(mesh, k);
-        rows[k] = row_of(t);
-        k += 1;
+    let mut rows = [[0i32; mesh::ROW]; ROWS];
+    for k in 0..mesh.len() {
+        rows[k] = row_of(triangle_at(mesh, k));
     }
     rows
 }

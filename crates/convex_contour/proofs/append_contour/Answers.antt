@@ -1,6 +1,5 @@
 -- `convex_contour::append_contour` meets its contract: the two runs are one round (`ran_whole` of
 -- Contours). Assumes nothing.
-use borrow.Author.Rules.{rules}
 use native.Mathlib.Omega.{arith}
 use Rattle.convex_contour.proofs.Contours.{before_below, near_room, ran_whole}
 use Rattle.convex_contour.proofs.append_contour.Goals as goal

@@ -1,20 +1,13 @@
--- `convex_gather::copy_starts` meets its contract. Assumes nothing.
-use mathlib.Core.Path.{◌≡◌, refl, sym, ◌∙◌, ap}
-use Prim.Native.Nat.{◌-◌, ◌≤◌, ◌<◌}
-use native.Mathlib.Omega.{arith}
-use borrow.Author.Rules.{rules}
-use lib.ListN.{length, take, length-set}
-use Rattle.integers.specs.Lists.{overlay}
-use Rattle.integers.proofs.Overlay.{overlay_nil, copy_turn}
+-- `convex_gather::copy_starts` meets its contract: the front is the copy. Assumes nothing.
+use mathlib.Core.Path.{sym, ◌∙◌, ap}
+use mathlib.Core.List.{◌++◌}
+use lib.ListN.{take, drop}
+use lib.Seq.{length-take-le}
+use Rattle.integers.proofs.Overlay.{overlay_eq}
 use Rattle.convex_gather.proofs.copy_starts.Goals as goal
 
-pub loop-i-init : goal.loop-i-init
-loop-i-init c = (omega arith, refl, sym (overlay_nil c.args.to.now))
-
-pub loop-i-preserved : goal.loop-i-preserved
-loop-i-preserved c = let h = c.loop-i-test.true in
-    let g = c.args in (
-      omega (arith, h),
-      length-set c.loop-i.to c.loop-i.i _ ∙ c.loop-i.invariant.1,
-      copy_turn g.from.now g.to.now 0 (omega (arith, h, c.requires.0)) (omega (arith, h, c.requires.1)) c.loop-i.invariant.2 refl,
-    )
+pub returns : goal.returns
+returns c = let n = c.args.n in
+    let from = take n c.args.from.now in
+    let to = c.args.to.now in
+    ap (λ l. l ++ drop n to) c.copy_from_slice.ensures.after ∙ ap (λ k. from ++ drop k to) (sym (length-take-le n c.args.from.now c.requires.0)) ∙ sym (overlay_eq from to)

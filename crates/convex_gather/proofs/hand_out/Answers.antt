@@ -1,7 +1,6 @@
 -- `convex_gather::hand_out` meets its contract: each refusal and the answer, by the laws of Answer.
 -- Assumes nothing.
 use native.Mathlib.Omega.{arith}
-use borrow.Author.Rules.{rules}
 use Rattle.corners.proofs.Corners.{length_points}
 use Rattle.convex_gather.proofs.Answer.{starts_refused, corners_refused, handed}
 use Rattle.convex_gather.proofs.hand_out.Goals as goal

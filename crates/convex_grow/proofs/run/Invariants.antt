@@ -1,10 +1,9 @@
 -- `convex_grow::run` meets its contract: the invariant is `Going` of Growth. Assumes nothing.
 use Prim.Native.Nat.{◌+◌, ◌*◌}
-use native.Mathlib.Omega.{arith}
 use lib.ListN.{length}
 use Rattle.mesh.specs.Rows.{rows_mesh}
 use Rattle.convex_ring.specs.Buffers.{free}
-use Rattle.convex_grow.proofs.Growth.{sound_here, Going, going_start, going_turn, going_end}
+use Rattle.convex_grow.proofs.Growth.{Going}
 use Rattle.convex_grow.proofs.run.Given as goal
 
 abbrev pub invariant-loop-p : goal.invariant-loop-p

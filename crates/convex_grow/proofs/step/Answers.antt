@@ -1,21 +1,25 @@
 -- `convex_grow::step` meets its contract: what is across by Choice, `moved_step` and `pushed_step`
 -- of Steps. Assumes nothing.
 use borrow.Author.Rules.{rules}
-use mathlib.Core.Path.{refl, ◌∙◌}
+use mathlib.Core.Path.{◌≡◌, refl, ◌∙◌}
 use lib.ListN.{length}
+use Rattle.mesh.specs.Mesh.{none}
 use Rattle.mesh.specs.Rows.{rows_mesh}
 use Rattle.convex_ring.proofs.Reading.{around_of}
-use Rattle.convex_grow.proofs.Choice.{nothing, in_rows, in_flags, skipped, row_across, far_vertex, far_grid, joined, apart}
+use Rattle.convex_grow.proofs.Choice.{answer, nothing, in_rows, skipped, row_across, far_vertex, far_grid, joined, apart}
 use Rattle.convex_grow.proofs.Steps.{stepped_by, moved_step, push_room, pushed_step}
+use Rattle.convex_grow.proofs.step.Goals.{then-across-eq-NIL_INDEX-via-then-across-eq-NIL_INDEX, then-across-eq-NIL_INDEX-via-else-across-eq-NIL_INDEX+then-taken-across}
 use Rattle.convex_grow.proofs.step.Goals as goal
 
+-- nothing is across, or a triangle taken
 pub returns-then-across-eq-NIL_INDEX : goal.returns-then-across-eq-NIL_INDEX
 returns-then-across-eq-NIL_INDEX c = let g = c.args in
-    stepped_by c.move_top.ensures.buffer refl refl c.move_top.ensures.counts (moved_step (length g.corners.now) (rows_mesh g.mesh.now) g.corners.now g.edges.now g.taken.now g.p c.requires.0 c.requires.1 (nothing (length g.corners.now) g.mesh.now g.corners.now g.edges.now g.taken.now g.p c.requires.0 c.if-across-eq-NIL_INDEX.true))
-
-pub returns-then-taken-across : goal.returns-then-taken-across
-returns-then-taken-across c = let g = c.args in
-    stepped_by c.move_top-then-taken-across.ensures.buffer refl refl c.move_top-then-taken-across.ensures.counts (moved_step (length g.corners.now) (rows_mesh g.mesh.now) g.corners.now g.edges.now g.taken.now g.p c.requires.0 c.requires.1 (skipped (length g.corners.now) g.mesh.now g.corners.now g.edges.now g.taken.now g.p c.requires.0 c.if-across-eq-NIL_INDEX.false c.if-taken-across.true))
+    let stays : answer (length g.corners.now) g.mesh.now g.corners.now g.edges.now g.taken.now g.p c.requires.0 ≡ none =
+    elim c.then-across-eq-NIL_INDEX.branch [
+      | then-across-eq-NIL_INDEX-via-then-across-eq-NIL_INDEX w ↦ nothing (length g.corners.now) g.mesh.now g.corners.now g.edges.now g.taken.now g.p c.requires.0 w.if-across-eq-NIL_INDEX.true
+      | then-across-eq-NIL_INDEX-via-else-across-eq-NIL_INDEX+then-taken-across w ↦ skipped (length g.corners.now) g.mesh.now g.corners.now g.edges.now g.taken.now g.p c.requires.0 w.if-across-eq-NIL_INDEX.false w.if-taken-across.true
+    ] in
+    stepped_by c.move_top.ensures.buffer refl refl c.move_top.ensures.counts (moved_step (length g.corners.now) (rows_mesh g.mesh.now) g.corners.now g.edges.now g.taken.now g.p c.requires.0 c.requires.1 stays)
 
 pub offset_bounds-mesh-across : goal.offset_bounds-mesh-across
 offset_bounds-mesh-across c = let g = c.args in
@@ -44,6 +48,6 @@ returns-then-joins_over c = let g = c.args in
     let j = joined (length g.corners.now) g.mesh.now g.corners.now g.edges.now g.taken.now g.p c.requires.0 some far.0 c.if-taken-across.false c.joins_over.ensures c.if-joins_over.true in
     pushed_step (length g.corners.now) (rows_mesh g.mesh.now) g.corners.now g.edges.now g.taken.now g.p c.requires.0 c.requires.1 j some (row_across (length g.corners.now) g.mesh.now g.corners.now g.edges.now g.taken.now g.p c.requires.0 some) (far_vertex (length g.corners.now) g.mesh.now g.corners.now g.edges.now g.taken.now g.p c.requires.0 some far.0) far.1 far.2 put.buffer put.both put.counts
 
-pub returns : goal.returns
-returns c = let g = c.args in
-    stepped_by c.move_top-2.ensures.buffer refl refl c.move_top-2.ensures.counts (moved_step (length g.corners.now) (rows_mesh g.mesh.now) g.corners.now g.edges.now g.taken.now g.p c.requires.0 c.requires.1 (apart (length g.corners.now) g.mesh.now g.corners.now g.edges.now g.taken.now g.p c.requires.0 c.if-across-eq-NIL_INDEX.false c.far_of-far.ensures.0 c.if-taken-across.false c.joins_over.ensures c.if-joins_over.false))
+pub returns-else-joins_over : goal.returns-else-joins_over
+returns-else-joins_over c = let g = c.args in
+    stepped_by c.move_top-else-joins_over.ensures.buffer refl refl c.move_top-else-joins_over.ensures.counts (moved_step (length g.corners.now) (rows_mesh g.mesh.now) g.corners.now g.edges.now g.taken.now g.p c.requires.0 c.requires.1 (apart (length g.corners.now) g.mesh.now g.corners.now g.edges.now g.taken.now g.p c.requires.0 c.if-across-eq-NIL_INDEX.false c.far_of-far.ensures.0 c.if-taken-across.false c.joins_over.ensures c.if-joins_over.false))

@@ -13,6 +13,7 @@ unfolding parts_fault
 returns-then-fault-ne0 c = let m = rows_mesh c.args.mesh.now in
     mesh_refused m (parts m) c.args.starts.now c.args.corners.now c.mesh_fault-fault.ensures c.if-fault-ne0.true c.refusal.ensures
 
-pub join_large-requires : goal.join_large-requires
-join_large-requires c = let e = sym c.mesh_fault-fault.ensures ∙ c.if-fault-ne0.false in
-    (few_rows c.args.mesh.now e, e)
+pub join_in-requires-else-n-le-MEDIUM : goal.join_in-requires-else-n-le-MEDIUM
+join_in-requires-else-n-le-MEDIUM c = let e = sym c.mesh_fault-fault.ensures ∙ c.if-fault-ne0.false in
+    let few = few_rows c.args.mesh.now e in
+    search rules

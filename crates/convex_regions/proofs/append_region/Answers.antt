@@ -1,9 +1,6 @@
 -- `convex_regions::append_region` meets its contract: `joined` of Regions. Assumes nothing.
-use borrow.Author.Rules.{rules}
 use native.Mathlib.Omega.{arith}
-use lib.ListN.{length}
-use Rattle.mesh.specs.Rows.{rows_mesh}
-use Rattle.convex_regions.proofs.Regions.{contour_whole, contour_room, start_room, corners_few, joined}
+use Rattle.convex_regions.proofs.Regions.{start_room, corners_few, joined}
 use Rattle.convex_regions.proofs.append_region.Goals as goal
 
 pub put_start-requires : goal.put_start-requires

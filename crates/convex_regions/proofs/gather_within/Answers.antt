@@ -1,11 +1,10 @@
 -- `convex_regions::gather_within` meets its contract: fresh work arrays are ready for `visit_all`.
 -- Assumes nothing.
-use borrow.Author.Rules.{rules}
-use mathlib.Core.Path.{sym, ◌∙◌, ap}
+use mathlib.Core.Path.{◌∙◌, ap}
 use native.Mathlib.Omega.{arith}
 use lib.ListN.{length, get_or, length-set}
 use lib.Seq.{get_or-set_same}
-use Rattle.convex_regions.proofs.Regions.{first_flags, first_ready, first_marked}
+use Rattle.convex_regions.proofs.Regions.{first_ready, first_marked}
 use Rattle.convex_regions.proofs.gather_within.Goals as goal
 
 pub visit_all-requires : goal.visit_all-requires
