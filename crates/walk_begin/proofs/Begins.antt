@@ -1,13 +1,13 @@
 -- A walk begun, by its faults: 7, 2, 8, 20 each where those before it do not hold, and its place
 -- where none does; what the code's winding tells of these (`start_below`, `leaves_by`, `total_by`,
 -- `place_is`). Assumes nothing.
+use Rattle.std.specs.Prelude.{Some, None}
 use mathlib.Core.Path.{◌≡◌, refl, sym, ◌∙◌, ap}
 use mathlib.Core.Bool.{Bool, true, false}
 use mathlib.Core.List.{List, [], ◌∷◌}
 use Prim.Native.Nat.{ℕ, ◌<◌}
 use native.Mathlib.Omega.{arith}
 use borrow.Author.Tests.{eq-eqb, ne_eqb}
-use lib.Dec.{eqb}
 use lib.ListN.{length}
 use lib.IntN.{ℤ, pos, ◌+ℤ◌}
 use Rattle.integers.specs.Lists.{sumℤ}
@@ -21,7 +21,6 @@ use Rattle.pair.proofs.Start.{start_inside}
 use Rattle.walk.specs.declared.Begun.TheVariants.{At, Refused}
 use Rattle.walk.specs.Calls.{length_broken, begin_fault, begun_of}
 use Rattle.walk.proofs.Answers.{accepts, refuses}
-use Rattle.walk_winding.specs.declared.Wound.TheVariants.{Total, Leaves}
 use Rattle.walk_winding.specs.Winding.{winding_of}
 use Rattle.walk_winding.proofs.Windings.{length_terms, wound_total, wound_left}
 
@@ -68,11 +67,11 @@ pub start_below : (reflected : Bool) (l : List Pt) {s : ℕ} → s ≡ start_at 
 start_below reflected l e h = omega (arith, start_inside reflected l h)
 
 module _ (reflected : Bool) (l : List Pt) {s : ℕ} (e : s ≡ start_at reflected l) where
-  pub leaves_by : winding_of (pos 0) (winding_terms s l) ≡ Leaves → winding_leaves reflected l ≡ true
+  pub leaves_by : winding_of (pos 0) (winding_terms s l) ≡ None → winding_leaves reflected l ≡ true
   unfolding winding_leaves
   leaves_by h = wound_left (winding_terms (start_at reflected l) l) (pos 0) (ap (λ k. winding_of (pos 0) (winding_terms k l)) (sym e) ∙ h)
 
-  pub total_by : {t : ℤ} → winding_of (pos 0) (winding_terms s l) ≡ Total t → (winding_leaves reflected l ≡ false) × (t ≡ winding reflected l)
+  pub total_by : {t : ℤ} → winding_of (pos 0) (winding_terms s l) ≡ Some t → (winding_leaves reflected l ≡ false) × (t ≡ winding reflected l)
   unfolding winding_leaves winding
   total_by {t} h =
       let q = wound_total (winding_terms (start_at reflected l) l) (pos 0) (ap (λ k. winding_of (pos 0) (winding_terms k l)) (sym e) ∙ h) in

@@ -14,7 +14,6 @@ ghost use Rattle.walk.specs.Clauses.{BegunBy};
 use corners::{corner_at, corner_count};
 use pair::Place;
 use walk::Begun;
-use walk_winding::Wound;
 
 // A walk round a contour of n corners from corner s.
 fn round(s: u16, n: u16, reverse: bool, reflected: bool) -> Place
@@ -23,8 +22,8 @@ fn round(s: u16, n: u16, reverse: bool, reflected: bool) -> Place
     Place {
         index: s,
         remaining: n,
-        reverse: reverse,
-        reflected: reflected,
+        reverse,
+        reflected,
         segment: false,
         start: s,
         end: s,
@@ -37,9 +36,9 @@ fn along(s: u16, e: u16, remaining: u16, reflected: bool) -> Place
 {
     Place {
         index: s,
-        remaining: remaining,
+        remaining,
         reverse: false,
-        reflected: reflected,
+        reflected,
         segment: true,
         start: s,
         end: e,
@@ -56,17 +55,14 @@ fn place_by(contour: &[i32], reflected: bool, s: usize, total: i64) -> Place
     let n = corner_count(contour) as u16;
     let start = s as u16;
     if total < 0 {
-        return round(start, n, true, reflected);
+        round(start, n, true, reflected)
+    } else if total > 0 {
+        round(start, n, false, reflected)
+    } else {
+        let e = walk_extremes::end_at(contour, reflected);
+        let point = plane::same_point(corner_at(contour, s), corner_at(contour, e));
+        along(start, e as u16, if point { 0 } else { 2 }, reflected)
     }
-    if total > 0 {
-        return round(start, n, false, reflected);
-    }
-    let e = walk_extremes::end_at(contour, reflected);
-    let end = e as u16;
-    if plane::same_point(corner_at(contour, s), corner_at(contour, e)) {
-        return along(start, end, 0, reflected);
-    }
-    along(start, end, 2, reflected)
 }
 
 // A walk begun on a contour of sound length and range. Refuses with 8, 20.
@@ -74,12 +70,11 @@ pub fn begin_checked(contour: &[i32], reflected: bool) -> Begun
     requires { (length_broken contour.now ≡ false) × (off_range contour.now ≡ false) }
     ensures { result ≡ begun_of contour.now reflected }
 {
-    if contour.len() == 0 {
+    if contour.is_empty() {
         return Begun::Refused(integers::fault::EMPTY);
     }
     let s = walk_extremes::start_at(contour, reflected);
-    let sum = walk_winding::winding(contour, s);
-    let Wound::Total(total) = sum else {
+    let Some(total) = walk_winding::winding(contour, s) else {
         return Begun::Refused(integers::fault::WINDING);
     };
     Begun::At(place_by(contour, reflected, s, total))

@@ -46,11 +46,26 @@ module _ (l : List Pt) (b : ℕ) {i : ℕ} where
   unfolding greatest_from
   greatest_ends h = rw (drop_of_length-le l {i = i} h)
 
--- the better of two places is one of them
-pub better_inside : {r m : ℕ} (t : Bool) {j k : ℕ} → r ≡ cond t j k → j < m → k < m → r < m
-better_inside true {j} {k} e h g = rw e h
-better_inside false {j} {k} e h g = rw e g
+-- both searches, and the better of two places b and i
+abbrev pub extreme_from : Bool → ℕ → ℕ → List Pt → ℕ
+extreme_from greatest b i l = cond greatest (greatest_from b (corner_at l b) i (drop i l)) (least_from b (corner_at l b) i (drop i l))
 
--- the place that a test chooses
-pub chosen : {t u : Bool} {r : ℕ} (j k : ℕ) → t ≡ u → r ≡ cond u j k → r ≡ cond t j k
-chosen j k e f = f ∙ ap (λ b. cond b j k) (sym e)
+pub extreme_begins : (greatest : Bool) (l : List Pt) → cond greatest (greatest_at l) (least_at l) ≡ extreme_from greatest 0 1 l
+extreme_begins true l = greatest_begins l
+extreme_begins false l = least_begins l
+
+pub extreme_turn : (greatest : Bool) (l : List Pt) (b : ℕ) {i r : ℕ} → i < length l →
+    r ≡ cond greatest (cond (below (corner_at l i) (corner_at l b)) b i) (cond (below (corner_at l i) (corner_at l b)) i b) → extreme_from greatest b i l ≡ extreme_from greatest r (i + 1) l
+extreme_turn true l b h e = greatest_turn l b h e
+extreme_turn false l b h e = least_turn l b h e
+
+pub extreme_ends : (greatest : Bool) (l : List Pt) (b : ℕ) {i : ℕ} → length l ≤ i → extreme_from greatest b i l ≡ b
+extreme_ends true l b h = greatest_ends l b h
+extreme_ends false l b h = least_ends l b h
+
+-- the better of two places is one of them
+pub better_inside : {r m : ℕ} (greatest t : Bool) {j k : ℕ} → r ≡ cond greatest (cond t j k) (cond t k j) → j < m → k < m → r < m
+better_inside true true e h g = rw e h
+better_inside true false e h g = rw e g
+better_inside false true e h g = rw e g
+better_inside false false e h g = rw e h

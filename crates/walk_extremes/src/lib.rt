@@ -16,61 +16,29 @@ use plane::IntPoint;
 fn below(p: IntPoint, q: IntPoint) -> bool
     ensures { result ≡ below (point p) (point q) }
 {
-    if p.y < q.y {
-        return true;
-    }
-    if q.y < p.y {
-        return false;
-    }
-    p.x < q.x
+    p.y < q.y || p.y == q.y && p.x < q.x
 }
 
-// The lesser of corners best and i, by their places; best where they are equal.
-fn lesser_of(contour: &[i32], best: usize, i: usize) -> usize
+// The lesser of corners best and i, by their places, best where they are equal; or the greater, i
+// where they are equal.
+fn better_of(contour: &[i32], greatest: bool, best: usize, i: usize) -> usize
     requires { (best < length (points_of contour.now)) × (i < length (points_of contour.now)) }
-    ensures { result ≡ cond (below (corner_at (points_of contour.now) i) (corner_at (points_of contour.now) best)) i best }
+    ensures { let l = points_of contour.now in
+        let under = below (corner_at l i) (corner_at l best) in
+        result ≡ cond greatest (cond under best i) (cond under i best) }
 {
-    if below(corner_at(contour, i), corner_at(contour, best)) {
-        return i;
-    }
-    best
+    let under = below(corner_at(contour, i), corner_at(contour, best));
+    if under == greatest { best } else { i }
 }
 
-// The greater of corners best and i, by their places; i where they are equal.
-fn greater_of(contour: &[i32], best: usize, i: usize) -> usize
-    requires { (best < length (points_of contour.now)) × (i < length (points_of contour.now)) }
-    ensures { result ≡ cond (below (corner_at (points_of contour.now) i) (corner_at (points_of contour.now) best)) best i }
+// The place of the least corner, first of equals; or of the greatest, last of equals.
+fn extreme_at(contour: &[i32], greatest: bool) -> usize
+    ensures { let l = points_of contour.now in
+        result ≡ cond greatest (greatest_at l) (least_at l) }
 {
-    if below(corner_at(contour, i), corner_at(contour, best)) {
-        return best;
-    }
-    i
-}
-
-// The place of the least corner, first of equals.
-fn least_at(contour: &[i32]) -> usize
-    ensures { result ≡ least_at (points_of contour.now) }
-{
-    let n = corner_count(contour);
     let mut best: usize = 0;
-    let mut i: usize = 1;
-    while i < n {
-        best = lesser_of(contour, best, i);
-        i += 1;
-    }
-    best
-}
-
-// The place of the greatest corner, last of equals.
-fn greatest_at(contour: &[i32]) -> usize
-    ensures { result ≡ greatest_at (points_of contour.now) }
-{
-    let n = corner_count(contour);
-    let mut best: usize = 0;
-    let mut i: usize = 1;
-    while i < n {
-        best = greater_of(contour, best, i);
-        i += 1;
+    for i in 1..corner_count(contour) {
+        best = better_of(contour, greatest, best, i);
     }
     best
 }
@@ -79,18 +47,12 @@ fn greatest_at(contour: &[i32]) -> usize
 pub fn start_at(contour: &[i32], reflected: bool) -> usize
     ensures { result ≡ start_at reflected (points_of contour.now) }
 {
-    if reflected {
-        return greatest_at(contour);
-    }
-    least_at(contour)
+    extreme_at(contour, reflected)
 }
 
 // The other extreme.
 pub fn end_at(contour: &[i32], reflected: bool) -> usize
     ensures { result ≡ end_at reflected (points_of contour.now) }
 {
-    if reflected {
-        return least_at(contour);
-    }
-    greatest_at(contour)
+    extreme_at(contour, !reflected)
 }

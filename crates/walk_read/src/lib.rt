@@ -26,10 +26,7 @@ pub fn off_at(contour: &[i32], i: usize) -> bool
 pub fn length_broken(contour: &[i32]) -> bool
     ensures { result ≡ length_broken contour.now }
 {
-    if corners::ragged(contour) {
-        return true;
-    }
-    corners::corner_count(contour) > MAX_CONTOUR
+    corners::ragged(contour) || corners::corner_count(contour) > MAX_CONTOUR
 }
 
 // Whether a walk's place, or either end where it walks a segment, is no corner of a contour of n
@@ -37,16 +34,7 @@ pub fn length_broken(contour: &[i32]) -> bool
 pub fn misplaced(n: usize, w: Place) -> bool
     ensures { result ≡ misplaced n w }
 {
-    if w.index as usize >= n {
-        return true;
-    }
-    if w.segment {
-        if w.start as usize >= n {
-            return true;
-        }
-        return w.end as usize >= n;
-    }
-    false
+    w.index as usize >= n || w.segment && (w.start as usize >= n || w.end as usize >= n)
 }
 
 // The next place on a contour of n corners.
@@ -56,20 +44,16 @@ pub fn next_index(n: usize, w: Place) -> u16
 {
     let index = w.index;
     if w.segment {
-        if index == w.start {
-            return w.end;
-        }
-        return w.start;
-    }
-    if w.reverse {
+        if index == w.start { w.end } else { w.start }
+    } else if w.reverse {
         if index == 0 {
-            return (n - 1) as u16;
+            (n - 1) as u16
+        } else {
+            index - 1
         }
-        return index - 1;
+    } else if index as usize + 1 == n {
+        0
+    } else {
+        index + 1
     }
-    let next = index + 1;
-    if next as usize == n {
-        return 0;
-    }
-    next
 }

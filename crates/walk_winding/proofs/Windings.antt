@@ -1,7 +1,8 @@
 -- The winding, term by term: a term by its places (`term_is`), the total so far (`wound_turn`,
 -- `wound_leaves`, `wound_ends`), and what the whole tells: that it leaves, or the winding
 -- (`wound_total`, `wound_left`). Assumes nothing.
-use mathlib.Core.Path.{◌≡◌, refl, sym, ◌∙◌, ap}
+use Rattle.std.specs.Prelude.{Option, Some, None, SomeIff}
+use mathlib.Core.Path.{◌≡◌, refl, sym, ◌∙◌, ap, subst}
 use mathlib.Core.Bool.{true, false, cond}
 use mathlib.Core.List.{List, [], ◌∷◌, map}
 use Prim.Native.Nat.{ℕ, zero, suc, ◌+◌, ◌-◌, ◌≤◌, ◌<◌}
@@ -11,15 +12,20 @@ use borrow.Author.Tests.{ltb-true, ltb-false, eqb-true, eqb-false, lt-ltb, le-lt
 use lib.Dec.{eqb, ltb}
 use lib.ListN.{length, drop, get_or, drop_of_length-le, length-map}
 use lib.Seq.{drop-cons}
-use lib.IntN.{ℤ, pos, ◌+ℤ◌}
+use lib.IntN.{ℤ, pos, negsuc, ◌+ℤ◌}
+use lib.Signed.{◌≤ℤ◌, lt_z, le_z}
+use mir.Syntax.{w64}
+use mir.Val.{SFits, to_z, of_z}
 use Rattle.integers.specs.Lists.{sumℤ, rotate, neighbours}
-use Rattle.integers.proofs.Order.{by_test}
+use Rattle.integers.proofs.Order.{zarith, by_test}
+use Rattle.integers.proofs.Tests.{≤-lt_z, ≤-le_z, lt_z-≤, le_z-≤, not_then}
+use Rattle.integers.proofs.Sizes.{mag_parts}
+use Rattle.integers.proofs.Bits.{kept}
 use Rattle.integers.proofs.Ring.{con, ◌:+◌, ◌:≡◌, int, ring}
 use Rattle.integers.proofs.Rotation.{length_rotate, get_or_rotate, get_or_rotate_past}
 use Rattle.integers.proofs.Neighbours.{length_neighbours, get_or_neighbours, get_or_neighbours_last}
 use Rattle.plane.specs.Plane.{Pt, O, ◌-ᵖ◌, cross}
 use Rattle.pair.specs.Walk.{corner_at, winding_terms, in_word, total_leaves}
-use Rattle.walk_winding.specs.declared.Wound.TheVariants.{Total, Leaves}
 use Rattle.walk_winding.specs.Winding.{round_to, added_of, winding_of}
 
 -- ---- places round the contour
@@ -78,41 +84,64 @@ term_is l {s} {k} h g =
 
 -- ---- totals
 
+-- a checked addition, of numbers as the machine holds them
+fits_word : {z : ℤ} → SFits w64 z → in_word z ≡ true
+fits_word {z} f =
+    let a : negsuc 9223372036854775807 ≤ℤ z = omega (zarith, mag_parts z) in
+    let b : z ≤ℤ pos 9223372036854775807 = omega (zarith, mag_parts z) in
+    rw (≤-lt_z {x = z} {y = negsuc 9223372036854775807} a, ≤-le_z {x = z} {y = pos 9223372036854775807} b)
+
+word_fits : {z : ℤ} → in_word z ≡ true → SFits w64 z
+word_fits {z} h =
+    let q = not_then (lt_z z (negsuc 9223372036854775807)) (le_z z (pos 9223372036854775807)) h in
+    let a : negsuc 9223372036854775807 ≤ℤ z = lt_z-≤ z (negsuc 9223372036854775807) q.0 in
+    let b : z ≤ℤ pos 9223372036854775807 = le_z-≤ z (pos 9223372036854775807) q.1 in
+    omega (zarith, mag_parts z)
+
+added_is : {r : Option ℤ} (z : ℤ) → SomeIff r (SFits w64 z) z → r ≡ added_of z
+unfolding added_of
+added_is {r = None} z n = by_test (in_word z) (λ t. absurd (n (word_fits t))) (λ t. rw t)
+added_is {r = Some x} z h = rw (fits_word h.0) (ap Some h.1)
+
+pub added_by : {t k : ℤ} {r : Option ℤ} → SFits w64 t → SFits w64 k →
+    SomeIff r (SFits w64 (to_z w64 (of_z w64 t) +ℤ to_z w64 (of_z w64 k))) (to_z w64 (of_z w64 t) +ℤ to_z w64 (of_z w64 k)) → r ≡ added_of (t +ℤ k)
+added_by {t} {k} {r} ft fk h = added_is (t +ℤ k) (subst (λ z. SomeIff r (SFits w64 z) z) (λ i. kept ft i +ℤ kept fk i) h)
+
 -- what an addition tells
-added_total : (z : ℤ) {n : ℤ} → added_of z ≡ Total n → (in_word z ≡ true) × (n ≡ z)
+added_total : (z : ℤ) {n : ℤ} → added_of z ≡ Some n → (in_word z ≡ true) × (n ≡ z)
 unfolding added_of
 added_total z {n} h =
     by_test (in_word z)
-    (λ e. (e, (let q : Total z ≡ Total n = sym (ap (λ t. cond t (Total z) Leaves) e) ∙ h in cc)))
-    (λ e. absurd (let q : Leaves ≡ Total n = sym (ap (λ t. cond t (Total z) Leaves) e) ∙ h in let k : ◌≡◌ {A = ℕ} 0 1 = cc in omega (arith, k)))
+    (λ e. (e, (let q : Some z ≡ Some n = sym (ap (λ t. cond t (Some z) None) e) ∙ h in cc)))
+    (λ e. absurd (let q : None ≡ Some n = sym (ap (λ t. cond t (Some z) None) e) ∙ h in let k : ◌≡◌ {A = ℕ} 0 1 = cc in omega (arith, k)))
 
-added_leaves : (z : ℤ) → added_of z ≡ Leaves → in_word z ≡ false
+added_leaves : (z : ℤ) → added_of z ≡ None → in_word z ≡ false
 unfolding added_of
 added_leaves z h =
     by_test (in_word z)
-    (λ e. absurd (let q : Total z ≡ Leaves = sym (ap (λ t. cond t (Total z) Leaves) e) ∙ h in let k : ◌≡◌ {A = ℕ} 0 1 = cc in omega (arith, k)))
+    (λ e. absurd (let q : Some z ≡ None = sym (ap (λ t. cond t (Some z) None) e) ∙ h in let k : ◌≡◌ {A = ℕ} 0 1 = cc in omega (arith, k)))
     (λ e. e)
 
 -- term k is x
 module _ (ts : List ℤ) {k : ℕ} (t : ℤ) {x : ℤ} (e : x ≡ get_or ts k (pos 0)) where
-  pub wound_turn : {n : ℤ} → k < length ts → added_of (t +ℤ x) ≡ Total n → winding_of t (drop k ts) ≡ winding_of n (drop (k + 1) ts)
+  pub wound_turn : {n : ℤ} → k < length ts → added_of (t +ℤ x) ≡ Some n → winding_of t (drop k ts) ≡ winding_of n (drop (k + 1) ts)
   unfolding winding_of
   wound_turn {n} h a =
       let q = added_total (t +ℤ x) a in
       rw (add-one, drop-cons ts k (pos 0), ← e, q.0) (ap (λ z. winding_of z (drop (suc k) ts)) (sym q.1))
 
-  pub wound_leaves : k < length ts → added_of (t +ℤ x) ≡ Leaves → winding_of t (drop k ts) ≡ Leaves
+  pub wound_leaves : k < length ts → added_of (t +ℤ x) ≡ None → winding_of t (drop k ts) ≡ None
   unfolding winding_of
   wound_leaves h a = rw (drop-cons ts k (pos 0), ← e, added_leaves (t +ℤ x) a)
 
-pub wound_ends : (ts : List ℤ) (k : ℕ) {t : ℤ} → length ts ≤ k → winding_of t (drop k ts) ≡ Total t
+pub wound_ends : (ts : List ℤ) (k : ℕ) {t : ℤ} → length ts ≤ k → winding_of t (drop k ts) ≡ Some t
 unfolding winding_of
 wound_ends ts k h = rw (drop_of_length-le ts {i = k} h)
 
 -- ---- the whole
 
 -- the terms so far and those to come
-pub wound_total : (ts : List ℤ) (t : ℤ) {n : ℤ} → winding_of t ts ≡ Total n → (total_leaves t ts ≡ false) × (n ≡ t +ℤ sumℤ ts)
+pub wound_total : (ts : List ℤ) (t : ℤ) {n : ℤ} → winding_of t ts ≡ Some n → (total_leaves t ts ≡ false) × (n ≡ t +ℤ sumℤ ts)
 unfolding winding_of total_leaves sumℤ
 wound_total [] t {n} h = (refl, (let q : t ≡ n = cc in sym q ∙ sym (plus_zero t)))
   where
@@ -120,17 +149,17 @@ wound_total [] t {n} h = (refl, (let q : t ≡ n = cc in sym q ∙ sym (plus_zer
     plus_zero = ring (int ∷ []) (λ t. t :+ con (pos 0) :≡ t) tt
 wound_total (k ∷ ts) t {n} h =
     by_test (in_word (t +ℤ k))
-    (λ e. let q = wound_total ts (t +ℤ k) (sym (ap (λ b. cond b (winding_of (t +ℤ k) ts) Leaves) e) ∙ h) in
+    (λ e. let q = wound_total ts (t +ℤ k) (sym (ap (λ b. cond b (winding_of (t +ℤ k) ts) None) e) ∙ h) in
     (rw e q.0, q.1 ∙ regroup t k (sumℤ ts)))
-    (λ e. absurd (let q : Leaves ≡ Total n = sym (ap (λ b. cond b (winding_of (t +ℤ k) ts) Leaves) e) ∙ h in let k : ◌≡◌ {A = ℕ} 0 1 = cc in omega (arith, k)))
+    (λ e. absurd (let q : None ≡ Some n = sym (ap (λ b. cond b (winding_of (t +ℤ k) ts) None) e) ∙ h in let k : ◌≡◌ {A = ℕ} 0 1 = cc in omega (arith, k)))
   where
     regroup : (t k s : ℤ) → (t +ℤ k) +ℤ s ≡ t +ℤ (k +ℤ s)
     regroup = ring (int ∷ int ∷ int ∷ []) (λ t k s. (t :+ k) :+ s :≡ t :+ (k :+ s)) tt
 
-pub wound_left : (ts : List ℤ) (t : ℤ) → winding_of t ts ≡ Leaves → total_leaves t ts ≡ true
+pub wound_left : (ts : List ℤ) (t : ℤ) → winding_of t ts ≡ None → total_leaves t ts ≡ true
 unfolding winding_of total_leaves
 wound_left [] t h = absurd (let k : ◌≡◌ {A = ℕ} 0 1 = cc in omega (arith, k))
 wound_left (k ∷ ts) t h =
     by_test (in_word (t +ℤ k))
-    (λ e. rw e (wound_left ts (t +ℤ k) (sym (ap (λ b. cond b (winding_of (t +ℤ k) ts) Leaves) e) ∙ h)))
+    (λ e. rw e (wound_left ts (t +ℤ k) (sym (ap (λ b. cond b (winding_of (t +ℤ k) ts) None) e) ∙ h)))
     (λ e. rw e)

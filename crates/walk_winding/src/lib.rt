@@ -1,6 +1,5 @@
 // The winding of a contour seen from a corner, in table order, with its running total watched: it
-// is tested before each addition, so nothing wraps (document 01, fault 8). Leans on walk_read and
-// plane.
+// is added checked, so nothing wraps (document 01, fault 8). Leans on walk_read and plane.
 #![tactic(auto)]
 
 ghost use Rattle.std.specs.Prelude.{◌≡◌, false, ◌+◌, ◌<◌, length, get_or, pos, ◌+ℤ◌};
@@ -11,28 +10,11 @@ ghost use Rattle.walk_winding.specs.Winding.{round_to, added_of, winding_of};
 
 use corners::{corner_at, corner_count};
 
-// A winding, or that its running total leaves signed 64 bits.
-#[derive(Clone, Copy)]
-pub enum Wound {
-    Total(i64),
-    Leaves,
-}
-
-// total + term, tested before it is added.
-fn add_term(total: i64, term: i64) -> Wound
-    requires { CrossSize term }
+// total + term; none where it leaves signed 64 bits.
+fn add_term(total: i64, term: i64) -> Option<i64>
     ensures { result ≡ added_of (total +ℤ term) }
 {
-    if term > 0 {
-        if total > 9223372036854775807 - term {
-            return Wound::Leaves;
-        }
-        return Wound::Total(total + term);
-    }
-    if total < -9223372036854775808 - term {
-        return Wound::Leaves;
-    }
-    Wound::Total(total + term)
+    total.checked_add(term)
 }
 
 // Place i of a contour of n corners, past its end from its first corner on.
@@ -40,10 +22,7 @@ fn round_to(n: usize, i: usize) -> usize
     requires { i < n + n }
     ensures { (result ≡ round_to n i) × (result < n) }
 {
-    if i < n {
-        return i;
-    }
-    i - n
+    if i < n { i } else { i - n }
 }
 
 // Term k of the winding seen from corner s: the cross of corners s + k and s + k + 1, round the
@@ -61,21 +40,14 @@ fn term_at(contour: &[i32], s: usize, k: usize) -> i64
     plane::cross_product(from, to)
 }
 
-// The winding seen from corner s.
-pub fn winding(contour: &[i32], s: usize) -> Wound
+// The winding seen from corner s; none where its running total leaves signed 64 bits.
+pub fn winding(contour: &[i32], s: usize) -> Option<i64>
     requires { (off_range contour.now ≡ false) × (s < length (points_of contour.now)) }
     ensures { result ≡ winding_of (pos 0) (winding_terms s (points_of contour.now)) }
 {
-    let n = corner_count(contour);
     let mut total: i64 = 0;
-    let mut k: usize = 0;
-    while k < n {
-        let sum = add_term(total, term_at(contour, s, k));
-        let Wound::Total(next) = sum else {
-            return Wound::Leaves;
-        };
-        total = next;
-        k += 1;
+    for k in 0..corner_count(contour) {
+        total = add_term(total, term_at(contour, s, k))?;
     }
-    Wound::Total(total)
+    Some(total)
 }

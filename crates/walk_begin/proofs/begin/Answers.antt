@@ -4,7 +4,6 @@ use mathlib.Core.Path.{sym, ◌∙◌, subst}
 use Rattle.walk.specs.Clauses.{BegunBy}
 use Rattle.walk.proofs.Promises.{begun_by}
 use Rattle.walk_begin.proofs.Begins.{begin_7, begin_2}
-use borrow.Author.Rules.{rules}
 use Rattle.walk_begin.proofs.begin.Goals as goal
 
 pub returns-then-length_broken : goal.returns-then-length_broken

@@ -1,24 +1,15 @@
 -- `walk_extremes::end_at` meets its contract. Assumes nothing.
-use mathlib.Core.Path.{◌≡◌}
-use mathlib.Core.Bool.{Bool, true, false}
+use mathlib.Core.Path.{◌≡◌, refl, ◌∙◌}
+use mathlib.Core.Bool.{Bool, true, false, not, cond}
 use mathlib.Core.List.{List}
-use Prim.Native.Nat.{ℕ}
 use Rattle.plane.specs.Plane.{Pt}
 use Rattle.pair.specs.Walk.{least_at, greatest_at, end_at}
-use borrow.Author.Rules.{rules}
 use Rattle.walk_extremes.proofs.end_at.Goals as goal
 
-module _ {reflected : Bool} (l : List Pt) {r : ℕ} where
-  turned : reflected ≡ true → r ≡ least_at l → r ≡ end_at reflected l
-  unfolding end_at
-  turned h e = rw h e
-
-  straight : reflected ≡ false → r ≡ greatest_at l → r ≡ end_at reflected l
-  unfolding end_at
-  straight h e = rw h e
-
-pub returns-then-reflected : goal.returns-then-reflected
-returns-then-reflected c = turned _ c.if-reflected.true c.least_at.ensures
+other : (reflected : Bool) (l : List Pt) → cond (not reflected) (greatest_at l) (least_at l) ≡ end_at reflected l
+unfolding end_at
+other true l = refl
+other false l = refl
 
 pub returns : goal.returns
-returns c = straight _ c.if-reflected.false c.greatest_at.ensures
+returns c = c.extreme_at.ensures ∙ other c.args.reflected _

@@ -4,7 +4,6 @@ use mathlib.Core.Path.{◌≡◌, sym, ◌∙◌}
 use mathlib.Core.Bool.{true, false}
 use mathlib.Core.List.{List}
 use Prim.Native.Nat.{ℕ}
-use borrow.Author.Rules.{rules}
 use lib.Dec.{ltb}
 use lib.IntN.{ℤ}
 use lib.ListN.{length}
@@ -24,7 +23,7 @@ module _ (l : List ℤ) where
   even h e = rw (not_ragged l h, ← length_points l, ← e)
 
 pub returns-then-ragged : goal.returns-then-ragged
-returns-then-ragged c = odd _ (sym c.ragged.ensures ∙ c.if-ragged.true)
+returns-then-ragged c = c.if-ragged.true ∙ odd _ (sym c.ragged.ensures ∙ c.if-ragged.true)
 
-pub returns : goal.returns
-returns c = even _ (sym c.ragged.ensures ∙ c.if-ragged.false) c.corner_count.ensures
+pub returns-else-ragged : goal.returns-else-ragged
+returns-else-ragged c = even _ (sym c.ragged.ensures ∙ c.if-ragged.false) c.corner_count.ensures

@@ -5,7 +5,6 @@ use mathlib.Core.Bool.{true, false}
 use Prim.Native.Nat.{ℕ, suc, ◌+◌, ◌-◌}
 use native.Mathlib.Numerals.{add-one}
 use native.Mathlib.Omega.{arith}
-use borrow.Author.Rules.{rules}
 use borrow.Author.Tests.{eq-eqb, ne_eqb}
 use Rattle.pair.specs.declared.Place.{Place}
 use Rattle.pair.specs.Walk.{next_index}
@@ -41,8 +40,8 @@ module _ (n : ℕ) (w : Place) where
 pub returns-then-index-w : goal.returns-then-index-w
 returns-then-index-w c = to_end _ _ c.if-w.true c.if-index-w.true
 
-pub returns-then-w : goal.returns-then-w
-returns-then-w c = to_start _ _ c.if-w.true c.if-index-w.false
+pub returns-else-index-w : goal.returns-else-index-w
+returns-else-index-w c = to_start _ _ c.if-w.true c.if-index-w.false
 
 pub overflow_sub-result : goal.overflow_sub-result
 overflow_sub-result c = omega (arith, index_inside _ _ c.requires.1)
@@ -50,14 +49,14 @@ overflow_sub-result c = omega (arith, index_inside _ _ c.requires.1)
 pub returns-then-index-eq0 : goal.returns-then-index-eq0
 returns-then-index-eq0 c = to_last _ _ c.if-w.false c.if-w-2.true c.if-index-eq0.true
 
-pub returns-then-w-2 : goal.returns-then-w-2
-returns-then-w-2 c = back _ _ c.if-w.false c.if-w-2.true c.if-index-eq0.false
+pub returns-else-index-eq0 : goal.returns-else-index-eq0
+returns-else-index-eq0 c = back _ _ c.if-w.false c.if-w-2.true c.if-index-eq0.false
 
-pub overflow_add-next : goal.overflow_add-next
-overflow_add-next c = omega (arith, index_inside _ _ c.requires.1)
+pub overflow_add-result : goal.overflow_add-result
+overflow_add-result c = omega (arith, index_inside _ _ c.requires.1)
 
-pub returns-then-next-n : goal.returns-then-next-n
-returns-then-next-n c = to_first _ _ c.if-w.false c.if-w-2.false c.if-next-n.true
+pub returns-then-index-n : goal.returns-then-index-n
+returns-then-index-n c = to_first _ _ c.if-w.false c.if-w-2.false c.if-index-n.true
 
-pub returns : goal.returns
-returns c = onward _ _ c.if-w.false c.if-w-2.false c.if-next-n.false
+pub returns-else-index-n : goal.returns-else-index-n
+returns-else-index-n c = onward _ _ c.if-w.false c.if-w-2.false c.if-index-n.false

@@ -7,5 +7,5 @@ use Rattle.walk_winding.proofs.round_to.Goals as goal
 pub returns-then-i-n : goal.returns-then-i-n
 returns-then-i-n c = (sym (round_near c.if-i-n.true), c.if-i-n.true)
 
-pub returns : goal.returns
-returns c = (sym (round_past c.if-i-n.false), omega arith)
+pub returns-else-i-n : goal.returns-else-i-n
+returns-else-i-n c = (sym (round_past c.if-i-n.false), omega arith)

@@ -12,7 +12,6 @@ use Rattle.pair.specs.Walk.{corner_at}
 use Rattle.walk_read.proofs.Grid.{grid_at}
 use Rattle.walk_winding.specs.Winding.{round_to}
 use Rattle.walk_winding.proofs.Windings.{term_is}
-use borrow.Author.Rules.{rules}
 use Rattle.walk_winding.proofs.term_at.Goals as goal
 
 pub overflow_add-s : goal.overflow_add-s
