@@ -30,10 +30,7 @@ pub fn point_of(contour: &[i32], w: Place) -> IntPoint
     ensures { (point result ≡ point_of (points_of contour.now) w) × OnGrid result }
 {
     let p = corner_at(contour, w.index as usize);
-    if w.reflected {
-        return negated(p);
-    }
-    p
+    if w.reflected { negated(p) } else { p }
 }
 
 // The edge to its next place.
@@ -49,9 +46,10 @@ pub fn edge_of(contour: &[i32], w: Place) -> IntVector
     let a = corner_at(contour, w.index as usize);
     let b = corner_at(contour, next as usize);
     if w.reflected {
-        return plane::subtract(a, b);
+        plane::subtract(a, b)
+    } else {
+        plane::subtract(b, a)
     }
-    plane::subtract(b, a)
 }
 
 // The walk one step on, on a contour of n corners.
@@ -62,10 +60,6 @@ pub fn advance_of(n: usize, w: Place) -> Place
     Place {
         index: next_index(n, w),
         remaining: w.remaining - 1,
-        reverse: w.reverse,
-        reflected: w.reflected,
-        segment: w.segment,
-        start: w.start,
-        end: w.end,
+        ..w
     }
 }

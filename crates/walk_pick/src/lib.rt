@@ -34,10 +34,8 @@ fn lesser(a: IntVector, b: IntVector) -> Step
     if plane::is_zero(b) {
         return Step::Second(b);
     }
-    let order = plane::angle_cmp(a, b);
-    match order {
-        Ordering::Less => Step::First(a),
-        Ordering::Equal => Step::First(a),
+    match plane::angle_cmp(a, b) {
+        Ordering::Less | Ordering::Equal => Step::First(a),
         Ordering::Greater => Step::Second(b),
     }
 }
@@ -47,16 +45,10 @@ pub fn next_step(left: &[i32], right: &[i32], s: ConvexSum) -> Step
     requires { Judged left.now right.now s }
     ensures { (pick_of result ≡ next_step (points_of left.now) (points_of right.now) s) × StepShort result }
 {
-    let a = s.a;
-    let b = s.b;
-    if a.remaining == 0 {
-        if b.remaining == 0 {
-            return Step::Neither;
-        }
-        return Step::Second(edge_of(right, b));
+    match (s.a.remaining, s.b.remaining) {
+        (0, 0) => Step::Neither,
+        (0, _) => Step::Second(edge_of(right, s.b)),
+        (_, 0) => Step::First(edge_of(left, s.a)),
+        _ => lesser(edge_of(left, s.a), edge_of(right, s.b)),
     }
-    if b.remaining == 0 {
-        return Step::First(edge_of(left, a));
-    }
-    lesser(edge_of(left, a), edge_of(right, b))
 }

@@ -13,7 +13,6 @@ use Rattle.pair.specs.declared.Place.{Place}
 use Rattle.pair.specs.Walk.{corner_at, next_index, turned, edge_of}
 use Rattle.walk.proofs.Answers.{few_corners, index_inside, next_inside}
 use Rattle.walk_read.proofs.Grid.{not_off}
-use borrow.Author.Rules.{rules}
 use Rattle.walk_move.proofs.edge_of.Goals as goal
 
 turned_about : (a b : Pt) → a -ᵖ b ≡ negᵖ (b -ᵖ a)
@@ -55,17 +54,17 @@ returns-then-w c = let l = points_of c.args.contour.now in
     let b = c.corner_at-b.ensures ∙ ap (corner_at l) (c.next_index-next.ensures ∙ ap (λ n. next_index n w) c.corner_count.ensures) in
     (turned_back l w a b c.if-w.true c.subtract.ensures.0, c.subtract.ensures.1)
 
-pub subtract-requires-2 : goal.subtract-requires-2
-subtract-requires-2 c = let l = points_of c.args.contour.now in
+pub subtract-requires-else-w : goal.subtract-requires-else-w
+subtract-requires-else-w c = let l = points_of c.args.contour.now in
     let w = c.args.w in
     let p = c.requires in
     let a = not_off l w.index p.2 c.corner_at-a.ensures in
     let b = not_off l (next_index (length l) w) p.3 (c.corner_at-b.ensures ∙ ap (corner_at l) (c.next_index-next.ensures ∙ ap (λ n. next_index n w) c.corner_count.ensures)) in
     (b, a)
 
-pub returns : goal.returns
-returns c = let l = points_of c.args.contour.now in
+pub returns-else-w : goal.returns-else-w
+returns-else-w c = let l = points_of c.args.contour.now in
     let w = c.args.w in
     let a = c.corner_at-a.ensures in
     let b = c.corner_at-b.ensures ∙ ap (corner_at l) (c.next_index-next.ensures ∙ ap (λ n. next_index n w) c.corner_count.ensures) in
-    (straight l w a b c.if-w.false c.subtract-2.ensures.0, c.subtract-2.ensures.1)
+    (straight l w a b c.if-w.false c.subtract-else-w.ensures.0, c.subtract-else-w.ensures.1)

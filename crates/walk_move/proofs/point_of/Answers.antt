@@ -9,7 +9,6 @@ use Rattle.pair.specs.declared.Place.{Place}
 use Rattle.pair.specs.Walk.{corner_at, point_of}
 use Rattle.walk.proofs.Answers.{index_inside}
 use Rattle.walk_read.proofs.Grid.{not_off}
-use borrow.Author.Rules.{rules}
 use Rattle.walk_move.proofs.point_of.Goals as goal
 
 module _ (l : List Pt) (w : Place) {p : Pt} where
@@ -30,5 +29,5 @@ negated-requires c = not_off (points_of c.args.contour.now) c.args.w.index c.req
 pub returns-then-w : goal.returns-then-w
 returns-then-w c = (turned_back _ _ c.if-w.true (c.negated.ensures.0 ∙ ap negᵖ c.corner_at-p.ensures), c.negated.ensures.1)
 
-pub returns : goal.returns
-returns c = (straight _ _ c.if-w.false c.corner_at-p.ensures, not_off (points_of c.args.contour.now) c.args.w.index c.requires.1 c.corner_at-p.ensures)
+pub returns-else-w : goal.returns-else-w
+returns-else-w c = (straight _ _ c.if-w.false c.corner_at-p.ensures, not_off (points_of c.args.contour.now) c.args.w.index c.requires.1 c.corner_at-p.ensures)
