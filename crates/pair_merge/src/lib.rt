@@ -4,9 +4,9 @@
 // are the pair's contour. Leans on pair_points, points (points read) and plane.
 #![tactic(auto)]
 
-ghost use Rattle.std.specs.Prelude.{◌≡◌, ◌∷◌, [], ◌⊎◌, ◌+◌, ◌<◌, length, drop, ◌+ℤ◌};
+ghost use Rattle.std.specs.Prelude.{◌≡◌, ◌∷◌, [], ◌⊎◌, ◌+◌, ◌<◌, length, drop};
 ghost use Rattle.plane.specs.Plane.{◌+ᵖ◌, angle_cmp};
-ghost use Rattle.plane.specs.Machine.{Coordinate, vector, Short};
+ghost use Rattle.plane.specs.Machine.{vector, Short};
 ghost use Rattle.points.specs.Points.{corner_in, Grid};
 ghost use Rattle.pair_points.specs.Points.{edges_along, merged_of, second_next, rest_of, edge_at};
 ghost use Rattle.pair_merge.specs.Putting.{points_in, Mergeable, RoomAfter, CornersPut, Reached};
@@ -23,14 +23,6 @@ pub struct Halt {
     pub k: usize,
 }
 
-// A sum of two coordinates.
-fn sum(a: i32, b: i32) -> i32
-    requires { Coordinate a × Coordinate b }
-    ensures { result ≡ a +ℤ b }
-{
-    a + b
-}
-
 // The sum of point i of a and point j of b is put as corner k.
 pub fn put_sum(a: &[[i32; 2]], i: usize, b: &[[i32; 2]], j: usize, out: &mut [i32], k: usize)
     requires { (i < length a.now)
@@ -43,8 +35,8 @@ pub fn put_sum(a: &[[i32; 2]], i: usize, b: &[[i32; 2]], j: usize, out: &mut [i3
     let p = points::point_at(a, i);
     let q = points::point_at(b, j);
     let s = IntPoint {
-        x: sum(p.x, q.x),
-        y: sum(p.y, q.y),
+        x: p.x + q.x,
+        y: p.y + q.y,
     };
     corners::put_corner(out, k, s);
 }
@@ -101,10 +93,7 @@ fn merge(a: &[[i32; 2]], b: &[[i32; 2]], out: &mut [i32], at: usize) -> Halt
     let mut i: usize = 0;
     let mut j: usize = 0;
     let mut k = at;
-    while i < n {
-        if j == m {
-            return Halt { i: i, j: j, k: k };
-        }
+    while i < n && j < m {
         put_sum(a, i, b, j, out, k);
         k += 1;
         let order = edge_cmp(a, i, b, j);
@@ -123,7 +112,7 @@ fn merge(a: &[[i32; 2]], b: &[[i32; 2]], out: &mut [i32], at: usize) -> Halt
             }
         }
     }
-    Halt { i: i, j: j, k: k }
+    Halt { i, j, k }
 }
 
 // The corners of a's points from i on, but the last, at b's point j.
@@ -135,13 +124,10 @@ fn rest(a: &[[i32; 2]], i: usize, b: &[[i32; 2]], j: usize, out: &mut [i32], at:
         × RoomAfter (rest_of (corner_in b.now j) (drop i (points_in a.now))) out.old at }
     ensures { CornersPut (rest_of (corner_in b.now j) (drop i (points_in a.now))) out.old at out.new result }
 {
-    let n = a.len() - 1;
-    let mut p = i;
     let mut k = at;
-    while p < n {
+    for p in i..a.len() - 1 {
         put_sum(a, p, b, j, out, k);
         k += 1;
-        p += 1;
     }
     k
 }
@@ -151,15 +137,10 @@ pub fn append_pair(a: &[[i32; 2]], b: &[[i32; 2]], out: &mut [i32], at: usize) -
     requires { Mergeable a.now × Mergeable b.now × RoomAfter (merged_of (points_in a.now) (points_in b.now)) out.old at }
     ensures { CornersPut (merged_of (points_in a.now) (points_in b.now)) out.old at out.new result }
 {
-    if a.len() == 0 {
+    if a.is_empty() || b.is_empty() {
         return at;
     }
-    if b.len() == 0 {
-        return at;
-    }
-    let t = merge(a, b, out, at);
-    let i = t.i;
-    let j = t.j;
-    let k = rest(a, i, b, j, out, t.k);
+    let Halt { i, j, k } = merge(a, b, out, at);
+    let k = rest(a, i, b, j, out, k);
     rest(b, j, a, a.len() - 1, out, k)
 }

@@ -47,7 +47,8 @@ module _
       told = e ∙ sym (ap key_of is_turned) ∙ same
 
 pub returns : goal.returns
-returns c = let wide = c.size-wide.ensures in
-    let high = c.size-high.ensures in
-    is_key c.requires.0 c.requires.1 (wide.0 ∙ ap nat_abs (read c.requires.0.x_small), wide.1) (high.0 ∙ ap nat_abs (read c.requires.0.y_small), high.1)
+returns c = let s = c.requires.0 in
+    let wide = c.unsigned_abs-wide.ensures.value ∙ ap nat_abs (read s.x_small) in
+    let high = c.unsigned_abs-high.ensures.value ∙ ap nat_abs (read s.y_small) in
+    is_key s c.requires.1 (wide, omega (arith, wide, s.x_small.abs)) (high, omega (arith, high, s.y_small.abs))
     c.below-low.ensures c.level-first.ensures c.pick.ensures c.pick-2.ensures c.pick-3.ensures c.pick-4.ensures c.key_turned.ensures

@@ -1,15 +1,9 @@
 -- `pair_merge::merge` meets its contract. The loop's invariant: what is still to come is the merge
 -- of the points from i and from j on. Assumes nothing.
-use mathlib.Core.Path.{sym, ◌∙◌}
-use mathlib.Core.Logic.{inl, inr}
 use Prim.Native.Nat.{◌+◌, ◌-◌, ◌<◌}
-use native.Mathlib.Omega.{arith}
-use borrow.Author.Rules.{rules}
 use lib.ListN.{length, drop}
 use Rattle.pair_points.specs.Points.{merged_of}
 use Rattle.pair_merge.specs.Putting.{points_in, Reached}
-use Rattle.pair_merge.proofs.Placing.{reached_start}
-use Rattle.pair_merge.proofs.Merging.{turn_room, turn_less, turn_greater, turn_both, turn_first, both_fall}
 use Rattle.pair_merge.proofs.merge.Given as goal
 
 abbrev pub invariant-loop-i : goal.invariant-loop-i

@@ -1,17 +1,10 @@
 -- `pair_merge::rest` meets its contract. The loop's invariant: what is still to come is the rest
 -- from point p on. Assumes nothing.
-use Prim.Native.Nat.{◌-◌, ◌<◌}
-use native.Mathlib.Omega.{arith}
-use lib.ListN.{length, drop}
+use lib.ListN.{drop}
 use Rattle.points.specs.Points.{corner_in}
 use Rattle.pair_points.specs.Points.{rest_of}
 use Rattle.pair_merge.specs.Putting.{points_in, Reached}
-use Rattle.pair_merge.proofs.Placing.{reached_start}
-use Rattle.pair_merge.proofs.Merging.{rest_room, rest_turn, rest_end}
 use Rattle.pair_merge.proofs.rest.Given as goal
 
 abbrev pub invariant-loop-p : goal.invariant-loop-p
-invariant-loop-p l = (l.p < length l.a) × Reached (rest_of (corner_in l.b l.j) (drop l.i (points_in l.a))) (rest_of (corner_in l.b l.j) (drop l.p (points_in l.a))) l.initial.out l.at l.out l.k
-
-abbrev pub decreases-loop-p : goal.decreases-loop-p
-decreases-loop-p l = length l.a - l.p
+invariant-loop-p l = Reached (rest_of (corner_in l.b l.j) (drop l.i (points_in l.a))) (rest_of (corner_in l.b l.j) (drop l.p (points_in l.a))) l.initial.out l.at l.out l.k

@@ -8,7 +8,6 @@ use Rattle.pair_points.specs.Points.{edge_at}
 use Rattle.pair_points.proofs.Turns.{second_last}
 use Rattle.pair_merge.specs.Putting.{points_in}
 use Rattle.pair_merge.proofs.Merging.{tie_broken}
-use borrow.Author.Rules.{rules}
 use Rattle.pair_merge.proofs.second_next.Goals as goal
 
 pub returns-then-i-a : goal.returns-then-i-a
