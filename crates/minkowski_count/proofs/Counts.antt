@@ -1,7 +1,7 @@
 -- Counting corners a pair and a row at a time: a merge fits the work buffer (`fits_work`); one more
 -- pair of a row, one more row (`row_turn`, `row_fits`, `all_turn`, `all_fits`), and their ends
 -- (`row_end`, `all_end`). Assumes nothing.
-use mathlib.Core.Path.{◌≡◌, sym, ◌∙◌, ap}
+use mathlib.Core.Path.{◌≡◌, ◌∙◌, ap}
 use mathlib.Core.List.{List, [], ◌∷◌, ◌++◌, flatten, append-nil}
 use Prim.Native.Nat.{ℕ, suc, ◌+◌, ◌≤◌, ◌<◌}
 use native.Mathlib.Omega.{arith}

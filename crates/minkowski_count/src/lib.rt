@@ -41,10 +41,8 @@ fn count_row(
     ensures { result ≡ length (flatten (merged_row_in firsts.now points.now left right p)) }
 {
     let mut total: usize = 0;
-    let mut q: usize = 0;
-    while q < right {
+    for q in 0..right {
         total += count_pair(firsts, points, left, right, p, q, work);
-        q += 1;
     }
     total
 }
@@ -56,10 +54,8 @@ pub fn count_all(firsts: &[u32], points: &[[i32; 2]], left: usize, right: usize)
 {
     let mut work = [0i32; corners::WIDTH * (2 * table::MAX_CONTOUR)];
     let mut total: usize = 0;
-    let mut p: usize = 0;
-    while p < left {
+    for p in 0..left {
         total += count_row(firsts, points, left, right, p, &mut work);
-        p += 1;
     }
     total
 }

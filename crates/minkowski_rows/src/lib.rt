@@ -75,10 +75,8 @@ fn append_row(
 {
     let count = left + right;
     let mut k = at;
-    let mut q: usize = 0;
-    while q < right {
+    for q in 0..right {
         k = append_one(firsts, points, count, p, left + q, starts, n + q, out, k);
-        q += 1;
     }
     k
 }
@@ -100,11 +98,9 @@ pub fn append_all(
     points::put_start(starts, 0, 0);
     let mut k: usize = 0;
     let mut n: usize = 0;
-    let mut p: usize = 0;
-    while p < left {
+    for p in 0..left {
         k = append_row(firsts, points, left, right, p, starts, n, out, k);
         n += right;
-        p += 1;
     }
     k
 }

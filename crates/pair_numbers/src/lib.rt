@@ -14,7 +14,7 @@ ghost use Rattle.pair_numbers.specs.Numbers.{number_of, NumbersOf, Numberable, N
 use std::cmp::Ordering;
 
 // Above the number of any edge: that of the last point.
-const LAST: u64 = 18446744073709551615;
+const LAST: u64 = u64::MAX;
 
 // The key of edge i, doubled.
 fn edge_number(a: &[[i32; 2]], i: usize) -> u64
@@ -49,10 +49,7 @@ fn number_of(a: &[[i32; 2]], i: usize, first: bool) -> u64
         return LAST;
     }
     let number = edge_number(a, i);
-    if first {
-        return number - mark(a, i);
-    }
-    number
+    if first { number - mark(a, i) } else { number }
 }
 
 // The numbers of all points of a walk.
@@ -60,10 +57,8 @@ fn put_numbers(a: &[[i32; 2]], first: bool, out: &mut [u64])
     requires { Mergeable a.now × (length a.now < 2 ^ 32) × (length out.old ≡ length a.now) }
     ensures { NumbersOf first out.new a.now }
 {
-    let mut i: usize = 0;
-    while i < a.len() {
-        out[i] = number_of(a, i, first);
-        i += 1;
+    for (i, number) in out.iter_mut().enumerate() {
+        *number = number_of(a, i, first);
     }
 }
 
@@ -81,12 +76,9 @@ pub fn number_walks(
     ensures numbered { let walks = walks_in firsts.now points.now (left + right) in
         NumberedTo (left + right) walks firsts.now numbers.new left }
 {
-    let all = left + right;
-    let mut n: usize = 0;
-    while n < all {
+    for n in 0..left + right {
         let from = firsts[n] as usize;
         let to = firsts[n + 1] as usize;
         put_numbers(&points[from..to], n < left, &mut numbers[from..to]);
-        n += 1;
     }
 }

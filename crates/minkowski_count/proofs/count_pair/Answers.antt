@@ -6,7 +6,6 @@ use Rattle.pair_walks.specs.Walks.{walk_in}
 use Rattle.pair_walks.proofs.Walks.{walk_short}
 use Rattle.pair_walks.proofs.Operands.{walks_enough}
 use Rattle.minkowski_count.proofs.Counts.{fits_work}
-use borrow.Author.Rules.{rules}
 use Rattle.minkowski_count.proofs.count_pair.Goals as goal
 
 pub overflow_add-left : goal.overflow_add-left

@@ -1,7 +1,5 @@
 -- `minkowski_rows::append_one` meets its contract: the contour is put, and the start after it.
 -- Assumes nothing.
-use borrow.Author.Rules.{rules}
-use Rattle.minkowski_rows.specs.Rows.{merged_in}
 use Rattle.minkowski_rows.proofs.Pairs.{pairs_one, one_room, one_small}
 use Rattle.minkowski_rows.proofs.append_one.Goals as goal
 
