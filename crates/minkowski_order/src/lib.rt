@@ -36,20 +36,9 @@ pub fn after(s: Place, left: usize, right: usize, k: usize) -> Place
     ensures { Onward left right 1 k s result }
 {
     let q = s.q + 1;
-    if q == right {
-        return Place {
-            p: s.p + 1,
-            q: 0,
-            n: s.n + 1,
-            k: k,
-        };
-    }
-    Place {
-        p: s.p,
-        q: q,
-        n: s.n + 1,
-        k: k,
-    }
+    let (p, q) = if q == right { (s.p + 1, 0) } else { (s.p, q) };
+    let n = s.n + 1;
+    Place { p, q, n, k }
 }
 
 // Two walks from i and j up to m and n, as a pair to be merged.
@@ -57,15 +46,12 @@ fn pair_from(i: usize, m: usize, j: usize, n: usize) -> Pair
     requires { (i ≤ m) × (m < 2 ^ 32) × (j ≤ n) × (n < 2 ^ 32) }
     ensures { result ≡ pair_from i m j n }
 {
-    if i == m {
-        return Pair { i: 0, j: 0, end: 0 };
-    }
-    if j == n {
+    if i == m || j == n {
         return Pair { i: 0, j: 0, end: 0 };
     }
     Pair {
-        i: i,
-        j: j,
+        i,
+        j,
         end: m + n - 2,
     }
 }
@@ -182,7 +168,7 @@ pub fn four_next(
         d: pair_next(firsts, points, numbers, left, right, v),
     };
     Next {
-        x: x,
+        x,
         s: after(v, left, right, k),
     }
 }

@@ -1,9 +1,8 @@
 -- The chain of two walks that lie in the buffers with their numbers (`Lies`): its corners are the
 -- walks merged, and its places are theirs (`chain_merged`). Assumes nothing.
-use mathlib.Core.Path.{◌≡◌, refl, sym, ◌∙◌, ap, ap₂, subst, subst₂}
-use mathlib.Core.Bool.{true, false}
-use mathlib.Core.List.{List, [], ◌∷◌}
-use Prim.Native.Nat.{ℕ, zero, suc, ◌+◌, ◌-◌, ◌≤◌, ◌<◌}
+use mathlib.Core.Path.{◌≡◌, sym, ◌∙◌, ap, ap₂, subst}
+use mathlib.Core.List.{List, ◌∷◌}
+use Prim.Native.Nat.{ℕ, zero, suc, ◌+◌, ◌≤◌, ◌<◌}
 use native.Mathlib.Omega.{arith}
 use borrow.Author.Tests.{ltb-true, ltb-false}
 use lib.Dec.{ltb}
@@ -15,8 +14,8 @@ use Rattle.plane.specs.Plane.{Pt, ◌+ᵖ◌}
 use Rattle.points.specs.Points.{corner_in}
 use Rattle.pair_points.specs.Points.{merged_of, Turning, nth_point}
 use Rattle.direction_keys.specs.Marks.{left_number, right_number, step_over, Close}
-use Rattle.direction_keys.proofs.Steps.{Stepped, keyed_step, keyed_end}
-use Rattle.pair_chains.specs.Chains.{left_after, right_after, chain, along, contour_from, Runs}
+use Rattle.direction_keys.proofs.Steps.{keyed_step, keyed_end}
+use Rattle.pair_chains.specs.Chains.{chain, along, contour_from}
 use Rattle.pair_chains.proofs.Chains.{chain_next, chain_end}
 
 -- the walk a lies from place f on, each point with its number

@@ -53,13 +53,6 @@ pub struct Four {
     pub d: usize,
 }
 
-// A test as a number.
-fn one_if(t: bool) -> usize
-    ensures { (result ≡ cond t 1 0) × (result ≤ 1) }
-{
-    t as usize
-}
-
 // One turn without a corner: the walk with the lesser number steps, and both where the numbers are
 // equal.
 fn step_on(numbers: &[u64], s: Lane) -> Lane
@@ -68,14 +61,13 @@ fn step_on(numbers: &[u64], s: Lane) -> Lane
         let j = right_after numbers.now s.i s.j in
         result ≡ record { i = i; j = j; k = s.k + 1 } }
 {
-    let i = s.i;
-    let j = s.j;
+    let Lane { i, j, k } = s;
     let a = numbers[i];
     let b = numbers[j];
     Lane {
-        i: i + one_if(a <= b),
-        j: j + one_if(b <= a),
-        k: s.k + 1,
+        i: i + usize::from(a <= b),
+        j: j + usize::from(b <= a),
+        k: k + 1,
     }
 }
 
@@ -91,10 +83,7 @@ fn step(points: &[[i32; 2]], numbers: &[u64], s: Lane, out: &mut [i32]) -> Lane
     ensures corner { let new = (corner_in points.now s.i +ᵖ corner_in points.now s.j) ∷ [] in
         CornersPut new out.old s.k out.new (s.k + 1) }
 {
-    let i = s.i;
-    let j = s.j;
-    let k = s.k;
-    pair_merge::put_sum(points, i, points, j, out, k);
+    pair_merge::put_sum(points, s.i, points, s.j, out, s.k);
     step_on(numbers, s)
 }
 
@@ -110,11 +99,7 @@ fn going(s: Lane, end: usize) -> bool
 fn start(x: Pair, k: usize) -> Lane
     ensures { result ≡ lane_of x k }
 {
-    Lane {
-        i: x.i,
-        j: x.j,
-        k: k,
-    }
+    Lane { i: x.i, j: x.j, k }
 }
 
 // A lane to its end; answers how many corners stand there then.
@@ -144,10 +129,7 @@ fn going_two(a: Lane, x: Pair, b: Lane, y: Pair) -> bool
     requires { Low a × Low b }
     ensures { result ≡ both_going a x b y }
 {
-    if going(a, x.end) {
-        return going(b, y.end);
-    }
-    false
+    going(a, x.end) && going(b, y.end)
 }
 
 // The same of two pairs side by side: the second's are put into a work buffer from its front on.
@@ -181,10 +163,7 @@ fn going_four(a: Lane, b: Lane, c: Lane, d: Lane, x: Pairs) -> bool
     requires { Low a × Low b × Low c × Low d }
     ensures { result ≡ cond (both_going a x.a b x.b) (both_going c x.c d x.d) false }
 {
-    if going_two(a, x.a, b, x.b) {
-        return going_two(c, x.c, d, x.d);
-    }
-    false
+    going_two(a, x.a, b, x.b) && going_two(c, x.c, d, x.d)
 }
 
 // The same of four pairs side by side: those of the second, the third and the fourth are put into
@@ -207,14 +186,10 @@ pub fn merge_four(
         × CornersPut (chain_contour p n x.c) wc.old 0 wc.new result.c
         × CornersPut (chain_contour p n x.d) wd.old 0 wd.new result.d }
 {
-    let p = x.a;
-    let q = x.b;
-    let r = x.c;
-    let s = x.d;
-    let mut a = start(p, at);
-    let mut b = start(q, 0);
-    let mut c = start(r, 0);
-    let mut d = start(s, 0);
+    let mut a = start(x.a, at);
+    let mut b = start(x.b, 0);
+    let mut c = start(x.c, 0);
+    let mut d = start(x.d, 0);
     'lanes: while going_four(a, b, c, d, x) {
         a = step(points, numbers, a, out);
         b = step(points, numbers, b, wb);
@@ -222,10 +197,10 @@ pub fn merge_four(
         d = step(points, numbers, d, wd);
     }
     Four {
-        a: finish(points, numbers, a, p.end, out),
-        b: finish(points, numbers, b, q.end, wb),
-        c: finish(points, numbers, c, r.end, wc),
-        d: finish(points, numbers, d, s.end, wd),
+        a: finish(points, numbers, a, x.a.end, out),
+        b: finish(points, numbers, b, x.b.end, wb),
+        c: finish(points, numbers, c, x.c.end, wc),
+        d: finish(points, numbers, d, x.d.end, wd),
     }
 }
 
@@ -259,14 +234,10 @@ pub fn count_four(numbers: &[u64], x: Pairs) -> Four
         × Countable numbers.now x.d }
     ensures { result ≡ four_lengths numbers.now x }
 {
-    let p = x.a;
-    let q = x.b;
-    let r = x.c;
-    let s = x.d;
-    let mut a = start(p, 0);
-    let mut b = start(q, 0);
-    let mut c = start(r, 0);
-    let mut d = start(s, 0);
+    let mut a = start(x.a, 0);
+    let mut b = start(x.b, 0);
+    let mut c = start(x.c, 0);
+    let mut d = start(x.d, 0);
     'lanes: while going_four(a, b, c, d, x) {
         a = step_on(numbers, a);
         b = step_on(numbers, b);
@@ -274,9 +245,9 @@ pub fn count_four(numbers: &[u64], x: Pairs) -> Four
         d = step_on(numbers, d);
     }
     Four {
-        a: count_on(numbers, a, p.end),
-        b: count_on(numbers, b, q.end),
-        c: count_on(numbers, c, r.end),
-        d: count_on(numbers, d, s.end),
+        a: count_on(numbers, a, x.a.end),
+        b: count_on(numbers, b, x.b.end),
+        c: count_on(numbers, c, x.c.end),
+        d: count_on(numbers, d, x.d.end),
     }
 }

@@ -1,10 +1,10 @@
 -- `pair_chains::count_on` meets its contract. The loop's invariant: what is counted and what is
 -- still to be counted is the whole. Assumes nothing.
-use mathlib.Core.Path.{refl, sym, ◌∙◌}
-use Prim.Native.Nat.{◌+◌, ◌-◌}
+use mathlib.Core.Path.{sym, ◌∙◌}
+use Prim.Native.Nat.{◌+◌}
 use lib.ListN.{length}
 use Rattle.pair_chains.specs.Chains.{chain}
-use Rattle.pair_chains.proofs.Lanes.{of_less, Counting, counting_low, counting_turn, counting_next, counting_end}
+use Rattle.pair_chains.proofs.Lanes.{counting_turn, counting_next, counting_end}
 use Rattle.pair_chains.proofs.count_on.Goals as goal
 
 pub step_on-a-requires : goal.step_on-a-requires

@@ -1,10 +1,9 @@
 -- `pair_chains::count_on` meets its contract. The loop's invariant: what is counted and what is
 -- still to be counted is the whole. Assumes nothing.
-use mathlib.Core.Path.{refl, sym, ◌∙◌}
 use Prim.Native.Nat.{◌+◌, ◌-◌}
 use lib.ListN.{length}
 use Rattle.pair_chains.specs.Chains.{chain}
-use Rattle.pair_chains.proofs.Lanes.{of_less, Counting, counting_low, counting_turn, counting_next, counting_end}
+use Rattle.pair_chains.proofs.Lanes.{Counting}
 use Rattle.pair_chains.proofs.count_on.Given as goal
 
 abbrev pub invariant-loop-a : goal.invariant-loop-a

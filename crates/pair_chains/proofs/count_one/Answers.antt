@@ -1,8 +1,4 @@
 -- `pair_chains::count_one` meets its contract: its lane from its start to its end. Assumes nothing.
-use mathlib.Core.Path.{◌∙◌}
-use borrow.Author.Rules.{rules}
-use lib.ListN.{length}
-use Rattle.pair_chains.specs.Chains.{chain_of}
 use Rattle.pair_chains.proofs.Lanes.{counting_rest, count_small, counting_start}
 use Rattle.pair_chains.proofs.count_one.Goals as goal
 

@@ -1,12 +1,9 @@
 -- `pair_chains::finish` meets its contract. The loop's invariant: where the lane stands. Assumes
 -- nothing.
-use mathlib.Core.Path.{◌≡◌, sym, ◌∙◌}
-use Prim.Native.Nat.{◌+◌, ◌-◌}
-use native.Mathlib.Omega.{arith}
+use mathlib.Core.Path.{sym, ◌∙◌}
+use Prim.Native.Nat.{◌+◌}
 use borrow.Author.Tests.{ltb-true, ltb-false}
-use lib.ListN.{length}
-use Rattle.pair_chains.specs.Chains.{contour_from}
-use Rattle.pair_chains.proofs.Chains.{onward, runs_next, Stands, stands_start, stands_room, stands_next, stands_end, lane_less}
+use Rattle.pair_chains.proofs.Chains.{runs_next, stands_room, stands_next, stands_end}
 use Rattle.pair_chains.proofs.finish.Goals as goal
 
 pub step-a-requires : goal.step-a-requires

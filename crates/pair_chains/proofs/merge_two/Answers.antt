@@ -1,10 +1,6 @@
 -- `pair_chains::merge_two` meets its contract. The loop's invariant: where each lane stands.
 -- Assumes nothing.
-use Prim.Native.Nat.{◌+◌, ◌-◌, ◌<◌}
-use native.Mathlib.Omega.{arith}
-use borrow.Author.Rules.{rules}
-use mathlib.Core.Path.{◌∙◌}
-use Rattle.pair_chains.proofs.Lanes.{two_going, Of, of_start, of_low, of_turn, of_next, of_less, of_rest, of_done}
+use Rattle.pair_chains.proofs.Lanes.{two_going, of_turn, of_next}
 use Rattle.pair_chains.proofs.merge_two.Goals as goal
 
 pub step-a-requires : goal.step-a-requires

@@ -1,10 +1,7 @@
 -- `pair_chains::merge_two` meets its contract. The loop's invariant: where each lane stands.
 -- Assumes nothing.
-use Prim.Native.Nat.{◌+◌, ◌-◌, ◌<◌}
-use native.Mathlib.Omega.{arith}
-use borrow.Author.Rules.{rules}
-use mathlib.Core.Path.{◌∙◌}
-use Rattle.pair_chains.proofs.Lanes.{two_going, Of, of_start, of_low, of_turn, of_next, of_less, of_rest, of_done}
+use Prim.Native.Nat.{◌+◌, ◌-◌}
+use Rattle.pair_chains.proofs.Lanes.{Of}
 use Rattle.pair_chains.proofs.merge_two.Given as goal
 
 abbrev pub invariant-lanes : goal.invariant-lanes
