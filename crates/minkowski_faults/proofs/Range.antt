@@ -99,8 +99,11 @@ pub coordinate_add_fits : {x y : ℤ} → Coordinate x → Coordinate y → SFit
 coordinate_add_fits h k = fits w32 (1073741823 ∷ 1073741823 ∷ []) (λ x y. x :+ y) tt _ h _ k
 
 module _ {a b : ℤ} (h : Coordinate a) (k : Coordinate b) where
-  pub held_both : Coordinate (held a) × Coordinate (held b)
-  held_both = rw (kept (coordinate_fits h), kept (coordinate_fits k)) (h, k)
+  pub fits_sum : SFits w32 (held a +ℤ held b)
+  fits_sum = rw (kept (coordinate_fits h), kept (coordinate_fits k)) (coordinate_add_fits h k)
+
+  pub fits_difference : SFits w32 (held a -ℤ held b)
+  fits_difference = rw (kept (coordinate_fits h), kept (coordinate_fits k)) (coordinate_sub_fits h k)
 
   pub held_sum : {r : ℤ} → r ≡ held a +ℤ held b → held r ≡ a +ℤ b
   held_sum e = let f = rw (kept (coordinate_fits h), kept (coordinate_fits k)) at e in rw f (kept (coordinate_add_fits h k))

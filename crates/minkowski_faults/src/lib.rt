@@ -4,9 +4,8 @@
 // minkowski's definitions.
 #![tactic(auto)]
 
-ghost use Rattle.std.specs.Prelude.{◌≡◌, false, ◌++◌, ◌∷◌, [], eqb, ◌+ℤ◌, ◌-ℤ◌};
+ghost use Rattle.std.specs.Prelude.{◌≡◌, false, ◌++◌, ◌∷◌, [], eqb};
 ghost use Rattle.integers.specs.Faults.{first_fault, fault_empty, fault_result};
-ghost use Rattle.plane.specs.Machine.{Coordinate};
 ghost use Rattle.corners.specs.Corners.{off_range};
 ghost use Rattle.table.specs.Table.{bounds_list, part_count};
 ghost use Rattle.minkowski.specs.Pairs.{result_bounds};
@@ -14,30 +13,25 @@ ghost use Rattle.minkowski_faults.specs.Kinds.{operand, operand_kinds};
 
 use table::IntRect;
 
+// Whether one of two numbers is not strictly between the limits.
+fn either_off(a: i32, b: i32) -> bool
+    ensures { result ≡ off_range (a ∷ b ∷ []) }
+{
+    !plane::in_range(a) || !plane::in_range(b)
+}
+
 // Whether some bound is not strictly between the limits.
 fn bounds_off(b: IntRect) -> bool
     ensures { result ≡ off_range (bounds_list b) }
 {
-    if !plane::in_range(b.min_x) {
-        return true;
-    }
-    if !plane::in_range(b.max_x) {
-        return true;
-    }
-    if !plane::in_range(b.min_y) {
-        return true;
-    }
-    !plane::in_range(b.max_y)
+    either_off(b.min_x, b.max_x) || either_off(b.min_y, b.max_y)
 }
 
 // Whether some coordinate or bound of an operand is not strictly between the limits.
 fn operand_off(corners: &[i32], bounds: IntRect) -> bool
     ensures { result ≡ off_range (corners.now ++ bounds_list bounds) }
 {
-    if corners::off_range(corners) {
-        return true;
-    }
-    bounds_off(bounds)
+    corners::off_range(corners) || bounds_off(bounds)
 }
 
 // The first of 7, 2 and 9 that holds of two operands, each left before right; 0 for none.
@@ -53,41 +47,20 @@ pub fn operands_fault(
         let right = operand right_starts.now right_corners.now right_bounds in
         result ≡ first_fault (operand_kinds left right) }
 {
-    if table::rules_broken(left_starts, left_corners) {
+    if table::rules_broken(left_starts, left_corners)
+        || table::rules_broken(right_starts, right_corners)
+    {
         return integers::fault::RULES;
     }
-    if table::rules_broken(right_starts, right_corners) {
-        return integers::fault::RULES;
-    }
-    if operand_off(left_corners, left_bounds) {
+    if operand_off(left_corners, left_bounds) || operand_off(right_corners, right_bounds) {
         return integers::fault::RANGE;
     }
-    if operand_off(right_corners, right_bounds) {
-        return integers::fault::RANGE;
-    }
-    if table::bounds_broken(left_bounds, left_corners) {
-        return integers::fault::BOUNDS;
-    }
-    if table::bounds_broken(right_bounds, right_corners) {
+    if table::bounds_broken(left_bounds, left_corners)
+        || table::bounds_broken(right_bounds, right_corners)
+    {
         return integers::fault::BOUNDS;
     }
     0
-}
-
-// a + b, of coordinates.
-fn add(a: i32, b: i32) -> i32
-    requires { Coordinate a × Coordinate b }
-    ensures { result ≡ a +ℤ b }
-{
-    a + b
-}
-
-// a - b, of coordinates.
-fn subtract(a: i32, b: i32) -> i32
-    requires { Coordinate a × Coordinate b }
-    ensures { result ≡ a -ℤ b }
-{
-    a - b
 }
 
 // The bounds of a sum: least with least, greatest with greatest; of a difference: left least less
@@ -97,18 +70,19 @@ pub fn result_bounds(left: IntRect, right: IntRect, reflected: bool) -> IntRect
     ensures { result ≡ result_bounds reflected left right }
 {
     if reflected {
-        return IntRect {
-            min_x: subtract(left.min_x, right.max_x),
-            max_x: subtract(left.max_x, right.min_x),
-            min_y: subtract(left.min_y, right.max_y),
-            max_y: subtract(left.max_y, right.min_y),
-        };
-    }
-    IntRect {
-        min_x: add(left.min_x, right.min_x),
-        max_x: add(left.max_x, right.max_x),
-        min_y: add(left.min_y, right.min_y),
-        max_y: add(left.max_y, right.max_y),
+        IntRect {
+            min_x: left.min_x - right.max_x,
+            max_x: left.max_x - right.min_x,
+            min_y: left.min_y - right.max_y,
+            max_y: left.max_y - right.min_y,
+        }
+    } else {
+        IntRect {
+            min_x: left.min_x + right.min_x,
+            max_x: left.max_x + right.max_x,
+            min_y: left.min_y + right.min_y,
+            max_y: left.max_y + right.max_y,
+        }
     }
 }
 
@@ -124,10 +98,7 @@ pub fn result_fault(bounds: IntRect, left_starts: &[u32], right_starts: &[u32]) 
     if bounds_off(bounds) {
         return integers::fault::RESULT;
     }
-    if left_starts.len() <= 1 {
-        return integers::fault::EMPTY;
-    }
-    if right_starts.len() <= 1 {
+    if left_starts.len() <= 1 || right_starts.len() <= 1 {
         return integers::fault::EMPTY;
     }
     0

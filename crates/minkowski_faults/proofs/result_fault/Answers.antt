@@ -6,12 +6,11 @@ use Prim.Native.Nat.{ℕ, ◌≤◌, ◌<◌}
 use lib.Dec.{eqb}
 use lib.ListN.{length}
 use Rattle.integers.specs.Faults.{Kind, first_fault}
-use Rattle.corners.specs.Corners.{off_range}
-use Rattle.table.specs.Table.{bounds_list, part_count}
+use Rattle.table.specs.Table.{part_count}
 use Rattle.integers.proofs.Faults.{first_this, first_next, first_empty}
 use Rattle.minkowski_faults.proofs.Range.{no_parts, some_parts}
-use borrow.Author.Rules.{rules}
 use Rattle.minkowski_faults.proofs.result_fault.Goals as goal
+use Rattle.minkowski_faults.proofs.result_fault.Goals.{then-left_starts-le1-via-then-left_starts-le1, then-left_starts-le1-via-else-left_starts-le1+then-right_starts-le1}
 
 -- past the range's test t
 module _ {t : Bool} (l r : List ℕ) (e : t ≡ false) where
@@ -32,10 +31,13 @@ pub returns-then-bounds_off : goal.returns-then-bounds_off
 returns-then-bounds_off c = sym (first_this 10 _ (sym c.bounds_off.ensures ∙ c.if-bounds_off.true))
 
 pub returns-then-left_starts-le1 : goal.returns-then-left_starts-le1
-returns-then-left_starts-le1 c = left_empty c.args.left_starts.now c.args.right_starts.now (sym c.bounds_off.ensures ∙ c.if-bounds_off.false) c.if-left_starts-le1.true
-
-pub returns-then-right_starts-le1 : goal.returns-then-right_starts-le1
-returns-then-right_starts-le1 c = right_empty c.args.left_starts.now c.args.right_starts.now (sym c.bounds_off.ensures ∙ c.if-bounds_off.false) c.if-left_starts-le1.false c.if-right_starts-le1.true
+returns-then-left_starts-le1 c = let l = c.args.left_starts.now in
+    let r = c.args.right_starts.now in
+    let e = sym c.bounds_off.ensures ∙ c.if-bounds_off.false in
+    elim c.then-left_starts-le1.branch [
+      | then-left_starts-le1-via-then-left_starts-le1 w ↦ left_empty l r e w.if-left_starts-le1.true
+      | then-left_starts-le1-via-else-left_starts-le1+then-right_starts-le1 w ↦ right_empty l r e w.if-left_starts-le1.false w.if-right_starts-le1.true
+    ]
 
 pub returns : goal.returns
 returns c = accepted c.args.left_starts.now c.args.right_starts.now (sym c.bounds_off.ensures ∙ c.if-bounds_off.false) c.if-left_starts-le1.false c.if-right_starts-le1.false
