@@ -12,11 +12,9 @@ use split::ConvexSplitStrategy;
 pub fn strategy(n: u32) -> ConvexSplitStrategy
     ensures { result ≡ strategy_of n }
 {
-    if n == 0 {
-        return ConvexSplitStrategy::EarClipping;
+    match n {
+        0 => ConvexSplitStrategy::EarClipping,
+        1 => ConvexSplitStrategy::Fan,
+        _ => ConvexSplitStrategy::Centroid,
     }
-    if n == 1 {
-        return ConvexSplitStrategy::Fan;
-    }
-    ConvexSplitStrategy::Centroid
 }

@@ -1,19 +1,18 @@
 -- A file's records as rows. In order: a word's bits; a row by its nine numbers; a record more; the
--- rows read, one more and all; the file's mesh. Assumes nothing.
+-- rows read, one more; the file's mesh. Assumes nothing.
 use mathlib.Core.Path.{◌≡◌, refl, sym, ◌∙◌, ap}
-use mathlib.Core.List.{List, [], ◌∷◌, ◌++◌, map, map-append}
+use mathlib.Core.List.{List, [], ◌∷◌, ◌++◌, map-append}
 use Prim.Native.Nat.{ℕ, zero, suc, ◌+◌, ◌*◌, ◌^◌, ◌<◌}
 use native.Mathlib.Numerals.{add-one}
 use native.Mathlib.Omega.{arith}
 use lib.IntN.{ℤ}
 use lib.ListN.{length, take, drop, get_or, set}
-use lib.Seq.{get_or-drop, drop-drop, take-suc-set, take-length}
+use lib.Seq.{get_or-drop, drop-drop, take-suc-set}
 use mir.Syntax.{w32}
 use mir.ValLaws.{of_z-to_z}
 use Rattle.integers.specs.Word.{unsigned}
-use Rattle.mesh.specs.Mesh.{Triangle}
 use Rattle.mesh.specs.Rows.{row_width, row_triangle, rows_mesh}
-use Rattle.table.specs.Stored.{words_of, word_at, signed}
+use Rattle.table.specs.Stored.{words_of, signed}
 use Rattle.listing.specs.File.{triangle_count, record_of, records_of, mesh_of}
 
 -- the bits of a word read with a sign are the word
@@ -69,9 +68,6 @@ module _ (ws : List ℕ) (rows : List (List ℤ)) where
   unfolding rows_mesh
   row_more {k} h p v q =
       rw (add-one, take-suc-set rows k v h, map-append, q, records_more k ws) (ap (λ l. l ++ (record_of (drop (row_width * k) ws) ∷ [])) p)
-
-  pub rows_all : {n k : ℕ} → k ≡ n → length rows ≡ n → rows_mesh (take k rows) ≡ records_of k ws → rows_mesh rows ≡ records_of n ws
-  rows_all e l p = sym (ap (λ m. rows_mesh (take m rows)) (e ∙ sym l) ∙ ap rows_mesh (take-length rows)) ∙ p ∙ ap (λ m. records_of m ws) e
 
 -- ---- the file's mesh: the records of the bytes past the header
 

@@ -52,17 +52,11 @@ fn header_broken(bytes: &[u8]) -> bool
     requires { 20 ≤ length bytes.now }
     ensures { result ≡ header_broken bytes.now }
 {
-    if word_at(bytes, 2) as usize != HEADER {
-        return true;
-    }
-    if word_at(bytes, 4) > LAST_SPLIT {
-        return true;
-    }
     let total = word_at(bytes, 0) as usize;
-    if total != HEADER + ROW_BYTES * (triangle_count(bytes) as usize) {
-        return true;
-    }
-    total != bytes.len()
+    word_at(bytes, 2) as usize != HEADER
+        || word_at(bytes, 4) > LAST_SPLIT
+        || total != HEADER + ROW_BYTES * (triangle_count(bytes) as usize)
+        || total != bytes.len()
 }
 
 // The fault of a file before its mesh is judged: 13 for less than a header, 1, then 13; 0 for none.
@@ -114,9 +108,7 @@ pub fn read_rows(bytes: &[u8], rows: &mut [Row])
     requires { row_bytes * length rows.old ≤ length bytes.now }
     ensures { rows_mesh rows.new ≡ records_of (length rows.old) (words_of bytes.now) }
 {
-    let mut k = 0;
-    while k < rows.len() {
-        rows[k] = row_at(bytes, k);
-        k += 1;
+    for (k, row) in rows.iter_mut().enumerate() {
+        *row = row_at(bytes, k);
     }
 }

@@ -1,6 +1,7 @@
 -- `listing::strategy` meets its contract: the three cases of its definition. Assumes nothing.
 use mathlib.Core.Path.{◌≡◌, refl, sym, ◌∙◌, ap}
 use Prim.Native.Nat.{ℕ, zero, suc}
+use native.Mathlib.Omega.{arith}
 use Rattle.split.specs.declared.ConvexSplitStrategy.TheVariants.{EarClipping, Fan, Centroid}
 use Rattle.listing.specs.File.{strategy_of}
 use Rattle.listing.proofs.strategy.Goals as goal
@@ -20,11 +21,11 @@ centroid zero a b = absurd (a refl)
 centroid (suc zero) a b = absurd (b refl)
 centroid (suc (suc n)) a b = refl
 
-pub returns-then-n-eq0 : goal.returns-then-n-eq0
-returns-then-n-eq0 c = ear ∙ ap strategy_of (sym c.if-n-eq0.true)
+pub returns-in-0 : goal.returns-in-0
+returns-in-0 c = ear ∙ ap strategy_of (sym c.in-0.is)
 
-pub returns-then-n-eq1 : goal.returns-then-n-eq1
-returns-then-n-eq1 c = fan ∙ ap strategy_of (sym c.if-n-eq1.true)
+pub returns-in-1 : goal.returns-in-1
+returns-in-1 c = fan ∙ ap strategy_of (sym c.in-1.is)
 
-pub returns : goal.returns
-returns c = centroid _ c.if-n-eq0.false c.if-n-eq1.false
+pub returns-in_default : goal.returns-in_default
+returns-in_default c = centroid _ (λ e. omega (arith, e)) (λ e. omega (arith, e))

@@ -1,6 +1,5 @@
 -- `mesh_file::header_fault` meets its contract: the kinds in their order. Assumes nothing.
 use Rattle.mesh_file.proofs.Header.{no_header, too_many, broken_header, sound_header}
-use borrow.Author.Rules.{rules}
 use Rattle.mesh_file.proofs.header_fault.Goals as goal
 
 pub returns-then-bytes-lt-HEADER : goal.returns-then-bytes-lt-HEADER

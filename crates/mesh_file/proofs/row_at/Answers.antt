@@ -4,7 +4,6 @@ use mir.Syntax.{w32}
 use Rattle.integers.proofs.Bits.{got}
 use Rattle.table.specs.Stored.{words_of}
 use Rattle.mesh_file.proofs.Records.{row_record}
-use borrow.Author.Rules.{rules}
 use Rattle.mesh_file.proofs.row_at.Goals as goal
 
 pub returns : goal.returns
