@@ -1,8 +1,11 @@
--- The wedges of a contour at its first corner, added so that they wrap: one term (`wraps_up`,
--- `wraps_down`), the sum so far (`Fanning`) at the start, after a turn and at the end, where it is
--- the doubled area (`fanning_end`). Assumes nothing.
-use Rattle.std.proofs.Common.{◌≡◌, ℕ, suc, ◌+◌, ◌*◌, ◌/◌, ◌%◌, ◌^◌, ◌<◌, ◌≤◌, true, false, List, [], ◌∷◌, length, get_or, drop, ℤ, pos, ◌+ℤ◌, ◌*ℤ◌, neg_ℤ, nat_abs, sym, refl, ap, ◌∙◌, div-add-mod', add-one, arith, length-drop, drop-cons}
-use lib.Signed.{le_z, lt_z}
+-- The wedges of a contour at its first corner, added so that they wrap: one term (`wraps`), the
+-- sum so far (`Fanning`) at the start, after a turn and at the end, where it is the doubled area
+-- (`fanning_end`). Assumes nothing.
+use Rattle.std.proofs.Common.{◌≡◌, ℕ, suc, ◌+◌, ◌*◌, ◌/◌, ◌%◌, ◌^◌, ◌<◌, ◌≤◌, true, List, [], ◌∷◌, length, get_or, drop, ℤ, pos, ◌+ℤ◌, ◌*ℤ◌, neg_ℤ, nat_abs, sym, refl, ap, ◌∙◌, div-add-mod', add-one, arith, length-drop, drop-cons}
+use lib.Signed.{le_z, mag}
+use lib.IntN.{negsuc}
+use mir.Syntax.{w64}
+use mir.Val.{of_z}
 use Rattle.integers.specs.Lists.{sumℤ, links, neighbours}
 use Rattle.integers.proofs.Ring.{con, ◌:+◌, ◌:≡◌, pt, ring}
 use Rattle.integers.proofs.Order.{zarith, add_parts, mul_parts, neg_parts}
@@ -17,29 +20,30 @@ use Rattle.listing_areas.specs.Areas.{Wraps}
 
 -- ---- one term
 
--- t + n = (t + n) % W + (t + n) / W · W
-pub wraps_up : (t : ℕ) (z : ℤ) {n r : ℕ} → n ≡ nat_abs z → lt_z z (pos 0) ≡ false → r ≡ (t + n) % 2 ^ 64 → Wraps (pos t +ℤ z) r
-wraps_up t z {n} {r} e h p = record {
-  turns = neg_ℤ (pos ((t + n) / 2 ^ 64));
-  same = of t z ((t + n) / 2 ^ 64) e h (div-add-mod' (t + n) (2 ^ 64)) p;
+-- t + m = (t + m) % W + (t + m) / W · W, where m is z, or z and a turn
+pub wraps : (t : ℕ) (z : ℤ) {m r : ℕ} → mag z < 2 ^ 63 → m ≡ of_z w64 z → r ≡ (t + m) % 2 ^ 64 → Wraps (pos t +ℤ z) r
+wraps t (pos n) {m} {r} h e p = record {
+  turns = neg_ℤ (pos ((t + m) / 2 ^ 64));
+  same = of ((t + m) / 2 ^ 64) (div-add-mod' (t + m) (2 ^ 64)) p e;
 }
   where
-    of : (t : ℕ) (z : ℤ) {n r : ℕ} (q : ℕ) → n ≡ nat_abs z → lt_z z (pos 0) ≡ false → q * 2 ^ 64 + (t + n) % 2 ^ 64 ≡ t + n → r ≡ (t + n) % 2 ^ 64
-        → pos r ≡ (pos t +ℤ z) +ℤ neg_ℤ (pos q) *ℤ pos (2 ^ 64)
-    of t z q e h d p =
-        omega (zneeds, h, abs_parts z, add_parts (pos t) z, add_parts (pos t +ℤ z) (neg_ℤ (pos q) *ℤ pos (2 ^ 64)), mul_parts (neg_ℤ (pos q)) (pos (2 ^ 64)), neg_parts (pos q))
-
--- r + n = t + (r + n) / W · W
-pub wraps_down : {t : ℕ} (z : ℤ) {n r : ℕ} → n ≡ nat_abs z → lt_z z (pos 0) ≡ true → (r + n) % 2 ^ 64 ≡ t → Wraps (pos t +ℤ z) r
-wraps_down {t} z {n} {r} e h p = record {
-  turns = pos ((r + n) / 2 ^ 64);
-  same = of z r ((r + n) / 2 ^ 64) e h (div-add-mod' (r + n) (2 ^ 64)) p;
+    of : (q : ℕ) → q * 2 ^ 64 + (t + m) % 2 ^ 64 ≡ t + m → r ≡ (t + m) % 2 ^ 64 → m ≡ n → pos r ≡ (pos t +ℤ pos n) +ℤ neg_ℤ (pos q) *ℤ pos (2 ^ 64)
+    of q d p e = omega (zarith, add_parts (pos t) (pos n), add_parts (pos t +ℤ pos n) (neg_ℤ (pos q) *ℤ pos (2 ^ 64)), mul_parts (neg_ℤ (pos q)) (pos (2 ^ 64)), neg_parts (pos q))
+wraps t (negsuc n) {m} {r} h e p = record {
+  turns = pos 1 +ℤ neg_ℤ (pos ((t + m) / 2 ^ 64));
+  same = of ((t + m) / 2 ^ 64) (div-add-mod' (t + m) (2 ^ 64)) p (omega (arith, e, h));
 }
   where
-    of : {t : ℕ} (z : ℤ) {n : ℕ} (r q : ℕ) → n ≡ nat_abs z → lt_z z (pos 0) ≡ true → q * 2 ^ 64 + (r + n) % 2 ^ 64 ≡ r + n → (r + n) % 2 ^ 64 ≡ t
-        → pos r ≡ (pos t +ℤ z) +ℤ pos q *ℤ pos (2 ^ 64)
-    of {t} z r q e h d p =
-        omega (zneeds, h, abs_parts z, add_parts (pos t) z, add_parts (pos t +ℤ z) (pos q *ℤ pos (2 ^ 64)), mul_parts (pos q) (pos (2 ^ 64)))
+    of : (q : ℕ) → q * 2 ^ 64 + (t + m) % 2 ^ 64 ≡ t + m → r ≡ (t + m) % 2 ^ 64 → m + suc n ≡ 2 ^ 64 → pos r ≡ (pos t +ℤ negsuc n) +ℤ (pos 1 +ℤ neg_ℤ (pos q)) *ℤ pos (2 ^ 64)
+    of q d p e =
+        omega (
+          zarith,
+          add_parts (pos t) (negsuc n),
+          add_parts (pos t +ℤ negsuc n) ((pos 1 +ℤ neg_ℤ (pos q)) *ℤ pos (2 ^ 64)),
+          mul_parts (pos 1 +ℤ neg_ℤ (pos q)) (pos (2 ^ 64)),
+          add_parts (pos 1) (neg_ℤ (pos q)),
+          neg_parts (pos q),
+        )
 
 -- ---- the sum so far
 

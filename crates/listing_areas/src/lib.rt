@@ -4,29 +4,17 @@
 // wide_divide, wide, walk_read and table_shown (a corner and a part of lent numbers) and plane.
 #![tactic(auto)]
 
-ghost use Rattle.std.specs.Prelude.{◌≡◌, ◌+◌, ◌<◌, ◌≤◌, false, [], length, pos, ◌+ℤ◌, slice_index_or};
+ghost use Rattle.std.specs.Prelude.{◌≡◌, ◌+◌, ◌<◌, ◌≤◌, false, [], length, slice_index_or};
 ghost use Rattle.plane.specs.Plane.{area_two};
 ghost use Rattle.plane.specs.Machine.{CrossSize};
 ghost use Rattle.corners.specs.Corners.{points_of, off_range};
 ghost use Rattle.table.specs.Table.{table_parts, part_count};
 ghost use Rattle.pair.specs.Walk.{corner_at};
 ghost use Rattle.listing.specs.Listing.{area_of, total_area, share_of};
-ghost use Rattle.listing_areas.specs.Areas.{Wraps, Measurable, Listable};
+ghost use Rattle.listing_areas.specs.Areas.{Measurable, Listable};
 
 // A share is in ten-thousandths of the total.
 pub const SHARES: u32 = 10000;
-
-// total + term, which may wrap.
-fn add_wrapped(total: u64, term: i64) -> u64
-    requires { CrossSize term }
-    ensures { Wraps (pos total +ℤ term) result }
-{
-    let size = wide::absolute(term);
-    if term < 0 {
-        return std::num::wrapping_sub_u64(total, size);
-    }
-    std::num::wrapping_add_u64(total, size)
-}
 
 // The doubled area of the triangle of the first corner, corner i and the one after it.
 fn wedge(corners: &[i32], i: usize) -> i64
@@ -48,10 +36,8 @@ pub fn part_area(corners: &[i32]) -> u64
 {
     let n = corners::corner_count(corners);
     let mut total: u64 = 0;
-    let mut i: usize = 1;
-    while i + 1 < n {
-        total = add_wrapped(total, wedge(corners, i));
-        i += 1;
+    for i in 1..n.saturating_sub(1) {
+        total = total.wrapping_add_signed(wedge(corners, i));
     }
     total
 }
@@ -71,10 +57,8 @@ pub fn total_area(starts: &[u32], corners: &[i32]) -> u64
 {
     let parts = starts.len() - 1;
     let mut total: u64 = 0;
-    let mut k: usize = 0;
-    while k < parts {
+    for k in 0..parts {
         total += area_at(starts, corners, k);
-        k += 1;
     }
     total
 }

@@ -1,6 +1,6 @@
 -- `listing_areas::total_area` meets its contract. The loop's invariant: the areas added and those
--- of the parts left make the total; the measure is how many are left. Assumes nothing.
-use Rattle.std.proofs.Common.{◌≡◌, ℕ, ◌+◌, ◌-◌, ◌^◌, ◌<◌, ◌≤◌, List, [], get_or, drop, ℤ, arith}
+-- of the parts left make the total. Assumes nothing.
+use Rattle.std.proofs.Common.{◌≡◌, ℕ, ◌+◌, ◌^◌, ◌<◌, List, [], get_or, drop, ℤ, arith}
 use Rattle.table.specs.Table.{table_parts, part_count}
 use Rattle.table.proofs.Rules.{sound, count_parts}
 use Rattle.listing.specs.Listing.{area_of, total_area}
@@ -19,10 +19,10 @@ pub overflow_sub-parts : goal.overflow_sub-parts
 overflow_sub-parts c = omega (arith, (sound _ _ c.requires.whole).some)
 
 pub overflow_add-total : goal.overflow_add-total
-overflow_add-total c = record { fits = omega (arith, (turn _ c.requires (omega (arith, c.loop-k-test.true)) c.area_at-total.ensures c.loop-k.invariant.1).1) }
+overflow_add-total c = record { fits = omega (arith, (turn _ c.requires c.loop-k-test.true c.area_at-total.ensures c.loop-k.invariant).1) }
 
 pub loop-k-preserved : goal.loop-k-preserved
-loop-k-preserved c = (omega (arith, c.loop-k-test.true), (turn _ c.requires (omega (arith, c.loop-k-test.true)) c.area_at-total.ensures c.loop-k.invariant.1).0)
+loop-k-preserved c = (turn _ c.requires c.loop-k-test.true c.area_at-total.ensures c.loop-k.invariant).0
 
 pub returns : goal.returns
-returns c = omega (arith, c.loop-k.invariant.1, totals_end (table_parts c.args.starts.now c.args.corners.now) c.loop-k.k (omega (arith, c.loop-k-test.false, count_parts _ _ c.requires.whole)))
+returns c = omega (arith, c.loop-k.invariant, totals_end (table_parts c.args.starts.now c.args.corners.now) c.loop-k.k (omega (arith, c.loop-k-test.false, count_parts _ _ c.requires.whole)))

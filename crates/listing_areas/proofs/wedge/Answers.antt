@@ -1,8 +1,5 @@
 -- `listing_areas::wedge` meets its contract: the three corners by their places. Assumes nothing.
-use Rattle.std.proofs.Common.{◌+◌, sym, ◌∙◌, subst, arith, w64}
-use Rattle.integers.proofs.Bits.{got}
-use Rattle.plane.specs.Plane.{area_two}
-use Rattle.plane.specs.Machine.{CrossSize}
+use Rattle.std.proofs.Common.{◌+◌, arith}
 use Rattle.corners.proofs.Corners.{length_points}
 use Rattle.walk_read.proofs.Grid.{grid_at}
 use Rattle.listing_areas.proofs.wedge.Goals as goal
