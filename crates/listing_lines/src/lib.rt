@@ -65,10 +65,8 @@ pub fn put_listing(starts: &[u32], corners: &[i32], out: &mut [u8]) -> usize
     let total = listing_areas::total_area(starts, corners);
     let parts = starts.len() - 1;
     let mut at = put_head(starts, corners, total, out);
-    let mut k: usize = 0;
-    while k < parts {
+    for k in 0..parts {
         at = put_line(starts, corners, k, total, out, at);
-        k += 1;
     }
     at
 }

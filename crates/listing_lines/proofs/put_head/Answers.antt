@@ -1,6 +1,5 @@
 -- `listing_lines::put_head` meets its contract: four pieces, one after another. Assumes nothing.
 use native.Mathlib.Omega.{arith}
-use borrow.Author.Rules.{rules}
 use Rattle.table.proofs.Rules.{sound}
 use Rattle.listing_lines.proofs.Putting.{putting_room, putting_step, putting_end}
 use Rattle.listing_lines.proofs.Lines.{head_start}

@@ -1,5 +1,4 @@
 -- `listing_lines::put_line` meets its contract: the part shown is part k. Assumes nothing.
-use borrow.Author.Rules.{rules}
 use Rattle.listing_lines.proofs.Lines.{part_room, part_put}
 use Rattle.listing_lines.proofs.put_line.Goals as goal
 

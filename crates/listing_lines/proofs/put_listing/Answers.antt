@@ -1,13 +1,10 @@
 -- `listing_lines::put_listing` meets its contract. The loop's invariant: after the first line, the
--- lines of the parts before k are put; the measure is the parts left. Assumes nothing.
-use mathlib.Core.Path.{◌∙◌}
-use Prim.Native.Nat.{◌-◌, ◌≤◌}
+-- lines of the parts before k are put. Assumes nothing.
 use native.Mathlib.Omega.{arith}
 use Rattle.table.specs.Table.{table_parts}
 use Rattle.table.proofs.Rules.{sound, count_parts}
-use Rattle.listing.specs.Listing.{part_lines}
-use Rattle.listing_lines.proofs.Putting.{Putting, putting_room, putting_step, putting_length}
-use Rattle.listing_lines.proofs.Lines.{lines_from, lines_start, lines_next, lines_done, listing_put, head-fits, head_length}
+use Rattle.listing_lines.proofs.Putting.{putting_room, putting_step}
+use Rattle.listing_lines.proofs.Lines.{lines_start, lines_next, lines_done, listing_put, head-fits}
 use Rattle.listing_lines.proofs.put_listing.Goals as goal
 
 pub overflow_sub-parts : goal.overflow_sub-parts
@@ -18,7 +15,7 @@ put_head-at-requires c = let t = c.total_area-total.ensures in
     record { whole = c.requires.0.whole; sum = t; room = head-fits (table_parts c.args.starts.now c.args.corners.now) c.args.out.now t c.requires.1 }
 
 pub loop-k-init : goal.loop-k-init
-loop-k-init c = (omega arith, lines_start (table_parts c.args.starts.now c.args.corners.now) c.args.out.now c.total_area-total.ensures c.requires.1 c.put_head-at.ensures)
+loop-k-init c = lines_start (table_parts c.args.starts.now c.args.corners.now) c.args.out.now c.total_area-total.ensures c.requires.1 c.put_head-at.ensures
 
 pub put_line-at-requires : goal.put_line-at-requires
 put_line-at-requires c = let ps = table_parts c.args.starts.now c.args.corners.now in
@@ -26,15 +23,13 @@ put_line-at-requires c = let ps = table_parts c.args.starts.now c.args.corners.n
       listable = c.requires.0;
       inside = omega (arith, c.loop-k-test.true);
       sum = c.total_area-total.ensures;
-      room = putting_room (lines_next _ ps c.loop-k.invariant.1 (omega (arith, c.loop-k-test.true, count_parts _ _ c.requires.0.whole)));
+      room = putting_room (lines_next _ ps c.loop-k.invariant (omega (arith, c.loop-k-test.true, count_parts _ _ c.requires.0.whole)));
     }
 
 pub loop-k-preserved : goal.loop-k-preserved
-loop-k-preserved c = let ps = table_parts c.args.starts.now c.args.corners.now in (
-  omega (arith, c.loop-k-test.true),
-  putting_step (lines_next _ ps c.loop-k.invariant.1 (omega (arith, c.loop-k-test.true, count_parts _ _ c.requires.0.whole))) c.put_line-at.ensures,
-)
+loop-k-preserved c = let ps = table_parts c.args.starts.now c.args.corners.now in
+    putting_step (lines_next _ ps c.loop-k.invariant (omega (arith, c.loop-k-test.true, count_parts _ _ c.requires.0.whole))) c.put_line-at.ensures
 
 pub returns : goal.returns
 returns c = let ps = table_parts c.args.starts.now c.args.corners.now in
-    listing_put ps c.args.out.now c.total_area-total.ensures c.requires.1 c.put_head-at.ensures (lines_done _ ps c.loop-k.invariant.1 (omega (arith, c.loop-k-test.false, count_parts _ _ c.requires.0.whole)))
+    listing_put ps c.args.out.now c.total_area-total.ensures c.requires.1 c.put_head-at.ensures (lines_done _ ps c.loop-k.invariant (omega (arith, c.loop-k-test.false, count_parts _ _ c.requires.0.whole)))

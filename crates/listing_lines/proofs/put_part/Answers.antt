@@ -1,6 +1,4 @@
 -- `listing_lines::put_part` meets its contract: six pieces, one after another. Assumes nothing.
-use native.Mathlib.Omega.{arith}
-use borrow.Author.Rules.{rules}
 use Rattle.listing_lines.proofs.Putting.{putting_room, putting_step, putting_end}
 use Rattle.listing_lines.proofs.Lines.{part_start}
 use Rattle.listing_lines.proofs.put_part.Goals as goal
