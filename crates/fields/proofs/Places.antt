@@ -1,11 +1,11 @@
 -- Where fields stand on a line: place i is field j's where the line from i on is `fields_from j`
 -- (`specs/Fields.antt`). Assumes nothing.
-use mathlib.Core.Path.{◌≡◌, refl, sym, ◌∙◌, ap}
+use mathlib.Core.Path.{◌≡◌, sym, ◌∙◌, ap}
 use mathlib.Core.List.{List}
-use Prim.Native.Nat.{ℕ, ◌+◌, ◌-◌, ◌≤◌}
+use Prim.Native.Nat.{ℕ, ◌+◌, ◌-◌}
 use native.Mathlib.Numerals.{add-one}
 use native.Mathlib.Omega.{arith}
-use lib.ListN.{length, take, drop}
+use lib.ListN.{take, drop}
 use lib.Seq.{drop-drop}
 use Rattle.fields.specs.Fields.{run_length, in_run, is_blank, skipped, fields_from, field_of}
 use Rattle.fields.specs.declared.Run.TheVariants as run

@@ -1,14 +1,13 @@
--- Runs of bytes (`run_length` of `specs/Fields.antt`): how long they are, and a byte more. Assumes
--- nothing.
-use mathlib.Core.Path.{◌≡◌, refl, sym, ◌∙◌, ap}
-use mathlib.Core.Bool.{Bool, true, false, cond}
+-- Runs of bytes (`run_length` of `specs/Fields.antt`): how long they are. Assumes nothing.
+use mathlib.Core.Path.{◌≡◌, refl, sym, ◌∙◌}
+use mathlib.Core.Bool.{Bool, true, false}
 use mathlib.Core.List.{List, [], ◌∷◌}
 use Prim.Native.Nat.{ℕ, zero, suc, ◌+◌, ◌≤◌, ◌<◌}
-use native.Mathlib.Numerals.{add-one}
 use native.Mathlib.Omega.{arith}
-use lib.ListN.{length, drop, get_or, drop_of_length-le}
-use lib.Seq.{drop-cons}
+use lib.ListN.{length, get_or}
 use Rattle.integers.proofs.Order.{by_test}
+use Rattle.std.specs.List.{prefix_len, take_while}
+use Rattle.std.proofs.lemmas.List.Folds.{length-prefix_len}
 use Rattle.fields.specs.Fields.{run_length}
 
 module _ (p : ℕ → Bool) where
@@ -33,18 +32,23 @@ module _ (p : ℕ → Bool) where
       (λ e. omega (arith, run_in l e, run_length_lem l))
       (λ e. omega (arith, run_out l e))
 
-  -- ---- a byte more
+  -- ---- as std counts it
 
-  pub run_more : (t : List ℕ) {i : ℕ} → i < length t → p (get_or t i 0) ≡ true → i + run_length p (drop i t) ≡ i + 1 + run_length p (drop (i + 1) t)
-  run_more t {i} h e =
-      let d : drop i t ≡ get_or t i 0 ∷ drop (i + 1) t = rw add-one (drop-cons t i 0 h) in
-      omega (arith, ap (run_length p) d ∙ run_in (drop (i + 1) t) e)
+  prefix_run : (l : List ℕ) → prefix_len p l ≡ run_length p l
+  prefix_run [] = sym run_none
+  prefix_run (b ∷ l) =
+      by_test (p b)
+      (λ e. omega (arith, run_in l e, prefix_run l, prefix_in l e))
+      (λ e. omega (arith, run_out l e, prefix_out l e))
+    where
+      prefix_in : {b : ℕ} (l : List ℕ) → p b ≡ true → prefix_len p (b ∷ l) ≡ 1 + prefix_len p l
+      prefix_in l e = rw e
 
-  pub run_stop : (t : List ℕ) {i : ℕ} → i < length t → p (get_or t i 0) ≡ false → i + run_length p (drop i t) ≡ i
-  run_stop t {i} h e = omega (arith, ap (run_length p) (drop-cons t i 0 h) ∙ run_out (drop (suc i) t) e)
+      prefix_out : {b : ℕ} (l : List ℕ) → p b ≡ false → prefix_len p (b ∷ l) ≡ 0
+      prefix_out l e = rw e
 
-  pub run_past : (t : List ℕ) {i : ℕ} → length t ≤ i → i + run_length p (drop i t) ≡ i
-  run_past t h = omega (arith, ap (run_length p) (drop_of_length-le t h) ∙ run_none)
+  pub length_front : (l : List ℕ) → length (take_while p l) ≡ run_length p l
+  length_front l = length-prefix_len p l ∙ prefix_run l
 
   -- a run as long as the list has every byte
   pub run_whole : (l : List ℕ) → run_length p l ≡ length l → (i : ℕ) → i < length l → p (get_or l i 0) ≡ true

@@ -3,11 +3,11 @@
 // mesh_lines and mesh_text. Leans on nothing but the kit.
 #![tactic(auto)]
 
-ghost use Rattle.std.specs.Prelude.{◌≡◌, not, ◌+◌, ◌≤◌, length, drop};
-ghost use Rattle.fields.specs.Fields.{is_blank, is_digit, in_run, run_length, fields_from, field_of};
+ghost use Rattle.std.specs.Prelude.{◌≡◌, ◌+◌, ◌≤◌, length, drop, take_while};
+ghost use Rattle.fields.specs.Fields.{is_blank, in_run, run_length, fields_from, field_of};
 
 // What a run is of: blanks, the bytes of a field, digits, the bytes of a line, the bytes before a
-// comma.
+// comma. A name and no closure, as definitions of the crates above say by it which run they mean.
 #[derive(Clone, Copy)]
 pub enum Run {
     Blanks,
@@ -21,31 +21,7 @@ pub enum Run {
 fn is_blank(b: u8) -> bool
     ensures { result ≡ is_blank b }
 {
-    if b == b' ' {
-        return true;
-    }
-    if b == b'\t' {
-        return true;
-    }
-    b == b'\r'
-}
-
-fn is_field(b: u8) -> bool
-    ensures { result ≡ not (is_blank b) }
-{
-    if is_blank(b) {
-        return false;
-    }
-    true
-}
-
-fn is_digit(b: u8) -> bool
-    ensures { result ≡ is_digit b }
-{
-    if b < b'0' {
-        return false;
-    }
-    b < b':'
+    matches!(b, b' ' | b'\t' | b'\r')
 }
 
 // Whether a byte is one of a run's.
@@ -54,11 +30,18 @@ fn belongs(kind: Run, b: u8) -> bool
 {
     match kind {
         Run::Blanks => is_blank(b),
-        Run::Field => is_field(b),
-        Run::Digits => is_digit(b),
+        Run::Field => !is_blank(b),
+        Run::Digits => b.is_ascii_digit(),
         Run::Line => b != b'\n',
         Run::Comma => b != b',',
     }
+}
+
+// How many bytes at the front are of a kind.
+fn front(kind: Run, text: &[u8]) -> usize
+    ensures { result ≡ length (take_while (in_run kind) text.now) }
+{
+    text.iter().take_while(|b| belongs(kind, **b)).count()
 }
 
 // The place where the run that begins at `from` ends.
@@ -66,15 +49,7 @@ pub fn run_end(kind: Run, text: &[u8], from: usize) -> usize
     requires { from ≤ length text.now }
     ensures { (result ≡ from + run_length (in_run kind) (drop from text.now)) × (from ≤ result) × (result ≤ length text.now) }
 {
-    let mut i = from;
-    while i < text.len() {
-        if belongs(kind, text[i]) {
-            i += 1;
-        } else {
-            return i;
-        }
-    }
-    i
+    from + front(kind, &text[from..])
 }
 
 // The place where field k of the line begins, or its length where it has none.
@@ -82,11 +57,9 @@ pub fn field_start(line: &[u8], k: usize) -> usize
     ensures { (drop result line.now ≡ fields_from k line.now) × (result ≤ length line.now) }
 {
     let mut i = run_end(Run::Blanks, line, 0);
-    let mut j: usize = 0;
-    while j < k {
+    for _ in 0..k {
         let end = run_end(Run::Field, line, i);
         i = run_end(Run::Blanks, line, end);
-        j += 1;
     }
     i
 }
