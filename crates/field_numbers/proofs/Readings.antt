@@ -3,7 +3,7 @@
 use mathlib.Core.Path.{◌≡◌, refl, sym, ◌∙◌, ap}
 use mathlib.Core.Bool.{Bool, true, false, cond}
 use mathlib.Core.List.{List, [], ◌∷◌}
-use Prim.Native.Nat.{ℕ, zero, suc, ◌+◌, ◌-◌, ◌≤◌, ◌<◌}
+use Prim.Native.Nat.{ℕ, ◌+◌, ◌-◌, ◌≤◌, ◌<◌}
 use native.Mathlib.Omega.{arith}
 use borrow.Author.Tests.{eq-eqb, ne_eqb, lt-ltb, le-ltb, ltb-false}
 use lib.Dec.{eqb, ltb}
@@ -13,28 +13,29 @@ use lib.IntN.{pos, neg_ℤ}
 use Rattle.integers.specs.Word.{unsigned}
 use Rattle.integers.proofs.Order.{by_test}
 use Rattle.fields.specs.Fields.{is_digit, run_length}
-use Rattle.field_numbers.specs.declared.Reading.{Reading}
-use Rattle.field_numbers.specs.Numbers.{value_of, is_number, is_coordinate, coordinate_of, has_minus, told, number_read, coordinate_read}
+use Rattle.std.specs.Prelude.{Option, Some, None}
+use Rattle.std.proofs.lemmas.Option.{none-some, same_Some}
+use Rattle.field_numbers.specs.Numbers.{value_of, is_number, is_coordinate, coordinate_of, told, number_read, coordinate_read}
 
 -- ---- a reading
 
-pub told_wrong : {t : Bool} (n : ℕ) {r : Reading} → t ≡ false → r ≡ record { right = false; bits = 0 } → r ≡ told t n
-told_wrong n e h = h ∙ rw e
+pub told_wrong : {t : Bool} (n : ℕ) → t ≡ false → None ≡ told t n
+told_wrong n e = rw e
 
-pub told_right : {t : Bool} {n m : ℕ} → t ≡ true → m ≡ n → record { right = true; bits = m } ≡ told t n
-told_right e q = rw e (λ i. record { right = true; bits = q i })
+pub told_right : {t : Bool} {n m : ℕ} → t ≡ true → m ≡ n → Some m ≡ told t n
+told_right e q = rw e (λ i. Some (q i))
 
 true_false : true ≡ false → ⊥
 true_false q = let z : ◌≡◌ {A = ℕ} 0 1 = ap (λ t. cond t 0 1) q in omega arith
 
 -- what a reading tells of its test and its number
-pub is_right : (t : Bool) {n : ℕ} {r : Reading} → r ≡ told t n → r.right ≡ true → (t ≡ true) × (r.bits ≡ n)
-is_right true e h = (refl, ap (λ q. q.bits) e)
-is_right false e h = absurd (true_false (sym h ∙ ap (λ q. q.right) e))
+pub is_right : (t : Bool) {n m : ℕ} {r : Option ℕ} → r ≡ told t n → r ≡ Some m → (t ≡ true) × (m ≡ n)
+is_right true {n} {m} e h = (refl, same_Some m n (sym h ∙ e))
+is_right false {m = m} e h = absurd (none-some m (sym e ∙ h))
 
-pub is_wrong : {t : Bool} (n : ℕ) {r : Reading} → r ≡ told t n → r.right ≡ false → (t ≡ false) × (r ≡ record { right = false; bits = 0 })
-is_wrong {t = true} n e h = absurd (true_false (sym (ap (λ q. q.right) e) ∙ h))
-is_wrong {t = false} n e h = (refl, e)
+pub is_wrong : {t : Bool} (n : ℕ) {r : Option ℕ} → r ≡ told t n → r ≡ None → t ≡ false
+is_wrong {t = true} n e h = absurd (none-some n (sym h ∙ e))
+is_wrong {t = false} n e h = refl
 
 -- ---- numbers
 
@@ -78,10 +79,10 @@ module _ (most : ℕ) (l : List ℕ) where
 
 -- ---- coordinates
 
-pub no_bytes : (l : List ℕ) → length l ≡ 0 → is_coordinate l ≡ false
-unfolding is_coordinate
-no_bytes [] e = no_digits 2147483647 [] refl
-no_bytes (b ∷ l) e = absurd (omega arith)
+-- no byte is no minus
+pub no_first : (l : List ℕ) → length l < 1 → get_or l 0 0 ≡ 45 → ⊥
+no_first [] h q = omega arith
+no_first (b ∷ l) h q = omega arith
 
 pub no_minus : (l : List ℕ) → (get_or l 0 0 ≡ 45 → ⊥) → number_read 2147483647 l ≡ coordinate_read l
 unfolding is_coordinate coordinate_of
@@ -96,19 +97,17 @@ module _ (l : List ℕ) (h : get_or l 0 0 ≡ 45) where
   unfolding is_coordinate coordinate_of
   minus = (rw (eq-eqb (get_or l 0 0) 45 h), rw (eq-eqb (get_or l 0 0) 45 h))
 
-  pub behind_minus : {n : Reading} {m : ℕ} → n ≡ number_read 2147483648 (take (length l - 1) (drop 1 l)) → n.right ≡ true → m ≡ unsigned (neg_ℤ (pos n.bits))
-      → record { right = true; bits = m } ≡ coordinate_read l
+  pub behind_minus : {r : Option ℕ} {n m : ℕ} → r ≡ number_read 2147483648 (take (length l - 1) (drop 1 l)) → r ≡ Some n → m ≡ unsigned (neg_ℤ (pos n))
+      → Some m ≡ coordinate_read l
   behind_minus e r q =
       let w = is_right _ (e ∙ ap (number_read 2147483648) (tail_whole l)) r in
       told_right (minus.0 ∙ w.0) (q ∙ ap (λ v. unsigned (neg_ℤ (pos v))) w.1 ∙ ap unsigned (sym minus.1))
 
-  pub no_number_behind : {n : Reading} → n ≡ number_read 2147483648 (take (length l - 1) (drop 1 l)) → n.right ≡ false → n ≡ coordinate_read l
-  no_number_behind e r =
-      let w = is_wrong _ (e ∙ ap (number_read 2147483648) (tail_whole l)) r in
-      told_wrong _ (minus.0 ∙ w.0) w.1
+  pub no_number_behind : {r : Option ℕ} → r ≡ number_read 2147483648 (take (length l - 1) (drop 1 l)) → r ≡ None → None ≡ coordinate_read l
+  no_number_behind e r = told_wrong _ (minus.0 ∙ is_wrong _ (e ∙ ap (number_read 2147483648) (tail_whole l)) r)
 
 -- a number that was read is no larger than it may be
-pub read_at_most : {most : ℕ} (l : List ℕ) {n : Reading} → n ≡ number_read most l → n.right ≡ true → n.bits ≤ most
+pub read_at_most : {most : ℕ} (l : List ℕ) {r : Option ℕ} {n : ℕ} → r ≡ number_read most l → r ≡ Some n → n ≤ most
 read_at_most {most} l e r =
     let w = is_right (is_number most l) {n = value_of l} e r in
     omega (arith, w.1, at_most most l w.0)

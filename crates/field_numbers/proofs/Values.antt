@@ -1,9 +1,9 @@
 -- The value of digits (`value_from` of `specs/Numbers.antt`): a digit more, and how large it is.
 -- Assumes nothing.
 use mathlib.Core.Path.{◌≡◌, refl, sym, ◌∙◌, ap}
-use mathlib.Core.Bool.{Bool, true, false, cond}
+use mathlib.Core.Bool.{true, false, cond}
 use mathlib.Core.List.{List, [], ◌∷◌}
-use Prim.Native.Nat.{ℕ, zero, suc, ◌+◌, ◌*◌, ◌-◌, ◌^◌, ◌≤◌, ◌<◌}
+use Prim.Native.Nat.{ℕ, suc, ◌+◌, ◌*◌, ◌-◌, ◌^◌, ◌≤◌, ◌<◌}
 use native.Mathlib.Nat.{pow-suc, pow-le-pow_right}
 use native.Mathlib.Numerals.{add-one}
 use native.Mathlib.Omega.{arith}
@@ -12,8 +12,6 @@ use lib.Dec.{ltb}
 use lib.ListN.{length, drop, get_or, drop_of_length-le}
 use lib.Seq.{drop-cons}
 use Rattle.integers.proofs.Order.{by_test}
-use lib.IntN.{pos, neg_ℤ}
-use Rattle.integers.specs.Word.{unsigned}
 use Rattle.fields.specs.Fields.{is_digit}
 use Rattle.field_numbers.specs.Numbers.{value_from}
 
@@ -55,10 +53,3 @@ larger i h k = rw add-one (omega (arith, pow-suc 10 i))
 -- of nine digits or fewer
 pub nine_digits : {v : ℕ} {i : ℕ} → v < 10 ^ i → i < 10 → v < 1000000000
 nine_digits {i} h k = omega (arith, pow-le-pow_right {n = 10} (omega arith) {i = i} {j = 9} (omega arith))
-
--- ---- below 0
-
--- 2^32 - n, of 1 and more
-pub negative_bits : (n : ℕ) → (n ≡ 0 → ⊥) → 4294967295 - (n - 1) ≡ unsigned (neg_ℤ (pos n))
-negative_bits zero h = absurd (h refl)
-negative_bits (suc n) h = omega arith

@@ -1,7 +1,6 @@
 -- Numbers in decimal. Assumes nothing.
-use Rattle.std.specs.Prelude.{Bool, true, false, cond, List, [], ◌∷◌, ℕ, ◌+◌, ◌*◌, ◌-◌, eqb, ltb, length, get_or, drop, ℤ, pos, neg_ℤ}
+use Rattle.std.specs.Prelude.{Bool, true, false, cond, List, [], ◌∷◌, ℕ, ◌+◌, ◌*◌, ◌-◌, eqb, ltb, length, get_or, drop, ℤ, pos, neg_ℤ, Option, Some, None}
 use Rattle.integers.specs.Word.{unsigned}
-use Rattle.field_numbers.specs.declared.Reading.{Reading}
 use Rattle.fields.specs.Fields.{is_digit, run_length}
 
 -- ---- a number
@@ -35,11 +34,11 @@ coordinate_of l = cond (has_minus l) (neg_ℤ (pos (value_of (drop 1 l)))) (pos 
 
 -- ---- as the code tells them
 
-abbrev pub told : Bool → ℕ → Reading
-told right bits = cond right (record { right = true; bits = bits }) (record { right = false; bits = 0 })
+abbrev pub told : Bool → ℕ → Option ℕ
+told right bits = cond right (Some bits) None
 
-abbrev pub number_read : ℕ → List ℕ → Reading
+abbrev pub number_read : ℕ → List ℕ → Option ℕ
 number_read most l = told (is_number most l) (value_of l)
 
-abbrev pub coordinate_read : List ℕ → Reading
+abbrev pub coordinate_read : List ℕ → Option ℕ
 coordinate_read l = told (is_coordinate l) (unsigned (coordinate_of l))

@@ -1,20 +1,18 @@
 -- `field_numbers::coordinate` meets its contract. Assumes nothing.
 use mathlib.Core.Path.{◌∙◌}
 use borrow.Author.Rules.{rules}
-use Rattle.field_numbers.proofs.Readings.{told_wrong, no_bytes, no_minus, read_at_most, behind_minus, no_number_behind}
+use Rattle.field_numbers.proofs.Readings.{no_first, no_minus, read_at_most, behind_minus, no_number_behind}
 use Rattle.field_numbers.proofs.coordinate.Goals as goal
+use Rattle.field_numbers.proofs.coordinate.Goals.{in_default-via-then-digits-lt1, in_default-via-else-digits-lt1+in_default-1}
 
-pub returns-then-digits-eq0 : goal.returns-then-digits-eq0
-returns-then-digits-eq0 c = told_wrong _ (no_bytes c.args.digits.now c.if-digits-eq0.true) c.no_number.ensures
-
-pub returns-then-digits-ne45 : goal.returns-then-digits-ne45
-returns-then-digits-ne45 c = c.number.ensures ∙ no_minus c.args.digits.now c.if-digits-ne45.true
+pub returns-in_err-number-in-45 : goal.returns-in_err-number-in-45
+returns-in_err-number-in-45 c = c.from_residual.ensures ∙ no_number_behind c.args.digits.now (search rules) c.number.ensures c.in_err-number-in-45.was
 
 pub negative-requires : goal.negative-requires
-negative-requires c = read_at_most _ c.number-n.ensures c.if-n.true
+negative-requires c = read_at_most _ c.number.ensures c.in_ok-number-in-45.was
 
-pub returns-then-n : goal.returns-then-n
-returns-then-n c = behind_minus c.args.digits.now c.if-digits-ne45.false c.number-n.ensures c.if-n.true c.negative.ensures
+pub returns-in_ok-number-in-45 : goal.returns-in_ok-number-in-45
+returns-in_ok-number-in-45 c = behind_minus c.args.digits.now (search rules) c.number.ensures c.in_ok-number-in-45.was c.negative.ensures
 
-pub returns : goal.returns
-returns c = no_number_behind c.args.digits.now c.if-digits-ne45.false c.number-n.ensures c.if-n.false
+pub returns-in_default : goal.returns-in_default
+returns-in_default c = c.number-in_default.ensures ∙ no_minus c.args.digits.now (elim c.in_default.branch [ in_default-via-then-digits-lt1 w ↦ no_first c.args.digits.now (search rules) | in_default-via-else-digits-lt1+in_default-1 w ↦ λ q. search rules ])
