@@ -18,7 +18,7 @@ use table::Counts;
 pub extern "C" fn bezinkwolu_mesh_fault(mesh: &[Row]) -> u32
     ensures { result ≡ first_fault (mesh_kinds (rows_mesh mesh.now)) }
 {
-    mesh_faults::mesh_fault(mesh)
+    faults::number_of(mesh_faults::mesh_fault(mesh))
 }
 
 // convex_join::to_convex_polygons.

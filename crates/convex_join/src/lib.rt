@@ -85,9 +85,8 @@ pub fn join_tiny(mesh: &[Row], starts: &mut [u32], corners: &mut [i32]) -> Count
 pub fn to_convex_polygons(mesh: &[Row], starts: &mut [u32], corners: &mut [i32]) -> Counts
     ensures { PartsAnswered (rows_mesh mesh.now) starts.old corners.old result starts.new corners.new }
 {
-    let fault = mesh_faults::mesh_fault(mesh);
-    if fault != 0 {
-        return convex_gather::refusal(fault);
+    if let Err(fault) = mesh_faults::mesh_fault(mesh) {
+        return convex_gather::refusal(fault.number());
     }
     let n = mesh.len();
     if n <= TINY {

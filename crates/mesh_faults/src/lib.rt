@@ -7,9 +7,11 @@
 
 ghost use Rattle.std.specs.Prelude.{◌≡◌, false};
 ghost use Rattle.integers.specs.Faults.{first_fault};
+ghost use Rattle.faults.specs.Told.{told};
 ghost use Rattle.mesh.specs.Mesh.{off_grid, flat, too_large, mesh_kinds};
 ghost use Rattle.mesh.specs.Rows.{rows_mesh};
 
+use faults::Fault;
 use mesh::{MAX_TRIANGLES, Row};
 
 // 2: a coordinate off the grid.
@@ -52,28 +54,25 @@ fn too_large(mesh: &[Row]) -> bool
     false
 }
 
-// The first fault of a mesh, as document 01 orders them; 0 for none.
-pub fn mesh_fault(mesh: &[Row]) -> u32
-    ensures { result ≡ first_fault (mesh_kinds (rows_mesh mesh.now)) }
+// The first fault of a mesh, as document 01 orders them.
+pub fn mesh_fault(mesh: &[Row]) -> Result<(), Fault>
+    ensures { told result ≡ first_fault (mesh_kinds (rows_mesh mesh.now)) }
 {
     if mesh.len() > MAX_TRIANGLES {
-        return integers::fault::TRIANGLES;
+        return Err(Fault::Triangles);
     }
     if mesh_clean::is_clean(mesh) {
-        return 0;
+        return Ok(());
     }
     if off_grid(mesh) {
-        return integers::fault::RANGE;
+        return Err(Fault::Range);
     }
-    let fault = mesh_neighbors::neighbor_fault(mesh);
-    if fault != 0 {
-        return fault;
-    }
+    mesh_neighbors::neighbor_fault(mesh)?;
     if flat(mesh) {
-        return integers::fault::FLAT;
+        return Err(Fault::Flat);
     }
     if too_large(mesh) {
-        return integers::fault::TOTAL;
+        return Err(Fault::Total);
     }
-    0
+    Ok(())
 }

@@ -1,6 +1,6 @@
 -- `mesh_faults::mesh_fault` meets its contract: a clean mesh has no fault, and else each kind is
 -- told where those before it do not hold. Assumes nothing.
-use mathlib.Core.Path.{◌≡◌, sym, ◌∙◌}
+use mathlib.Core.Path.{◌≡◌, sym, ◌∙◌, ap}
 use mathlib.Core.Bool.{Bool, true, false}
 use mathlib.Core.List.{List, [], ◌∷◌, ◌++◌}
 use Prim.Native.Nat.{ℕ, ◌≤◌, ◌<◌}
@@ -16,6 +16,9 @@ use Rattle.mesh.specs.Rows.{rows_mesh}
 use Rattle.mesh.proofs.Rows.{length_rows}
 use Rattle.mesh_neighbors.specs.Earliest.{neighbour_kinds, neighbour_fault}
 use Rattle.mesh_clean.proofs.Accepted.{clean_accepted}
+use Rattle.std.proofs.lemmas.Result.{err_from_is_err_and}
+use Rattle.faults.specs.Told.{number, told}
+use Rattle.faults.proofs.Numbers.{number_above}
 use Rattle.mesh_faults.proofs.mesh_fault.Goals as goal
 
 many : (rows : List (List ℤ)) → max_triangles < length rows → too_many (rows_mesh rows) ≡ true
@@ -81,21 +84,25 @@ pub returns-then-off_grid : goal.returns-then-off_grid
 returns-then-off_grid c = let rows = c.args.mesh.now in
     two (rows_mesh rows) (few rows c.if-mesh-gt-MAX_TRIANGLES.false) (read c.off_grid.ensures c.if-off_grid.true)
 
-pub returns-then-fault-ne0 : goal.returns-then-fault-ne0
-returns-then-fault-ne0 c = let rows = c.args.mesh.now in
-    neighbour (rows_mesh rows) (few rows c.if-mesh-gt-MAX_TRIANGLES.false) (read c.off_grid.ensures c.if-off_grid.false) c.neighbor_fault-fault.ensures c.if-fault-ne0.true
+pub returns-in_err-neighbor_fault : goal.returns-in_err-neighbor_fault
+returns-in_err-neighbor_fault c = let rows = c.args.mesh.now in
+    let p = err_from_is_err_and c.from_residual.result c.from_residual.ensures.1 in
+    let was = ap told c.in_err-neighbor_fault.was in
+    ap told p.1 ∙ ap number p.2 ∙ sym was
+    ∙ neighbour (rows_mesh rows) (few rows c.if-mesh-gt-MAX_TRIANGLES.false) (read c.off_grid.ensures c.if-off_grid.false) c.neighbor_fault.ensures
+    (λ z. absurd (omega (arith, z, was, number_above c.in_err-neighbor_fault.field-0.0)))
 
 pub returns-then-flat : goal.returns-then-flat
 returns-then-flat c = let rows = c.args.mesh.now in
-    six (rows_mesh rows) (few rows c.if-mesh-gt-MAX_TRIANGLES.false) (read c.off_grid.ensures c.if-off_grid.false) c.neighbor_fault-fault.ensures
-    c.if-fault-ne0.false (read c.flat.ensures c.if-flat.true)
+    six (rows_mesh rows) (few rows c.if-mesh-gt-MAX_TRIANGLES.false) (read c.off_grid.ensures c.if-off_grid.false) c.neighbor_fault.ensures
+    (ap told c.in_ok-neighbor_fault.was) (read c.flat.ensures c.if-flat.true)
 
 pub returns-then-too_large : goal.returns-then-too_large
 returns-then-too_large c = let rows = c.args.mesh.now in
-    eleven (rows_mesh rows) (few rows c.if-mesh-gt-MAX_TRIANGLES.false) (read c.off_grid.ensures c.if-off_grid.false) c.neighbor_fault-fault.ensures
-    c.if-fault-ne0.false (read c.flat.ensures c.if-flat.false) (read c.too_large.ensures c.if-too_large.true)
+    eleven (rows_mesh rows) (few rows c.if-mesh-gt-MAX_TRIANGLES.false) (read c.off_grid.ensures c.if-off_grid.false) c.neighbor_fault.ensures
+    (ap told c.in_ok-neighbor_fault.was) (read c.flat.ensures c.if-flat.false) (read c.too_large.ensures c.if-too_large.true)
 
 pub returns : goal.returns
 returns c = let rows = c.args.mesh.now in
-    accepted (rows_mesh rows) (few rows c.if-mesh-gt-MAX_TRIANGLES.false) (read c.off_grid.ensures c.if-off_grid.false) c.neighbor_fault-fault.ensures
-    c.if-fault-ne0.false (read c.flat.ensures c.if-flat.false) (read c.too_large.ensures c.if-too_large.false)
+    accepted (rows_mesh rows) (few rows c.if-mesh-gt-MAX_TRIANGLES.false) (read c.off_grid.ensures c.if-off_grid.false) c.neighbor_fault.ensures
+    (ap told c.in_ok-neighbor_fault.was) (read c.flat.ensures c.if-flat.false) (read c.too_large.ensures c.if-too_large.false)

@@ -10,7 +10,7 @@ pub loop-k-init : goal.loop-k-init
 loop-k-init c = judged_start (rows_mesh c.args.mesh.now)
 
 pub loop-k-preserved : goal.loop-k-preserved
-loop-k-preserved c = judged_turn (rows_mesh c.args.mesh.now) (omega (arith, length_rows c.args.mesh.now, c.loop-k-test.true)) c.loop-k.invariant c.row_fault.ensures c.earlier_of-fault.ensures
+loop-k-preserved c = judged_turn (rows_mesh c.args.mesh.now) (omega (arith, length_rows c.args.mesh.now, c.loop-k-test.true)) c.loop-k.invariant c.row_fault.ensures c.earlier_of-judged.ensures
 
 pub returns : goal.returns
 returns c = judged_end (rows_mesh c.args.mesh.now) (omega (arith, length_rows c.args.mesh.now, c.loop-k-test.false)) c.loop-k.invariant

@@ -2,7 +2,8 @@
 -- Assumes nothing.
 use Rattle.mesh.specs.Rows.{rows_mesh}
 use Rattle.mesh_neighbors.proofs.Earliest.{Judged}
+use Rattle.faults.specs.Told.{told}
 use Rattle.mesh_neighbors.proofs.neighbor_fault.Given as goal
 
 abbrev pub invariant-loop-k : goal.invariant-loop-k
-invariant-loop-k l = Judged (rows_mesh l.mesh) l.k l.fault
+invariant-loop-k l = Judged (rows_mesh l.mesh) l.k (told l.judged)
