@@ -48,10 +48,8 @@ pub fn put_corner(corners: &mut [i32], k: usize, p: IntPoint)
     ensures { corners.new ≡ with_corner corners.old k (point p) }
 {
     let i = WIDTH * k;
-    let x = p.x;
-    let y = p.y;
-    corners[i] = x;
-    corners[i + 1] = y;
+    corners[i] = p.x;
+    corners[i + 1] = p.y;
 }
 
 // The corners from `from` to before `to`, where they lie.
@@ -75,30 +73,14 @@ pub fn front<'a>(corners: &'a [i32], count: usize) -> &'a [i32]
     &corners[..end]
 }
 
-// The first `count` corners of `from` are put after the first `at` of `out`. Number by number, for
-// such a loop is done many numbers at a time.
+// The first `count` corners of `from` are put after the first `at` of `out`.
 pub fn copy_corners(from: &[i32], count: usize, out: &mut [i32], at: usize)
     requires { (2 * count ≤ length from.now) × (2 * (at + count) ≤ length out.old) }
     ensures { Copied from.now at (2 * count) out.old out.new }
 {
-    let n = WIDTH * count;
     let first = WIDTH * at;
-    let mut i: usize = 0;
-    while i < n {
-        let x = from[i];
-        out[first + i] = x;
-        i += 1;
-    }
-}
-
-// Whether z is out of range, or one before was.
-fn or_off(before: bool, z: i32) -> bool
-    ensures { result ≡ cond (in_range z) before true }
-{
-    if plane::in_range(z) {
-        return before;
-    }
-    true
+    let end = WIDTH * (at + count);
+    out[first..end].copy_from_slice(&from[..WIDTH * count]);
 }
 
 // Whether some number is not strictly between -2^30 and 2^30 (fault 2). All are looked at, for a
@@ -107,10 +89,8 @@ pub fn off_range(numbers: &[i32]) -> bool
     ensures { result ≡ off_range numbers.now }
 {
     let mut off = false;
-    let mut i = 0;
-    while i < numbers.len() {
-        off = or_off(off, numbers[i]);
-        i += 1;
+    for z in numbers {
+        off |= !plane::in_range(*z);
     }
     off
 }

@@ -64,8 +64,8 @@ pub struct Seen {
 
 // The side of triangle k across whose edge, from a to b, it names n: counted, and where n is before
 // k, whether n's first side that names k runs from b to a. A side that names a triangle after its
-// own is only counted, and one that names none passed over, by a test taken as a number: one branch,
-// n < k, tells both from the rest.
+// own is only counted, and one that names none passed over, by a test taken as a number: one
+// branch, n < k, tells both from the rest.
 fn count_side(mesh: &[Row], k: usize, n: usize, a: u64, b: u64, s: Seen) -> Seen
     requires { (k < length mesh.now) × (s.before < 2 ^ 32) × (s.after < 2 ^ 32) }
     ensures { Counted (rows_mesh mesh.now) k n a b s result }

@@ -4,7 +4,7 @@
 -- (`starts_of_stored`, `corners_of_stored`, `read_fault_of_stored`); bytes that are accepted,
 -- written (`stored_of_read`). Assumes nothing.
 use mathlib.Core.Path.{◌≡◌, ◌∙◌, ap}
-use mathlib.Core.Bool.{true, false}
+use mathlib.Core.Bool.{false}
 use mathlib.Core.List.{List, [], ◌∷◌, ◌++◌, map, flatten}
 use Prim.Native.Nat.{ℕ, zero, suc, ◌+◌, ◌*◌, ◌-◌, ◌/◌, ◌≤◌}
 use native.Mathlib.Omega.{arith}
@@ -14,7 +14,6 @@ use lib.ListN.{length, take, drop, get_or, length-append, length-drop, length-ma
 use lib.Seq.{length-take-le, take_all, take-append_seam, drop-append_seam}
 use lib.IntN.{ℤ}
 use mir.Syntax.{w32}
-use mir.Val.{SFits}
 use mir.ValLaws.{of_z_fits}
 use Rattle.integers.specs.Word.{unsigned}
 use Rattle.integers.specs.Lists.{All}
@@ -22,8 +21,6 @@ use Rattle.integers.specs.Faults.{first_fault}
 use Rattle.integers.proofs.Tests.{either_false}
 use Rattle.integers.proofs.Faults.{first_next, first_none}
 use Rattle.integers.proofs.Elements.{all_map, all_append, all_image, get_or_all}
-use Rattle.plane.specs.Plane.{in_range}
-use Rattle.plane.proofs.Size.{in_range_coordinate, coordinate_fits}
 use Rattle.corners.specs.Corners.{off_range}
 use Rattle.table.specs.Table.{table_broken, table_parts, room_kinds, starts_of}
 use Rattle.table.specs.Stored.{words_of, word_bytes, signed, word_at, stored_starts, stored_corners, length_broken, stored_broken, stored_parts, read_fault, stored_of}

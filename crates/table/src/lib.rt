@@ -44,10 +44,7 @@ pub struct IntRect {
 pub fn step_broken(limit: usize, last: usize, next: usize) -> bool
     ensures { result ≡ cond (ltb next last) true (ltb (last + limit) next) }
 {
-    if next < last {
-        return true;
-    }
-    next - last > limit
+    next < last || next - last > limit
 }
 
 // Whether the starts break a rule beside `count` corners: none, not from 0, one that falls, a
@@ -55,21 +52,19 @@ pub fn step_broken(limit: usize, last: usize, next: usize) -> bool
 pub fn starts_broken(limit: usize, count: usize, starts: &[u32]) -> bool
     ensures { result ≡ starts_broken limit count starts.now }
 {
-    if starts.len() == 0 {
+    let [first, rest @ ..] = starts else {
         return true;
-    }
-    if starts[0] != 0 {
+    };
+    if *first != 0 {
         return true;
     }
     let mut last: usize = 0;
-    let mut i = 1;
-    while i < starts.len() {
-        let next = starts[i] as usize;
+    for start in rest {
+        let next = *start as usize;
         if step_broken(limit, last, next) {
             return true;
         }
         last = next;
-        i += 1;
     }
     last != count
 }
@@ -78,17 +73,11 @@ pub fn starts_broken(limit: usize, count: usize, starts: &[u32]) -> bool
 pub fn rules_broken(starts: &[u32], corners: &[i32]) -> bool
     ensures { result ≡ table_broken starts.now corners.now }
 {
-    if corners::ragged(corners) {
-        return true;
-    }
     let count = corner_count(corners);
-    if starts.len() > MAX_PARTS + 1 {
-        return true;
-    }
-    if count > MAX_CORNERS {
-        return true;
-    }
-    starts_broken(MAX_CONTOUR, count, starts)
+    corners::ragged(corners)
+        || starts.len() > MAX_PARTS + 1
+        || count > MAX_CORNERS
+        || starts_broken(MAX_CONTOUR, count, starts)
 }
 
 // Whether starts and corners break the rules of a pair result (fault 7), which the limits don't
@@ -96,27 +85,15 @@ pub fn rules_broken(starts: &[u32], corners: &[i32]) -> bool
 pub fn result_broken(starts: &[u32], corners: &[i32]) -> bool
     ensures { result ≡ result_broken starts.now corners.now }
 {
-    if corners::ragged(corners) {
-        return true;
-    }
     let count = corner_count(corners);
-    starts_broken(count, count, starts)
+    corners::ragged(corners) || starts_broken(count, count, starts)
 }
 
 // Whether a corner lies within the bounds, their ends included.
 pub fn within_bounds(bounds: IntRect, p: IntPoint) -> bool
     ensures { result ≡ within_bounds bounds (point p) }
 {
-    if bounds.min_x > p.x {
-        return false;
-    }
-    if p.x > bounds.max_x {
-        return false;
-    }
-    if bounds.min_y > p.y {
-        return false;
-    }
-    p.y <= bounds.max_y
+    bounds.min_x <= p.x && p.x <= bounds.max_x && bounds.min_y <= p.y && p.y <= bounds.max_y
 }
 
 // Whether a least bound is above a greatest, or some corner lies outside (fault 9). A last x
@@ -124,20 +101,13 @@ pub fn within_bounds(bounds: IntRect, p: IntPoint) -> bool
 pub fn bounds_broken(bounds: IntRect, corners: &[i32]) -> bool
     ensures { result ≡ bounds_broken bounds (points_of corners.now) }
 {
-    if bounds.max_x < bounds.min_x {
+    if bounds.max_x < bounds.min_x || bounds.max_y < bounds.min_y {
         return true;
     }
-    if bounds.max_y < bounds.min_y {
-        return true;
-    }
-    let count = corner_count(corners);
-    let mut k = 0;
-    while k < count {
-        let p = corner_at(corners, k);
-        if !within_bounds(bounds, p) {
+    for k in 0..corner_count(corners) {
+        if !within_bounds(bounds, corner_at(corners, k)) {
             return true;
         }
-        k += 1;
     }
     false
 }

@@ -44,10 +44,8 @@ pub fn write_words(words: &[u32], from: usize, bytes: &mut [u8])
     requires { 4 * (from + length words.now) ≤ length bytes.old }
     ensures { bytes.new ≡ put_words from words.now bytes.old }
 {
-    let mut i = 0;
-    while i < words.len() {
-        put_word(bytes, from + i, words[i]);
-        i += 1;
+    for (i, word) in words.iter().enumerate() {
+        put_word(bytes, from + i, *word);
     }
 }
 
@@ -56,11 +54,8 @@ pub fn write_corners(corners: &[i32], from: usize, bytes: &mut [u8])
     requires { 4 * (from + length corners.now) ≤ length bytes.old }
     ensures { bytes.new ≡ put_words from (map unsigned corners.now) bytes.old }
 {
-    let mut i = 0;
-    while i < corners.len() {
-        let z = corners[i];
-        put_word(bytes, from + i, integers::unsigned(z));
-        i += 1;
+    for (i, z) in corners.iter().enumerate() {
+        put_word(bytes, from + i, integers::unsigned(*z));
     }
 }
 

@@ -1,4 +1,5 @@
--- A sign with a magnitude: its size, and how large its high word can be; sums of numbers of one sign and of two. Assumes nothing.
+-- A sign with a magnitude: its size, and how large its high word can be; sums of numbers of one
+-- sign. Assumes nothing.
 use mathlib.Core.Path.{◌≡◌, refl}
 use mathlib.Core.Bool.{Bool, true, false}
 use Prim.Native.Nat.{ℕ, ◌+◌, ◌^◌, ◌<◌}

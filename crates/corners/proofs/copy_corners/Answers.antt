@@ -1,18 +1,13 @@
--- `corners::copy_corners` meets its contract. The loop's invariant: the first i numbers are
--- copied. Assumes nothing.
-use mathlib.Core.Path.{subst}
-use Prim.Native.Nat.{◌*◌, ◌-◌, ◌≤◌}
+-- `corners::copy_corners` meets its contract: the numbers are put in one piece. Assumes nothing.
+use mathlib.Core.Path.{sym, subst}
+use Prim.Native.Nat.{◌+◌, ◌*◌, ◌-◌}
 use native.Mathlib.Omega.{arith}
-use lib.ListN.{length, get_or}
-use lib.IntN.{pos}
-use mir.Syntax.{w32}
-use Rattle.integers.proofs.Bits.{got}
+use borrow.Rule.Slice.PartMut.{put_mid}
 use Rattle.corners.specs.Copying.{Copied}
-use Rattle.corners.proofs.Copying.{copied_start, copied_next}
+use Rattle.corners.proofs.Copying.{copied}
 use Rattle.corners.proofs.copy_corners.Goals as goal
 
-pub loop-i-preserved : goal.loop-i-preserved
-loop-i-preserved c = let g = c.args in
-    let l = c.loop-i in
-    let h = c.loop-i-test.true in
-    (omega (arith, h), copied_next g.from.now g.at g.out.now (omega (arith, c.requires.0, h)) (omega (arith, c.requires.1, h)) (got w32 (get_or g.from.now l.i (pos 0)) c.x-1.given) l.invariant.1)
+pub returns : goal.returns
+returns c = let g = c.args in
+    subst (λ l. Copied g.from.now g.at (2 * g.count) g.out.now (put_mid (2 * g.at) (2 * (g.at + g.count) - 2 * g.at) g.out.now l)) (sym c.copy_from_slice.ensures.after)
+    (copied g.from.now g.out.now g.at (omega (arith, c.requires.0)) (omega (arith, c.requires.1)) (omega arith))

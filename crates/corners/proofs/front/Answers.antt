@@ -1,7 +1,6 @@
 -- `corners::front` meets its contract: the numbers before 2 count. Assumes nothing.
 use mathlib.Core.Path.{sym}
 use native.Mathlib.Omega.{arith}
-use borrow.Author.Rules.{rules}
 use lib.Seq.{length-take-le}
 use Rattle.corners.proofs.Corners.{length_points}
 use Rattle.corners.proofs.front.Goals as goal

@@ -1,8 +1,6 @@
 -- `corners::part` meets its contract: the numbers from 2 from to before 2 to. Assumes nothing.
-use mathlib.Core.Path.{ap}
 use Prim.Native.Nat.{◌*◌}
 use native.Mathlib.Omega.{arith}
-use borrow.Author.Rules.{rules}
 use Rattle.corners.proofs.Corners.{length_points, take-drop}
 use Rattle.corners.proofs.part.Goals as goal
 

@@ -3,10 +3,9 @@
 use mathlib.Core.Path.{◌≡◌, sym, ◌∙◌, ap, subst}
 use mathlib.Core.Bool.{Bool, true, false}
 use mathlib.Core.List.{List, ◌∷◌}
-use Prim.Native.Nat.{ℕ, suc, ◌+◌, ◌≤◌, ◌<◌, ◌-◌}
+use Prim.Native.Nat.{ℕ, suc, ◌+◌, ◌≤◌, ◌<◌}
 use native.Mathlib.Numerals.{add-one}
 use borrow.Author.Rules.{rules}
-use borrow.Author.Tests.{not-true, not-false}
 use lib.IntN.{ℤ}
 use lib.ListN.{length, drop, get_or, drop_of_length-le}
 use lib.Seq.{drop-cons}
@@ -18,9 +17,9 @@ use Rattle.plane.specs.declared.IntPoint.{IntPoint}
 use Rattle.plane.specs.Plane.{Pt, O}
 use Rattle.plane.specs.Machine.{point}
 use Rattle.table.specs.declared.IntRect.{IntRect}
-use Rattle.corners.specs.Corners.{points_of}
 use Rattle.table.specs.Table.{within_bounds, some_outside, bounds_broken}
 use Rattle.table.proofs.bounds_broken.Goals as goal
+use Rattle.table.proofs.bounds_broken.Goals.{then-bounds-via-then-bounds, then-bounds-via-else-bounds+then-bounds-2}
 
 -- a test of two bounds as the machine holds them
 held : {a b : ℤ} {t : Bool} → SFits w32 a → SFits w32 b → lt_z (to_z w32 (of_z w32 a)) (to_z w32 (of_z w32 b)) ≡ t → lt_z a b ≡ t
@@ -59,24 +58,20 @@ unfolding some_outside
 at_end b l {k} h = rw (drop_of_length-le l {i = k} h)
 
 pub returns-then-bounds : goal.returns-then-bounds
-returns-then-bounds c = crossed_x _ (search rules) (search rules) (search rules) (search rules) c.if-bounds.true
-
-pub returns-then-bounds-2 : goal.returns-then-bounds-2
-returns-then-bounds-2 c = crossed_y _ (search rules) (search rules) (search rules) (search rules) c.if-bounds.false c.if-bounds-2.true
+returns-then-bounds c = elim c.then-bounds.branch [
+  | then-bounds-via-then-bounds w ↦ crossed_x _ (search rules) (search rules) (search rules) (search rules) w.if-bounds.true
+  | then-bounds-via-else-bounds+then-bounds-2 w ↦ crossed_y _ (search rules) (search rules) (search rules) (search rules) w.if-bounds.false w.if-bounds-2.true
+]
 
 pub loop-k-init : goal.loop-k-init
-loop-k-init c = (c.corner_count-count.ensures, search rules, by_corners _ (search rules) (search rules) (search rules) (search rules) c.if-bounds.false c.if-bounds-2.false)
+loop-k-init c = by_corners _ (search rules) (search rules) (search rules) (search rules) c.if-bounds.false c.if-bounds-2.false
 
 pub returns-then-not-within_bounds : goal.returns-then-not-within_bounds
-returns-then-not-within_bounds c = sym (c.loop-k.invariant.2 ∙ outside _ _ (subst (λ n. c.loop-k.k < n) c.loop-k.invariant.0 c.loop-k-test.true) c.corner_at-p.ensures c.within_bounds.ensures c.if-not-within_bounds.true)
+returns-then-not-within_bounds c = sym (c.loop-k.invariant ∙ outside _ _ (subst (λ n. c.loop-k.k < n) c.corner_count-k-end.ensures c.loop-k-test.true) c.corner_at.ensures c.within_bounds.ensures c.if-not-within_bounds.true)
 
 pub loop-k-preserved : goal.loop-k-preserved
-loop-k-preserved c = (
-  c.loop-k.invariant.0,
-  search rules,
-  c.loop-k.invariant.2 ∙ passed _ _ (subst (λ n. c.loop-k.k < n) c.loop-k.invariant.0 c.loop-k-test.true) c.corner_at-p.ensures c.within_bounds.ensures c.if-not-within_bounds.false,
-)
+loop-k-preserved c = c.loop-k.invariant ∙ passed _ _ (subst (λ n. c.loop-k.k < n) c.corner_count-k-end.ensures c.loop-k-test.true) c.corner_at.ensures c.within_bounds.ensures c.if-not-within_bounds.false
 
 pub returns : goal.returns
 returns c = let l = c.loop-k in
-    sym (l.invariant.2 ∙ at_end _ _ (subst (λ n. n ≤ l.k) l.invariant.0 c.loop-k-test.false))
+    sym (l.invariant ∙ at_end _ _ (subst (λ n. n ≤ l.k) c.corner_count-k-end.ensures c.loop-k-test.false))

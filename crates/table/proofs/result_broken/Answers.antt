@@ -4,7 +4,6 @@ use mathlib.Core.Path.{◌≡◌, sym, ◌∙◌}
 use mathlib.Core.Bool.{Bool, true, false}
 use mathlib.Core.List.{List}
 use Prim.Native.Nat.{ℕ}
-use borrow.Author.Rules.{rules}
 use lib.IntN.{ℤ}
 use lib.ListN.{length}
 use Rattle.corners.specs.Corners.{points_of, ragged}
@@ -22,7 +21,7 @@ module _ (s : List ℕ) (c : List ℤ) where
   by_starts h e g = rw (not_ragged c h, ← length_points c, ← e) g
 
 pub returns-then-ragged : goal.returns-then-ragged
-returns-then-ragged c = odd _ _ (sym c.ragged.ensures ∙ c.if-ragged.true)
+returns-then-ragged c = c.if-ragged.true ∙ odd _ _ (sym c.ragged.ensures ∙ c.if-ragged.true)
 
-pub returns : goal.returns
-returns c = by_starts _ _ (sym c.ragged.ensures ∙ c.if-ragged.false) c.corner_count-count.ensures c.starts_broken.ensures
+pub returns-else-ragged : goal.returns-else-ragged
+returns-else-ragged c = by_starts _ _ (sym c.ragged.ensures ∙ c.if-ragged.false) c.corner_count-count.ensures c.starts_broken.ensures

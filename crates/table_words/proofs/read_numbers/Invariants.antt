@@ -16,7 +16,4 @@ use Rattle.table_words.proofs.Copies.{word_from}
 use Rattle.table_words.proofs.read_numbers.Given as goal
 
 abbrev pub invariant-loop-i : goal.invariant-loop-i
-invariant-loop-i l = (l.i ≤ l.count) × (length l.to ≡ length l.initial.to) × (l.to ≡ overlay (map signed (take l.i (drop l.from (words_of l.bytes)))) l.initial.to)
-
-abbrev pub decreases-loop-i : goal.decreases-loop-i
-decreases-loop-i l = l.count - l.i
+invariant-loop-i l = (length l.to ≡ length l.initial.to) × (l.to ≡ overlay (map signed (take l.i (drop l.from (words_of l.bytes)))) l.initial.to)

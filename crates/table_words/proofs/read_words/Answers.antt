@@ -13,13 +13,12 @@ use Rattle.table_words.proofs.Copies.{word_from}
 use Rattle.table_words.proofs.read_words.Goals as goal
 
 pub loop-i-init : goal.loop-i-init
-loop-i-init c = (omega arith, refl, sym (overlay_nil _))
+loop-i-init c = (refl, sym (overlay_nil _))
 
 pub loop-i-preserved : goal.loop-i-preserved
 loop-i-preserved c = let s = c.args in
     let n : c.loop-i.i < length (drop s.from (words_of s.bytes.now)) = omega (arith, length-drop s.from (words_of s.bytes.now), length_words s.bytes.now) in (
-      omega arith,
-      simp length-set c.loop-i.invariant.1,
-      copy_turn (drop s.from (words_of s.bytes.now)) s.to.now 0 n (omega arith) c.loop-i.invariant.2
+      simp length-set c.loop-i.invariant.0,
+      copy_turn (drop s.from (words_of s.bytes.now)) s.to.now 0 n (omega arith) c.loop-i.invariant.1
           (c.word_at.ensures ∙ word_from s.bytes.now s.from c.loop-i.i refl),
     )

@@ -13,7 +13,4 @@ use Rattle.table_words.proofs.Copies.{word_from}
 use Rattle.table_words.proofs.read_words.Given as goal
 
 abbrev pub invariant-loop-i : goal.invariant-loop-i
-invariant-loop-i l = (l.i ≤ l.count) × (length l.to ≡ length l.initial.to) × (l.to ≡ overlay (take l.i (drop l.from (words_of l.bytes))) l.initial.to)
-
-abbrev pub decreases-loop-i : goal.decreases-loop-i
-decreases-loop-i l = l.count - l.i
+invariant-loop-i l = (length l.to ≡ length l.initial.to) × (l.to ≡ overlay (take l.i (drop l.from (words_of l.bytes))) l.initial.to)
