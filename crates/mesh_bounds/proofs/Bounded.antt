@@ -1,6 +1,6 @@
 -- The bounds of points are the least and greatest of each coordinate (`mesh_bounded`). In order:
 -- the least of a coordinate and the greatest; both coordinates; a mesh. Assumes nothing.
-use mathlib.Core.Path.{◌≡◌, refl, sym, ◌∙◌, ap, subst}
+use mathlib.Core.Path.{◌≡◌, refl, sym, ◌∙◌, subst}
 use mathlib.Core.Bool.{true}
 use mathlib.Core.List.{List, [], ◌∷◌}
 use mathlib.Core.Logic.{◌⊎◌, inl, inr, ⊎_elim}
@@ -10,10 +10,9 @@ use Rattle.integers.specs.Lists.{All, Any}
 use Rattle.integers.proofs.Order.{zarith, by_test, ≤_trans}
 use Rattle.integers.proofs.Tests.{le_z-≤, le_z-<, ≤-le_z}
 use Rattle.plane.specs.Plane.{Pt}
-use Rattle.mesh.specs.Mesh.{Mesh, Triangle}
 use Rattle.table.specs.declared.IntRect.{IntRect}
 use Rattle.table.specs.Table.{within_bounds}
-use Rattle.mesh_bounds.specs.Bounds.{lesser, greater, widened, widened_by, point_bounds, corners, vertices_of, bounds_of, Bounding, MeshBounded}
+use Rattle.mesh_bounds.specs.Bounds.{lesser, greater, widened, widened_by, point_bounds, vertices_of, bounds_of, Bounding, MeshBounded}
 
 -- ---- two numbers
 

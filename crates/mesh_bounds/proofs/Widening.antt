@@ -1,7 +1,5 @@
--- Bounds that points are brought into. In order: the lesser and the greater as the code takes them;
--- a row's vertices; row after row. Assumes nothing.
+-- Bounds that points are brought into. In order: a row's vertices; row after row. Assumes nothing.
 use mathlib.Core.Path.{◌≡◌, refl, sym, ◌∙◌, ap}
-use mathlib.Core.Bool.{true, false}
 use mathlib.Core.List.{List, [], ◌∷◌, ◌++◌}
 use Prim.Native.Nat.{ℕ, suc, ◌+◌, ◌<◌, ◌≤◌}
 use native.Mathlib.Numerals.{add-one}
@@ -9,29 +7,11 @@ use native.Mathlib.Omega.{arith}
 use lib.ListN.{length, get_or, drop, drop_of_length-le}
 use lib.Seq.{drop-cons}
 use lib.IntN.{ℤ, pos}
-use lib.Signed.{le_z}
 use Rattle.plane.specs.Plane.{Pt}
-use Rattle.plane.specs.Machine.{point}
-use Rattle.plane.specs.declared.IntPoint.{IntPoint}
-use Rattle.mesh.specs.Mesh.{Mesh, Triangle, vertex}
+use Rattle.mesh.specs.Mesh.{Triangle, vertex}
 use Rattle.mesh.specs.Rows.{row_triangle, rows_mesh}
 use Rattle.table.specs.declared.IntRect.{IntRect}
-use Rattle.mesh_bounds.specs.Bounds.{lesser, greater, widened, widened_by, point_bounds, corners, vertices_of, bounds_of, mesh_bounds}
-
--- ---- two numbers
-
-module _ {a b a' b' : ℤ} (p : a' ≡ a) (q : b' ≡ b) where
-  pub lesser_first : le_z a' b' ≡ true → a' ≡ lesser a b
-  lesser_first h = let e : le_z a b ≡ true = sym (λ i. le_z (p i) (q i)) ∙ h in p ∙ rw e
-
-  pub lesser_second : le_z a' b' ≡ false → b' ≡ lesser a b
-  lesser_second h = let e : le_z a b ≡ false = sym (λ i. le_z (p i) (q i)) ∙ h in q ∙ rw e
-
-  pub greater_second : le_z a' b' ≡ true → b' ≡ greater a b
-  greater_second h = let e : le_z a b ≡ true = sym (λ i. le_z (p i) (q i)) ∙ h in q ∙ rw e
-
-  pub greater_first : le_z a' b' ≡ false → a' ≡ greater a b
-  greater_first h = let e : le_z a b ≡ false = sym (λ i. le_z (p i) (q i)) ∙ h in p ∙ rw e
+use Rattle.mesh_bounds.specs.Bounds.{widened, widened_by, point_bounds, corners, vertices_of, bounds_of, mesh_bounds}
 
 -- ---- points
 

@@ -13,26 +13,6 @@ use mesh::Row;
 use plane::IntPoint;
 use table::IntRect;
 
-// The lesser of two numbers.
-fn lesser_of(a: i32, b: i32) -> i32
-    ensures { result ≡ lesser a b }
-{
-    if a <= b {
-        return a;
-    }
-    b
-}
-
-// The greater of two numbers.
-fn greater_of(a: i32, b: i32) -> i32
-    ensures { result ≡ greater a b }
-{
-    if a <= b {
-        return b;
-    }
-    a
-}
-
 // The bounds of a point alone.
 pub fn bounds_of(p: IntPoint) -> IntRect
     ensures { result ≡ point_bounds (point p) }
@@ -50,10 +30,10 @@ pub fn with_point(b: IntRect, p: IntPoint) -> IntRect
     ensures { result ≡ widened b (point p) }
 {
     IntRect {
-        min_x: lesser_of(b.min_x, p.x),
-        max_x: greater_of(b.max_x, p.x),
-        min_y: lesser_of(b.min_y, p.y),
-        max_y: greater_of(b.max_y, p.y),
+        min_x: b.min_x.min(p.x),
+        max_x: b.max_x.max(p.x),
+        min_y: b.min_y.min(p.y),
+        max_y: b.max_y.max(p.y),
     }
 }
 
@@ -70,19 +50,17 @@ fn with_row(b: IntRect, row: Row) -> IntRect
 pub fn mesh_bounds(rows: &[Row]) -> IntRect
     ensures { result ≡ mesh_bounds (rows_mesh rows.now) }
 {
-    if rows.len() == 0 {
+    let [first, ..] = rows else {
         return IntRect {
             min_x: 0,
             max_x: 0,
             min_y: 0,
             max_y: 0,
         };
-    }
-    let mut b = bounds_of(mesh::vertex_of(rows[0], 0));
-    let mut k: usize = 0;
-    while k < rows.len() {
-        b = with_row(b, rows[k]);
-        k += 1;
+    };
+    let mut b = bounds_of(mesh::vertex_of(*first, 0));
+    for row in rows {
+        b = with_row(b, *row);
     }
     b
 }

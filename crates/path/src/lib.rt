@@ -72,16 +72,13 @@ pub struct PathCounts {
 pub fn reach(at: Point, item: PathItem) -> Point
     ensures { result ≡ reach_of at item }
 {
-    let x = at.x;
-    let y = at.y;
     match item {
-        PathItem::Move(to_x, to_y) => Point { x: to_x, y: to_y },
-        PathItem::Line(to_x, to_y) => Point { x: to_x, y: to_y },
-        PathItem::Horizontal(to_x) => Point { x: to_x, y: y },
-        PathItem::Vertical(to_y) => Point { x: x, y: to_y },
+        PathItem::Move(x, y) | PathItem::Line(x, y) => Point { x, y },
+        PathItem::Horizontal(x) => Point { x, y: at.y },
+        PathItem::Vertical(y) => Point { x: at.x, y },
         PathItem::RelativeLine(dx, dy) => Point {
-            x: x + dx,
-            y: y + dy,
+            x: at.x + dx,
+            y: at.y + dy,
         },
         PathItem::Close => at,
     }
@@ -93,9 +90,7 @@ fn moved(stage: Stage) -> Stage
 {
     match stage {
         Stage::Opening => Stage::Inside,
-        Stage::Inside => Stage::Broken,
-        Stage::Closed => Stage::Broken,
-        Stage::Broken => Stage::Broken,
+        Stage::Inside | Stage::Closed | Stage::Broken => Stage::Broken,
     }
 }
 
@@ -104,10 +99,8 @@ fn drawn(stage: Stage) -> Stage
     ensures { result ≡ drawn_of stage }
 {
     match stage {
-        Stage::Opening => Stage::Broken,
         Stage::Inside => Stage::Inside,
-        Stage::Closed => Stage::Broken,
-        Stage::Broken => Stage::Broken,
+        Stage::Opening | Stage::Closed | Stage::Broken => Stage::Broken,
     }
 }
 
@@ -116,10 +109,8 @@ fn ended(stage: Stage) -> Stage
     ensures { result ≡ ended_of stage }
 {
     match stage {
-        Stage::Opening => Stage::Broken,
         Stage::Inside => Stage::Closed,
-        Stage::Closed => Stage::Broken,
-        Stage::Broken => Stage::Broken,
+        Stage::Opening | Stage::Closed | Stage::Broken => Stage::Broken,
     }
 }
 
@@ -127,47 +118,29 @@ fn ended(stage: Stage) -> Stage
 pub fn is_within(at: Point) -> bool
     ensures { result ≡ is_within at }
 {
-    let x = at.x;
-    let y = at.y;
-    if grid::within_range(x) {
-        return grid::within_range(y);
-    }
-    false
+    grid::within_range(at.x) && grid::within_range(at.y)
 }
 
 // Whether both grid coordinates of a point are in range.
 fn is_on_grid(frame: Frame, at: Point) -> bool
     ensures { result ≡ is_on_grid frame at }
 {
-    let x = at.x;
-    let y = at.y;
-    let origin_x = frame.x;
-    let origin_y = frame.y;
-    let steps = frame.steps;
-    if grid::on_grid(grid::scaled(x, origin_x, steps)) {
-        return grid::on_grid(grid::scaled(y, origin_y, steps));
-    }
-    false
+    grid::on_grid(grid::scaled(at.x, frame.x, frame.steps))
+        && grid::on_grid(grid::scaled(at.y, frame.y, frame.steps))
 }
 
 // The stage where a point is within the range, and else out of order.
 fn stage_if(near: bool, stage: Stage) -> Stage
     ensures { result ≡ cond near stage Stage.Broken }
 {
-    if near {
-        return stage;
-    }
-    Stage::Broken
+    if near { stage } else { Stage::Broken }
 }
 
 // Whether a coordinate is out of range, at this point or before.
 pub fn off_so_far(frame: Frame, off: bool, at: Point) -> bool
     ensures { result ≡ cond (is_on_grid frame at) off true }
 {
-    if is_on_grid(frame, at) {
-        return off;
-    }
-    true
+    off || !is_on_grid(frame, at)
 }
 
 // At a point, in a stage, with or without a coordinate out of range before.
@@ -177,7 +150,7 @@ fn stand(frame: Frame, off: bool, stage: Stage, at: Point) -> Judged
     Judged {
         stage: stage_if(is_within(at), stage),
         off: off_so_far(frame, off, at),
-        at: at,
+        at,
     }
 }
 
@@ -193,8 +166,8 @@ fn staged(stage: Stage, off: bool) -> Judged
     ensures { result ≡ record { stage = stage; off = off; at = initial_point_of } }
 {
     Judged {
-        stage: stage,
-        off: off,
+        stage,
+        off,
         at: initial_point(),
     }
 }
@@ -224,19 +197,17 @@ pub fn closed(off: bool) -> Judged
 pub fn judge_item(frame: Frame, judged: Judged, item: PathItem) -> Judged
     ensures { result ≡ judge_item frame judged item }
 {
-    let stage = judged.stage;
-    let off = judged.off;
-    let at = judged.at;
+    let Judged { stage, off, at } = judged;
     match item {
-        PathItem::Move(x, y) => stand(frame, off, moved(stage), reach(at, item)),
-        PathItem::Line(x, y) => stand(frame, off, drawn(stage), reach(at, item)),
-        PathItem::Horizontal(x) => stand(frame, off, drawn(stage), reach(at, item)),
-        PathItem::Vertical(y) => stand(frame, off, drawn(stage), reach(at, item)),
-        PathItem::RelativeLine(dx, dy) => stand(frame, off, drawn(stage), reach(at, item)),
+        PathItem::Move(..) => stand(frame, off, moved(stage), reach(at, item)),
+        PathItem::Line(..)
+        | PathItem::Horizontal(_)
+        | PathItem::Vertical(_)
+        | PathItem::RelativeLine(..) => stand(frame, off, drawn(stage), reach(at, item)),
         PathItem::Close => Judged {
             stage: ended(stage),
-            off: off,
-            at: at,
+            off,
+            at,
         },
     }
 }
@@ -245,38 +216,21 @@ pub fn judge_item(frame: Frame, judged: Judged, item: PathItem) -> Judged
 fn framed(frame: Frame) -> bool
     ensures { result ≡ framed_of frame }
 {
-    let x = frame.x;
-    let y = frame.y;
-    let steps = frame.steps;
-    if !grid::is_step_count(steps) {
-        return false;
-    }
-    if !grid::is_finite(x) {
-        return false;
-    }
-    grid::is_finite(y)
+    grid::is_step_count(frame.steps) && grid::is_finite(frame.x) && grid::is_finite(frame.y)
 }
 
 // A refusal: its number and no corners.
 fn refusal(fault: u32) -> PathCounts
     ensures { result ≡ record { fault = fault; corners = 0 } }
 {
-    PathCounts {
-        fault: fault,
-        corners: 0,
-    }
+    PathCounts { fault, corners: 0 }
 }
 
 // Whether a path ended with its close.
 fn is_closed(stage: Stage) -> bool
     ensures { result ≡ is_closed stage }
 {
-    match stage {
-        Stage::Opening => false,
-        Stage::Inside => false,
-        Stage::Closed => true,
-        Stage::Broken => false,
-    }
+    matches!(stage, Stage::Closed)
 }
 
 // What is told of a path of so many items that was judged, for the corners that are lent: the first
@@ -284,11 +238,10 @@ fn is_closed(stage: Stage) -> bool
 pub fn told(frame: Frame, judged: Judged, items: usize, corners: &[i32]) -> PathCounts
     ensures { result ≡ judged_counts frame judged items (length corners.now) }
 {
-    let stage = judged.stage;
     if !framed(frame) {
         return refusal(integers::fault::PATH);
     }
-    if !is_closed(stage) {
+    if !is_closed(judged.stage) {
         return refusal(integers::fault::PATH);
     }
     if items == 0 {
@@ -322,14 +275,9 @@ fn corner(frame: Frame, at: Point) -> IntPoint
     requires { T (is_on_grid frame at) }
     ensures { point result ≡ corner_of frame at }
 {
-    let x = at.x;
-    let y = at.y;
-    let origin_x = frame.x;
-    let origin_y = frame.y;
-    let steps = frame.steps;
     IntPoint {
-        x: grid::nearest(grid::scaled(x, origin_x, steps)),
-        y: grid::nearest(grid::scaled(y, origin_y, steps)),
+        x: grid::nearest(grid::scaled(at.x, frame.x, frame.steps)),
+        y: grid::nearest(grid::scaled(at.y, frame.y, frame.steps)),
     }
 }
 

@@ -38,14 +38,12 @@ fn stored_starts_broken(bytes: &[u8], parts: usize, count: usize) -> bool
         return true;
     }
     let mut last: usize = 0;
-    let mut i = 1;
-    while i < parts + 1 {
+    for i in 1..parts + 1 {
         let next = word_at(bytes, i + 2) as usize;
         if table::step_broken(table::MAX_CONTOUR, last, next) {
             return true;
         }
         last = next;
-        i += 1;
     }
     last != count
 }
@@ -59,10 +57,7 @@ fn stored_broken(bytes: &[u8]) -> bool
     }
     let parts = word_at(bytes, 0) as usize;
     let count = word_at(bytes, 1) as usize;
-    if parts > table::MAX_PARTS {
-        return true;
-    }
-    if count > table::MAX_CORNERS {
+    if parts > table::MAX_PARTS || count > table::MAX_CORNERS {
         return true;
     }
     stored_starts_broken(bytes, parts, count)
@@ -73,14 +68,11 @@ fn stored_broken(bytes: &[u8]) -> bool
 fn stored_off_range(bytes: &[u8], from: usize) -> bool
     ensures { result ≡ off_range (map signed (drop from (words_of bytes.now))) }
 {
-    let words = bytes.len() / WORD;
-    let mut i = from;
-    while i < words {
+    for i in from..bytes.len() / WORD {
         let z = table_words::signed_word(word_at(bytes, i));
         if !plane::in_range(z) {
             return true;
         }
-        i += 1;
     }
     false
 }

@@ -1,5 +1,3 @@
--- Laws that belong to no one function: signed numbers' words, as the code makes them; words copied
--- from bytes; words written at a place.
-pub mod Signed
+-- Laws that belong to no one function: words copied from bytes; words written at a place.
 pub mod Copies
 pub mod Places

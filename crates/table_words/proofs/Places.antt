@@ -1,37 +1,27 @@
--- Words written into lent bytes: laws of `put_words` of `specs/Place.antt`.
--- In order: four stores are one word; length; one word more; words after words; from the front on.
--- Assumes nothing.
+-- Words written into lent bytes: laws of `put_words` of `specs/Place.antt`. In order: a word is put
+-- in one piece; length; one word more; words after words; from the front on. Assumes nothing.
 use mathlib.Core.Path.{◌≡◌, refl, sym, ◌∙◌, ap}
 use mathlib.Core.List.{List, [], ◌∷◌, ◌++◌, flatten, append_assoc, append-nil}
-use Prim.Native.Nat.{ℕ, suc, ◌+◌, ◌*◌, ◌/◌, ◌%◌, ◌≤◌}
+use Prim.Native.Nat.{ℕ, ◌+◌, ◌*◌, ◌≤◌}
 use native.Mathlib.Omega.{arith}
-use lib.ListN.{length, take, drop, set, length-append, length-drop, take-append-drop}
-use lib.Seq.{sets-eq, length-take-le, take_at, drop-drop, drop-append-add}
+use borrow.Rule.Slice.PartMut.{put_mid}
+use lib.ListN.{length, take, drop, length-append, length-drop, take-append-drop}
+use lib.Seq.{length-take-le, take_at, drop-drop, drop-append-add}
 use Rattle.integers.specs.Lists.{overlay}
 use Rattle.table.specs.Stored.{bytes_of, word_bytes}
 use Rattle.table.proofs.Words.{length-word_bytes, word_bytes_cons, word_bytes_append}
 use Rattle.table_words.specs.Place.{put_words}
 
-four_stores : (old : List ℕ) (at w : ℕ) → at + 4 ≤ length old
-    → set (set (set (set old at (w % 256)) (suc at) (w / 256 % 256)) (suc (suc at)) (w / 65536 % 256)) (suc (suc (suc at))) (w / 16777216 % 256)
-    ≡ take at old ++ bytes_of w ++ drop (at + 4) old
-unfolding bytes_of
-four_stores old at w h = sets-eq (w % 256 ∷ w / 256 % 256 ∷ w / 65536 % 256 ∷ w / 16777216 % 256 ∷ []) old at h
-
 one_word : (w : ℕ) → word_bytes (w ∷ []) ≡ bytes_of w
 unfolding word_bytes bytes_of flatten
 one_word w = word_bytes_cons w [] ∙ append-nil (bytes_of w)
 
--- the four bytes as the code stores them
-pub stored_word : (old : List ℕ) (k w : ℕ) {a b c d : ℕ} → 4 * k + 4 ≤ length old → a ≡ w % 256 → b ≡ w / 256 % 256 → c ≡ w / 65536 % 256 → d ≡ w / 16777216 % 256
-    → set (set (set (set old (4 * k) a) (4 * k + 1) b) (4 * k + 2) c) (4 * k + 3) d ≡ put_words k (w ∷ []) old
+-- a word's bytes, put in one piece
+pub put_one : (k w : ℕ) (old : List ℕ) {n : ℕ} → n ≡ 4 → put_mid (4 * k) n old (bytes_of w) ≡ put_words k (w ∷ []) old
 unfolding put_words
-stored_word old k w h p q r s =
-    let e₁ : 4 * k + 1 ≡ suc (4 * k) = omega arith in
-    let e₂ : 4 * k + 2 ≡ suc (suc (4 * k)) = omega arith in
-    let e₃ : 4 * k + 3 ≡ suc (suc (suc (4 * k))) = omega arith in
-    (λ i. set (set (set (set old (4 * k) (p i)) (e₁ i) (q i)) (e₂ i) (r i)) (e₃ i) (s i))
-    ∙ four_stores old (4 * k) w h ∙ ap (λ b. take (4 * k) old ++ b ++ drop (4 * k + 4) old) (sym (one_word w))
+put_one k w old {n} e =
+    let rest : drop n (drop (4 * k) old) ≡ drop (4 * k + 4 * 1) old = drop-drop n (4 * k) old ∙ ap (λ j. drop j old) (omega (arith, e)) in
+    (λ i. take (4 * k) old ++ (sym (one_word w) i ++ rest i)) ∙ sym (append_assoc (take (4 * k) old) (word_bytes (w ∷ [])) (drop (4 * k + 4 * 1) old))
 
 put_eq : (k : ℕ) (ws old : List ℕ) → put_words k ws old ≡ take (4 * k) old ++ word_bytes ws ++ drop (4 * k + 4 * length ws) old
 unfolding put_words

@@ -1,17 +1,15 @@
 -- The digits of a number denote it (`decimal_denotes`). Assumes nothing.
-use mathlib.Core.Path.{◌≡◌, refl, sym, ◌∙◌, ap}
-use mathlib.Core.Bool.{true, false, cond}
+use mathlib.Core.Path.{◌≡◌, ◌∙◌, ap}
 use mathlib.Core.List.{List, [], ◌∷◌}
-use Prim.Native.Nat.{ℕ, zero, suc, ◌+◌, ◌-◌, ◌*◌, ◌^◌, ◌/◌, ◌%◌, ◌≤◌, ◌<◌}
+use Prim.Native.Nat.{ℕ, zero, suc, ◌+◌, ◌^◌, ◌/◌, ◌%◌, ◌<◌}
 use native.Mathlib.Omega.{arith}
-use native.Mathlib.Nat.{pow-suc}
 use borrow.Author.Tests.{ltb-true, ltb-false}
 use lib.Dec.{ltb}
 use lib.ListN.{length, get_or}
 use Rattle.integers.specs.Lists.{All}
 use Rattle.integers.proofs.Order.{by_test}
 use Rattle.text.specs.Text.{digits, decimal}
-use Rattle.text.specs.Denotes.{value_from, value_of, IsDigit, Denotes, DecimalDenotes}
+use Rattle.text.specs.Denotes.{value_from, IsDigit, DecimalDenotes}
 use Rattle.text.proofs.Digits.{tenth}
 
 -- the digits of n read, then t: 10 (n / 10) + n % 10 = n

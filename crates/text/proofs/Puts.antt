@@ -1,20 +1,21 @@
--- Text put at a place of lent bytes. In order: one byte a turn (`put_start`, `put_turn`,
--- `put_end`); the length is kept (`put_length`), so the bytes up to the place told are there
+-- Text put at a place of lent bytes. In order: nothing (`put_start`), and a whole text
+-- (`put_piece`); the length is kept (`put_length`), so the bytes up to the place told are there
 -- (`put_within`), another writing of the same text (`put_as`), the room left for what comes after
 -- (`put_room`); nothing put (`put_none`), text on the front (`put_whole`), one text after another
 -- (`put_after_lem`). Assumes nothing.
-use mathlib.Core.Path.{◌≡◌, refl, sym, ◌∙◌, ap}
-use mathlib.Core.List.{List, [], ◌∷◌, ◌++◌, append_assoc, append-nil}
-use Prim.Native.Nat.{ℕ, ◌+◌, ◌≤◌, ◌<◌}
+use mathlib.Core.Path.{◌≡◌, sym, ◌∙◌, ap}
+use mathlib.Core.List.{List, [], ◌++◌, append_assoc, append-nil}
+use Prim.Native.Nat.{ℕ, ◌+◌, ◌≤◌}
 use native.Mathlib.Omega.{arith}
-use lib.ListN.{length, get_or, set, take, drop, length-append, take-append-drop}
-use lib.Seq.{take_all, length-take-le}
+use lib.ListN.{length, take, drop, length-append, take-append-drop}
+use borrow.Rule.Slice.PartMut.{put_mid}
+use lib.Seq.{drop-drop, length-take-le}
 use Rattle.io.specs.Counts.{IsPrefixLen}
 use Rattle.integers.specs.Lists.{overlay}
-use Rattle.integers.proofs.Overlay.{copy_turn_past, overlay_overlay, take_overlay, length_overlay}
+use Rattle.integers.proofs.Overlay.{overlay_overlay, take_overlay, length_overlay}
 use Rattle.text.specs.Put.{put_at, PutText}
 
--- ---- one byte a turn
+-- ---- one text
 
 module _ (from old : List ℕ) (at : ℕ) where
   -- nothing is put yet
@@ -24,12 +25,15 @@ module _ (from old : List ℕ) (at : ℕ) where
       let e : length (take at old) ≡ at = length-take-le at old h in
       sym (ap (λ l. l ++ drop (length l) old) (append-nil (take at old)) ∙ ap (λ n. take at old ++ drop n old) e ∙ take-append-drop at old)
 
-  pub put_turn : {buf : List ℕ} {i : ℕ} → i < length from → at + i < length old → buf ≡ put_at at (take i from) old → set buf (at + i) (get_or from i 0) ≡ put_at at (take (i + 1) from) old
-  unfolding put_at
-  put_turn {i} h k p = copy_turn_past (take at old) from old 0 (omega (arith, length-take-le at old (omega arith))) h k p refl
-
-  pub put_end : {buf : List ℕ} (i : ℕ) → length from ≤ i → buf ≡ put_at at (take i from) old → PutText from at old buf (at + length from)
-  put_end i h p = record { after = refl; bytes = p ∙ ap (λ t. put_at at t old) (take_all i from h) }
+  -- all at once
+  pub put_piece : {k r : ℕ} → at + length from ≤ length old → k ≡ length from → r ≡ at + length from → PutText from at old (put_mid at k old from) r
+  unfolding put_at overlay
+  put_piece {k} h e f =
+      let size : at + k ≡ length (take at old ++ from) = omega (arith, length-append (take at old) from, length-take-le at old (omega arith)) in
+      record {
+        after = f;
+        bytes = ap (λ d. take at old ++ (from ++ d)) (drop-drop k at old ∙ ap (λ j. drop j old) size) ∙ sym (append_assoc (take at old) from (drop (length (take at old ++ from)) old));
+      }
 
 -- ---- laws
 

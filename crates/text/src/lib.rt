@@ -17,11 +17,7 @@ pub fn put_bytes(from: &[u8], out: &mut [u8], at: usize) -> usize
     requires { at + length from.now ≤ length out.old }
     ensures { PutText from.now at out.old out.new result }
 {
-    let mut i = 0;
-    while i < from.len() {
-        out[at + i] = from[i];
-        i += 1;
-    }
+    out[at..at + from.len()].copy_from_slice(from);
     at + from.len()
 }
 
@@ -39,8 +35,7 @@ pub fn put_decimal(n: u64, out: &mut [u8], at: usize) -> usize
 fn size(n: i32) -> u64
     ensures { result ≡ nat_abs n }
 {
-    let bits = integers::unsigned(n) as u64;
-    if n < 0 { 4294967296 - bits } else { bits }
+    u64::from(n.unsigned_abs())
 }
 
 // A number in base ten, with a minus where it is below 0.
@@ -50,9 +45,10 @@ pub fn put_signed(n: i32, out: &mut [u8], at: usize) -> usize
 {
     if n < 0 {
         let after = put_bytes(b"-", out, at);
-        return put_decimal(size(n), out, after);
+        put_decimal(size(n), out, after)
+    } else {
+        put_decimal(size(n), out, at)
     }
-    put_decimal(size(n), out, at)
 }
 
 // A word, and a number in base ten after it.
@@ -88,13 +84,10 @@ pub fn put_corners(corners: &[i32], out: &mut [u8], at: usize) -> usize
     requires { at + length (corners_text (points_of corners.now)) ≤ length out.old }
     ensures { PutText (corners_text (points_of corners.now)) at out.old out.new result }
 {
-    let count = corners::corner_count(corners);
     let mut after = at;
-    let mut k = 0;
-    while k < count {
+    for k in 0..corners::corner_count(corners) {
         let p = corners::corner_at(corners, k);
         after = put_corner(p, out, after);
-        k += 1;
     }
     after
 }

@@ -1,8 +1,6 @@
 -- `mesh_bounds::with_row` meets its contract: vertex by vertex. Assumes nothing.
-use Rattle.plane.specs.Machine.{point}
 use Rattle.mesh.specs.Rows.{row_triangle}
 use Rattle.mesh_bounds.proofs.Widening.{three_points}
-use borrow.Author.Rules.{rules}
 use Rattle.mesh_bounds.proofs.with_row.Goals as goal
 
 pub returns : goal.returns

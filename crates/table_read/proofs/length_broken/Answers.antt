@@ -1,5 +1,4 @@
 -- `table_read::length_broken` meets its contract: the size of the two counts read. Assumes nothing.
-use borrow.Author.Rules.{rules}
 use Rattle.table_read.proofs.Reading.{too_short, by_counts}
 use Rattle.table_read.proofs.length_broken.Goals as goal
 

@@ -2,10 +2,9 @@
 -- nothing.
 use mathlib.Core.Path.{refl, sym, ◌∙◌, ap}
 use native.Mathlib.Omega.{arith}
-use borrow.Author.Rules.{rules}
 use Rattle.table.proofs.StoredForm.{sized, accepted}
 use Rattle.faults.specs.Told.{told}
-use Rattle.table_read.proofs.Reading.{room, refused_read, accepted_read}
+use Rattle.table_read.proofs.Reading.{room, accepted_read}
 use Rattle.table_read.proofs.read_table.Goals as goal
 
 pub word_at-parts-requires : goal.word_at-parts-requires

@@ -2,10 +2,10 @@
 -- nothing.
 use mathlib.Core.Path.{sym, ◌∙◌}
 use native.Mathlib.Omega.{arith}
-use borrow.Author.Rules.{rules}
 use Rattle.table.proofs.StoredForm.{sized}
 use Rattle.table_read.proofs.Reading.{broken_length, many_parts, many_corners, from_starts}
 use Rattle.table_read.proofs.stored_broken.Goals as goal
+use Rattle.table_read.proofs.stored_broken.Goals.{then-parts-gt-MAX_PARTS-via-then-parts-gt-MAX_PARTS, then-parts-gt-MAX_PARTS-via-else-parts-gt-MAX_PARTS+then-count-gt-MAX_CORNERS}
 
 pub returns-then-length_broken : goal.returns-then-length_broken
 returns-then-length_broken c = sym (broken_length _ (sym c.length_broken.ensures ∙ c.if-length_broken.true))
@@ -17,10 +17,10 @@ pub word_at-count-requires : goal.word_at-count-requires
 word_at-count-requires c = omega (arith, sized _ (sym c.length_broken.ensures ∙ c.if-length_broken.false))
 
 pub returns-then-parts-gt-MAX_PARTS : goal.returns-then-parts-gt-MAX_PARTS
-returns-then-parts-gt-MAX_PARTS c = sym (many_parts _ (sym c.length_broken.ensures ∙ c.if-length_broken.false) (omega (arith, c.if-parts-gt-MAX_PARTS.true, c.word_at-parts.ensures)))
-
-pub returns-then-count-gt-MAX_CORNERS : goal.returns-then-count-gt-MAX_CORNERS
-returns-then-count-gt-MAX_CORNERS c = sym (many_corners _ (sym c.length_broken.ensures ∙ c.if-length_broken.false) (omega (arith, c.if-parts-gt-MAX_PARTS.false, c.word_at-parts.ensures)) (omega (arith, c.if-count-gt-MAX_CORNERS.true, c.word_at-count.ensures)))
+returns-then-parts-gt-MAX_PARTS c = elim c.then-parts-gt-MAX_PARTS.branch [
+  | then-parts-gt-MAX_PARTS-via-then-parts-gt-MAX_PARTS w ↦ sym (many_parts _ (sym c.length_broken.ensures ∙ c.if-length_broken.false) (omega (arith, w.if-parts-gt-MAX_PARTS.true, c.word_at-parts.ensures)))
+  | then-parts-gt-MAX_PARTS-via-else-parts-gt-MAX_PARTS+then-count-gt-MAX_CORNERS w ↦ sym (many_corners _ (sym c.length_broken.ensures ∙ c.if-length_broken.false) (omega (arith, w.if-parts-gt-MAX_PARTS.false, c.word_at-parts.ensures)) (omega (arith, w.if-count-gt-MAX_CORNERS.true, c.word_at-count.ensures)))
+]
 
 pub returns : goal.returns
 returns c = from_starts _ (sym c.length_broken.ensures ∙ c.if-length_broken.false) (omega (arith, c.if-parts-gt-MAX_PARTS.false, c.word_at-parts.ensures)) (omega (arith, c.if-count-gt-MAX_CORNERS.false, c.word_at-count.ensures))

@@ -1,18 +1,10 @@
 -- `table_read::stored_starts_broken` meets its contract. The loop's invariant: the answer for all
 -- starts is that for those from i on, after `last`. Assumes nothing.
-use mathlib.Core.Path.{◌≡◌, sym, ◌∙◌}
-use Prim.Native.Nat.{◌+◌, ◌≤◌, ◌-◌}
-use native.Mathlib.Omega.{arith}
-use borrow.Author.Rules.{rules}
+use mathlib.Core.Path.{◌≡◌}
 use lib.ListN.{drop}
 use Rattle.table.specs.Table.{steps_broken, starts_broken, max_contour}
 use Rattle.table.specs.Stored.{stored_starts}
-use Rattle.table.proofs.StoredForm.{sized}
-use Rattle.table_read.proofs.Reading.{starts_not_0, starts_at_0, next_broken, next_passed, last_start}
 use Rattle.table_read.proofs.stored_starts_broken.Given as goal
 
 abbrev pub invariant-loop-i : goal.invariant-loop-i
-invariant-loop-i l = (l.i ≤ l.parts + 1) × (starts_broken max_contour l.count (stored_starts l.bytes) ≡ steps_broken max_contour l.count l.last (drop l.i (stored_starts l.bytes)))
-
-abbrev pub decreases-loop-i : goal.decreases-loop-i
-decreases-loop-i l = l.parts + 1 - l.i
+invariant-loop-i l = (starts_broken max_contour l.count (stored_starts l.bytes) ≡ steps_broken max_contour l.count l.last (drop l.i (stored_starts l.bytes)))

@@ -1,13 +1,10 @@
 -- `table_words::read_numbers` meets its contract. The loop's invariant: the first i numbers stand
 -- on the buffer's front. Assumes nothing.
-use mathlib.Core.Path.{◌≡◌, refl, sym, ◌∙◌, ap}
-use mathlib.Core.List.{map}
-use Prim.Native.Nat.{◌+◌, ◌≤◌, ◌<◌, ◌-◌}
+use mathlib.Core.Path.{refl, sym, ◌∙◌, ap}
+use Prim.Native.Nat.{◌<◌}
 use native.Mathlib.Omega.{arith}
-use borrow.Author.Rules.{rules}
-use lib.ListN.{length, take, drop, length-set, length-drop}
+use lib.ListN.{length, drop, length-set, length-drop}
 use mir.Syntax.{w32}
-use Rattle.integers.specs.Lists.{overlay}
 use Rattle.integers.proofs.Bits.{got}
 use Rattle.integers.proofs.Overlay.{overlay_nil, copy_map_turn}
 use Rattle.table.specs.Stored.{words_of, signed}

@@ -2,7 +2,6 @@
 -- order. Assumes nothing.
 use mathlib.Core.Path.{sym, ◌∙◌}
 use native.Mathlib.Omega.{arith}
-use borrow.Author.Rules.{rules}
 use Rattle.table.proofs.Rules.{sound}
 use Rattle.table_write.proofs.Writing.{fault_7, fault_2, fault_21, no_fault_write}
 use Rattle.table_write.proofs.write_fault.Goals as goal

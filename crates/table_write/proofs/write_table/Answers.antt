@@ -2,11 +2,10 @@
 -- numbers. Assumes nothing.
 use mathlib.Core.Path.{refl, sym, ◌∙◌, ap}
 use native.Mathlib.Omega.{arith}
-use borrow.Author.Rules.{rules}
 use Rattle.corners.proofs.Corners.{length_points}
 use Rattle.table.proofs.Rules.{sound}
 use Rattle.faults.specs.Told.{told}
-use Rattle.table_write.proofs.Writing.{writes, put_whole_length, put_table, refused_write, accepted_write}
+use Rattle.table_write.proofs.Writing.{writes, put_whole_length, put_table, accepted_write}
 use Rattle.table_write.proofs.write_table.Goals as goal
 
 pub overflow_sub-starts : goal.overflow_sub-starts

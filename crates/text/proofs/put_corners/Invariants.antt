@@ -1,10 +1,6 @@
 -- `text::put_corners` meets its contract. The loop's invariant: the first k corners are put.
 -- Assumes nothing.
-use mathlib.Core.Path.{◌≡◌, refl, subst}
-use Prim.Native.Nat.{◌+◌, ◌≤◌, ◌<◌, ◌-◌}
-use native.Mathlib.Omega.{arith}
-use Rattle.text.proofs.Corners.{corner_room, corner_put, corners_start, corners_all}
-use borrow.Author.Rules.{rules}
+use mathlib.Core.Path.{◌≡◌}
 use lib.ListN.{length, take}
 use Rattle.corners.specs.Corners.{points_of}
 use Rattle.text.specs.Text.{corners_text}
@@ -12,7 +8,4 @@ use Rattle.text.specs.Put.{PutText}
 use Rattle.text.proofs.put_corners.Given as goal
 
 abbrev pub invariant-loop-k : goal.invariant-loop-k
-invariant-loop-k l = (l.count ≡ length (points_of l.corners)) × (l.k ≤ l.count) × (length l.out ≡ length l.initial.out) × PutText (corners_text (take l.k (points_of l.corners))) l.at l.initial.out l.out l.after
-
-abbrev pub decreases-loop-k : goal.decreases-loop-k
-decreases-loop-k l = l.count - l.k
+invariant-loop-k l = (length l.out ≡ length l.initial.out) × PutText (corners_text (take l.k (points_of l.corners))) l.at l.initial.out l.out l.after

@@ -3,7 +3,6 @@
 use native.Mathlib.Omega.{arith}
 use Rattle.text.proofs.Fewest.{decimal_put}
 use Rattle.text.proofs.Puts.{put_as}
-use borrow.Author.Rules.{rules}
 use Rattle.text.proofs.put_decimal.Goals as goal
 
 pub put_bytes-requires : goal.put_bytes-requires

@@ -1,7 +1,6 @@
 -- `text::put_refusal` meets its contract: three pieces, one after another. Assumes nothing.
 use native.Mathlib.Omega.{arith}
 use Rattle.text.proofs.Refusals.{refusal_length, refusal_pieces}
-use borrow.Author.Rules.{rules}
 use Rattle.text.proofs.put_refusal.Goals as goal
 
 pub put_bytes-word-requires : goal.put_bytes-word-requires

@@ -1,9 +1,6 @@
 -- `text::put_word_decimal` meets its contract. Assumes nothing.
 use native.Mathlib.Omega.{arith}
-use lib.ListN.{length-append}
-use Rattle.text.specs.Text.{decimal}
 use Rattle.text.proofs.Puts.{put_after_lem}
-use borrow.Author.Rules.{rules}
 use Rattle.text.proofs.put_word_decimal.Goals as goal
 
 pub returns : goal.returns

@@ -2,11 +2,9 @@
 use mathlib.Core.Path.{ap}
 use mathlib.Core.List.{◌++◌}
 use native.Mathlib.Omega.{arith}
-use lib.ListN.{length, length-append}
 use Rattle.integers.proofs.Bits.{kept}
 use Rattle.text.specs.Text.{signed_decimal}
 use Rattle.text.proofs.Puts.{put_after_lem, put_as}
-use borrow.Author.Rules.{rules}
 use Rattle.text.proofs.put_word_signed.Goals as goal
 
 pub returns : goal.returns
