@@ -22,7 +22,7 @@ use Rattle.grid.proofs.Bands.{range_number}
 use Rattle.path.specs.declared.PathItem.{PathItem}
 use Rattle.path.specs.declared.PathItem.TheVariants.{Move, Line, Horizontal, Vertical, RelativeLine, Close}
 use Rattle.path.specs.declared.Stage.{Stage}
-use Rattle.path.specs.declared.Stage.TheVariants.{Opening, Broken}
+use Rattle.path.specs.declared.Stage.TheVariants.{Broken}
 use Rattle.path.specs.declared.Point.{Point}
 use Rattle.path.specs.declared.Frame.{Frame}
 use Rattle.path.specs.declared.Judged.{Judged}

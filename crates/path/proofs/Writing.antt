@@ -17,11 +17,10 @@ use Rattle.integers.specs.Lists.{overlay}
 use Rattle.integers.proofs.Order.{by_test}
 use Rattle.integers.proofs.Faults.{first_none}
 use Rattle.integers.proofs.Overlay.{overlay_nil, overlay_two}
-use Rattle.corners.specs.Corners.{numbers_of, with_corner}
+use Rattle.corners.specs.Corners.{numbers_of}
 use Rattle.corners.proofs.Corners.{length_points}
 use Rattle.table.specs.Table.{max_contour}
 use Rattle.path.specs.declared.PathItem.{PathItem}
-use Rattle.path.specs.declared.Stage.TheVariants.{Opening}
 use Rattle.path.specs.declared.Point.{Point}
 use Rattle.path.specs.declared.Frame.{Frame}
 use Rattle.path.specs.declared.PathCounts.{PathCounts}

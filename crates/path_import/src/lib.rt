@@ -11,24 +11,13 @@ ghost use Rattle.path.specs.Writing.{write_from, Writable};
 
 use path::{Frame, Judged, PathCounts, PathItem, Point};
 
-// Item i of a path.
-fn item_at(path: &[PathItem], i: usize) -> PathItem
-    requires { i < length path.now }
-    ensures { result ≡ get_or path.now i PathItem.Close }
-{
-    path[i]
-}
-
 // The items judged, one after another.
 fn judge_from(path: &[PathItem], frame: Frame, start: Judged) -> Judged
     ensures { result ≡ judge_from frame start path.now }
 {
     let mut judged = start;
-    let mut i: usize = 0;
-    while i < path.len() {
-        let item = item_at(path, i);
-        judged = path::judge_item(frame, judged, item);
-        i += 1;
+    for item in path {
+        judged = path::judge_item(frame, judged, *item);
     }
     judged
 }
@@ -39,11 +28,8 @@ fn write_from(path: &[PathItem], frame: Frame, start: Point, n: usize, corners: 
     ensures { corners.new ≡ write_from frame (take n path.now) start 0 corners.old }
 {
     let mut at = start;
-    let mut i: usize = 0;
-    while i < n {
-        let item = item_at(path, i);
-        at = path::write_item(frame, at, item, i, corners);
-        i += 1;
+    for (i, item) in path[..n].iter().enumerate() {
+        at = path::write_item(frame, at, *item, i, corners);
     }
 }
 

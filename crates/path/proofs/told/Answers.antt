@@ -2,10 +2,9 @@
 -- nothing.
 use mathlib.Core.Path.{◌∙◌, sym, ap}
 use mathlib.Core.Bool.{not}
-use borrow.Author.Tests.{not-true, not-false, eq-eqb, ne_eqb}
+use borrow.Author.Tests.{eq-eqb, ne_eqb}
 use Rattle.corners.proofs.Corners.{length_points}
 use Rattle.path.proofs.Tests.{both_hold, first_fails, first_holds, told_path, told_long, told_off, told_narrow, told_none}
-use borrow.Author.Rules.{rules}
 use Rattle.path.proofs.told.Goals as goal
 
 pub returns-then-not-framed : goal.returns-then-not-framed

@@ -2,7 +2,6 @@
 -- nothing.
 use mathlib.Core.Path.{refl, sym, ◌∙◌, ap, subst}
 use lib.ListN.{length, take}
-use Rattle.path.specs.Path.{initial_point}
 use Rattle.path.specs.Judging.{judge_from}
 use Rattle.path.specs.Writing.{Writable, write_from}
 use Rattle.path.proofs.Judging.{told_is}
