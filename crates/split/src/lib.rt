@@ -20,8 +20,5 @@ pub const MIN_LIMIT: u32 = 3;
 pub fn raised(limit: u32) -> usize
     ensures { result ≡ raised limit }
 {
-    if limit < MIN_LIMIT {
-        return MIN_LIMIT as usize;
-    }
-    limit as usize
+    limit.max(MIN_LIMIT) as usize
 }

@@ -1,6 +1,6 @@
 -- A contour's centre as the code answers it (document 01, "Splitting past a limit m": centroid),
 -- and what its sums ask of a contour. Assumes nothing.
-use Rattle.std.specs.Prelude.{◌≡◌, true, cond, List, ℕ, ◌^◌, ◌≤◌, ◌<◌, length, get_or, ℤ, pos, nat_abs, ◌+ℤ◌, ◌*ℤ◌}
+use Rattle.std.specs.Prelude.{◌≡◌, true, cond, List, ℕ, ◌^◌, ◌≤◌, ◌<◌, length, get_or, ℤ, pos, nat_abs, ◌+ℤ◌, ◌*ℤ◌, Option, Some, None}
 use Rattle.std.specs.Int.Signed.{le_z, lt_z}
 use Rattle.table.specs.Table.{max_contour}
 use Rattle.integers.specs.Lists.{All, neighbours}
@@ -12,8 +12,6 @@ use Rattle.wide.specs.declared.SignedProduct.{SignedProduct}
 use Rattle.wide.specs.Words.{value}
 use Rattle.split.specs.Splitting.{rounded, moment_x, moment_y, seen_from, centre_of, centre_serves}
 use Rattle.split_centre.specs.declared.Sums.{Sums}
-use Rattle.split_centre.specs.declared.Centre.{Centre}
-use Rattle.split_centre.specs.declared.Centre.TheVariants.{At, Unserved}
 
 -- ---- what the sums ask
 
@@ -63,9 +61,9 @@ abbrev pub grid_point : Pt → IntPoint
 grid_point p = record { x = p.x; y = p.y }
 
 -- "Fan is used if .. the doubled area exceeds 3,074,457,345,618,258,602."
-unfoldable pub centroid_found : List Pt → Centre
-centroid_found l = cond (lt_z (pos 3074457345618258602) (contour_area l)) Unserved (At (grid_point (rounded_centre l)))
+unfoldable pub centroid_found : List Pt → Option IntPoint
+centroid_found l = cond (lt_z (pos 3074457345618258602) (contour_area l)) None (Some (grid_point (rounded_centre l)))
 
 -- "Fan is used if it isn't strictly inside, or the doubled area exceeds 3,074,457,345,618,258,602."
-unfoldable pub centre_found : List Pt → Centre
-centre_found l = cond (centre_serves (rounded_centre l) l) (At (grid_point (rounded_centre l))) Unserved
+unfoldable pub centre_found : List Pt → Option IntPoint
+centre_found l = cond (centre_serves (rounded_centre l) l) (Some (grid_point (rounded_centre l))) None

@@ -18,13 +18,6 @@ ghost use Rattle.split_centre.specs.Centre.{Summable, Roomy, Added, Summed, Plac
 use plane::{IntPoint, IntVector};
 use wide::{SignedProduct, Words};
 
-// A contour's centre, or that it has none to split about.
-#[derive(Clone, Copy)]
-pub enum Centre {
-    At(IntPoint),
-    Unserved,
-}
-
 // Sums over a contour's edges a b, seen from its first corner: of a × b, and of (a + b) (a × b) by
 // coordinate.
 #[derive(Clone, Copy)]
@@ -37,14 +30,6 @@ pub struct Sums {
 // The greatest doubled area that three times fits 63 bits (document 01: "or the doubled area
 // exceeds 3,074,457,345,618,258,602").
 pub const MAX_CENTROID_AREA: i64 = 3074457345618258602;
-
-// area + cross.
-fn add_area(area: i64, cross: i64) -> i64
-    requires { nat_abs (area +ℤ cross) < 2 ^ 63 }
-    ensures { result ≡ area +ℤ cross }
-{
-    area + cross
-}
 
 // sum + (a + b) * cross.
 fn add_moment(sum: SignedProduct, a: i64, b: i64, cross: i64) -> SignedProduct
@@ -60,12 +45,10 @@ fn add_edge(s: Sums, a: IntVector, b: IntVector) -> Sums
     ensures { Added s (vector a) (vector b) result }
 {
     let cross = plane::cross_product(a, b);
-    let x = s.x;
-    let y = s.y;
     Sums {
-        area: add_area(s.area, cross),
-        x: add_moment(x, a.x, b.x, cross),
-        y: add_moment(y, a.y, b.y, cross),
+        area: s.area + cross,
+        x: add_moment(s.x, a.x, b.x, cross),
+        y: add_moment(s.y, a.y, b.y, cross),
     }
 }
 
@@ -86,12 +69,10 @@ fn sums_of(contour: &[[i32; 2]]) -> Sums
         y: none,
     };
     let mut a = plane::subtract(points::point_at(contour, 1), origin);
-    let mut i: usize = 2;
-    while i < contour.len() {
+    for i in 2..contour.len() {
         let b = plane::subtract(points::point_at(contour, i), origin);
         s = add_edge(s, a, b);
         a = b;
-        i += 1;
     }
     s
 }
@@ -101,12 +82,9 @@ fn rounded_quotient(sum: SignedProduct, d: u64) -> i64
     requires { (sum.words.high < d) × Extent (rounded (value sum) d) }
     ensures { result ≡ rounded (value sum) d }
 {
-    let words = sum.words;
-    let size = wide_divide::divide_with_rounding(words.high, words.low, d) as i64;
-    if sum.negative {
-        return -size;
-    }
-    size
+    let Words { high, low } = sum.words;
+    let size = wide_divide::divide_with_rounding(high, low, d) as i64;
+    if sum.negative { -size } else { size }
 }
 
 // A coordinate of the centre: z, and a sum over d to nearest.
@@ -122,26 +100,24 @@ fn tripled(area: i64) -> u64
     requires { (le_z (pos 0) area ≡ true) × (le_z area (pos 3074457345618258602) ≡ true) }
     ensures { result ≡ 3 * nat_abs area }
 {
-    3 * (area as u64)
+    3 * area.unsigned_abs()
 }
 
 // The area centroid, to nearest from the first corner, where three times the doubled area fits 63
 // bits.
-pub fn polygon_centroid(contour: &[[i32; 2]]) -> Centre
+pub fn polygon_centroid(contour: &[[i32; 2]]) -> Option<IntPoint>
     requires { Summable (map corner_of contour.now) × (3 ≤ length contour.now) }
     ensures { result ≡ centroid_found (map corner_of contour.now) }
 {
     let s = sums_of(contour);
     if s.area > MAX_CENTROID_AREA {
-        return Centre::Unserved;
+        return None;
     }
     let origin = points::point_at(contour, 0);
     let d = tripled(s.area);
-    let x = s.x;
-    let y = s.y;
-    Centre::At(IntPoint {
-        x: centred(origin.x, x, d),
-        y: centred(origin.y, y, d),
+    Some(IntPoint {
+        x: centred(origin.x, s.x, d),
+        y: centred(origin.y, s.y, d),
     })
 }
 
@@ -151,29 +127,27 @@ fn strictly_inside(contour: &[[i32; 2]], g: IntPoint) -> bool
     ensures { result ≡ left_of_all (point g) (neighbours (map corner_of contour.now)) }
 {
     let mut a = points::point_at(contour, 0);
-    let mut i: usize = 1;
-    while i < contour.len() {
+    for i in 1..contour.len() {
         let b = points::point_at(contour, i);
         if plane::area_two(a, b, g) <= 0 {
             return false;
         }
         a = b;
-        i += 1;
     }
     plane::area_two(a, points::point_at(contour, 0), g) > 0
 }
 
 // The centre to split a contour about, where it lies strictly inside.
-pub fn centre_of(contour: &[[i32; 2]]) -> Centre
+pub fn centre_of(contour: &[[i32; 2]]) -> Option<IntPoint>
     requires { Summable (map corner_of contour.now) × (3 ≤ length contour.now) }
     ensures { result ≡ centre_found (map corner_of contour.now) }
 {
-    let centroid = polygon_centroid(contour);
-    let Centre::At(g) = centroid else {
-        return Centre::Unserved;
+    let Some(g) = polygon_centroid(contour) else {
+        return None;
     };
     if strictly_inside(contour, g) {
-        return Centre::At(g);
+        Some(g)
+    } else {
+        None
     }
-    Centre::Unserved
 }

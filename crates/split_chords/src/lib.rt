@@ -18,8 +18,7 @@ pub fn append_point(contour: &[[i32; 2]], i: usize, points: &mut [[i32; 2]], cou
     requires { (i < length contour.now) × (count < length points.old) }
     ensures { Appended (corner_in contour.now i ∷ []) points.old count points.new result }
 {
-    let c = contour[i];
-    points[count] = c;
+    points[count] = contour[i];
     count + 1
 }
 
@@ -34,13 +33,8 @@ pub fn append_run(
     requires { (i + n ≤ length contour.now) × (count + n ≤ length points.old) }
     ensures { Appended (run_of contour.now i n) points.old count points.new result }
 {
-    let mut total = count;
-    let mut k: usize = 0;
-    while k < n {
-        total = append_point(contour, i + k, points, total);
-        k += 1;
-    }
-    total
+    points[count..count + n].copy_from_slice(&contour[i..i + n]);
+    count + n
 }
 
 // The part whose points end at n ends: the next one starts there.
@@ -50,10 +44,7 @@ pub fn end_part(starts: &mut [u32], t: Tally, n: usize) -> Tally
 {
     let parts = t.parts + 1;
     points::put_start(starts, parts, n);
-    Tally {
-        parts: parts,
-        corners: n,
-    }
+    Tally { parts, corners: n }
 }
 
 // How many groups of at most b hold a things.
@@ -61,7 +52,7 @@ pub fn ceil_div(a: usize, b: usize) -> usize
     requires { (0 < a) × (a ≤ max_contour) × (0 < b) × (b ≤ max_contour) }
     ensures { (result ≡ ceil_div a b) × (0 < result) }
 {
-    (a + (b - 1)) / b
+    a.div_ceil(b)
 }
 
 // The size of group i: the first ones are one larger where the division leaves a rest.
@@ -69,10 +60,7 @@ pub fn share(i: usize, size: usize, extra: usize) -> usize
     requires { size < 2 ^ 32 }
     ensures { result ≡ size + cond (ltb i extra) 1 0 }
 {
-    if i < extra {
-        return size + 1;
-    }
-    size
+    if i < extra { size + 1 } else { size }
 }
 
 // The fan's part of the corners start to start + size is appended.
@@ -115,12 +103,10 @@ pub fn append_fan_parts(
     let extra = triangles % part_count;
     let mut tally = t;
     let mut start: usize = 1;
-    let mut i: usize = 0;
-    while i < part_count {
+    for i in 0..part_count {
         let n = share(i, size, extra);
         tally = append_fan_part(contour, start, n, starts, points, tally);
         start += n;
-        i += 1;
     }
     tally
 }

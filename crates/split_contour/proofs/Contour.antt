@@ -19,8 +19,7 @@ use Rattle.points.specs.declared.Tally.{Tally}
 use Rattle.points.specs.Gathered.{RoomFor, PartsAppended}
 use Rattle.split.specs.declared.ConvexSplitStrategy.{ConvexSplitStrategy}
 use Rattle.split.specs.Splitting.{centre_serves, centroid_parts, centred_parts, fan_parts, split_by, split_contour}
-use Rattle.split_centre.specs.declared.Centre.{Centre}
-use Rattle.split_centre.specs.declared.Centre.TheVariants.{At, Unserved}
+use Rattle.std.specs.Prelude.{Option, Some, None}
 use Rattle.split_centre.specs.Centre.{Summable, rounded_centre, grid_point, centre_found}
 use Rattle.split_centre.proofs.Range.{centre_on_grid}
 use Rattle.split_chords.specs.Runs.{run_of}
@@ -42,16 +41,16 @@ module _ (how : ConvexSplitStrategy) (m : ℕ) (contour : List (List ℤ)) where
 
 -- ---- about the centre
 
-at_of : (t : Bool) (a : IntPoint) {g : IntPoint} → cond t (At a) Unserved ≡ At g → (t ≡ true) × (g ≡ a)
+at_of : (t : Bool) (a : IntPoint) {g : IntPoint} → cond t (Some a) None ≡ Some g → (t ≡ true) × (g ≡ a)
 at_of true a e = (refl, cc)
 at_of false a e = absurd (let z : ◌≡◌ {A = ℕ} 0 1 = cc in omega arith)
 
-unserved_of : (t : Bool) (a : IntPoint) → cond t (At a) Unserved ≡ Unserved → t ≡ false
+unserved_of : (t : Bool) (a : IntPoint) → cond t (Some a) None ≡ None → t ≡ false
 unserved_of true a e = absurd (let z : ◌≡◌ {A = ℕ} 0 1 = cc in omega arith)
 unserved_of false a e = refl
 
 -- the parts about a centre that serves
-pub centre_at : (m : ℕ) (contour : List (List ℤ)) {g : IntPoint} → 0 < length contour → centre_found (corners_in contour) ≡ At g → centred_parts m (corners_in contour) ≡ centroid_parts m (point g) (corner_in contour 0) (corners_in contour)
+pub centre_at : (m : ℕ) (contour : List (List ℤ)) {g : IntPoint} → 0 < length contour → centre_found (corners_in contour) ≡ Some g → centred_parts m (corners_in contour) ≡ centroid_parts m (point g) (corner_in contour 0) (corners_in contour)
 unfolding centre_found centred_parts
 centre_at m [] n e = absurd (omega arith)
 centre_at m (r ∷ contour) n e =
@@ -59,7 +58,7 @@ centre_at m (r ∷ contour) n e =
     let f = at_of (centre_serves (rounded_centre l) l) (grid_point (rounded_centre l)) e in
     rw f.0 (ap (λ a. centroid_parts m (point a) (corner_of r) l) (sym f.1))
 
-pub centre_grid : (contour : List (List ℤ)) {g : IntPoint} → 0 < length contour → Summable (corners_in contour) → centre_found (corners_in contour) ≡ At g → OnGrid g
+pub centre_grid : (contour : List (List ℤ)) {g : IntPoint} → 0 < length contour → Summable (corners_in contour) → centre_found (corners_in contour) ≡ Some g → OnGrid g
 unfolding centre_found
 centre_grid [] n h e = absurd (omega arith)
 centre_grid (r ∷ contour) n h e =
@@ -69,7 +68,7 @@ centre_grid (r ∷ contour) n h e =
     rw f.1 (record { x_small = k.0; y_small = k.1 })
 
 -- else the fan's
-pub centre_unserved : (m : ℕ) (contour : List (List ℤ)) → 0 < length contour → centre_found (corners_in contour) ≡ Unserved → centred_parts m (corners_in contour) ≡ fan_parts m (corners_in contour)
+pub centre_unserved : (m : ℕ) (contour : List (List ℤ)) → 0 < length contour → centre_found (corners_in contour) ≡ None → centred_parts m (corners_in contour) ≡ fan_parts m (corners_in contour)
 unfolding centre_found centred_parts
 centre_unserved m [] n e = absurd (omega arith)
 centre_unserved m (r ∷ contour) n e =

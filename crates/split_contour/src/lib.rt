@@ -12,7 +12,6 @@ ghost use Rattle.points.specs.Gathered.{RoomFor, PartsAppended};
 
 use points::Tally;
 use split::ConvexSplitStrategy;
-use split_centre::Centre;
 
 // The parts of a contour about its centre, or its fan where the centre does not serve, are
 // appended.
@@ -30,12 +29,9 @@ fn append_centroid_parts(
     ensures { PartsAppended (centred_parts limit (corners_in contour.now)) starts.old points.old t
         starts.new points.new result }
 {
-    let found = split_centre::centre_of(contour);
-    match found {
-        Centre::At(centre) => {
-            split_sectors::append_sectors(contour, centre, limit, starts, points, t)
-        }
-        Centre::Unserved => split_chords::append_fan_parts(contour, limit, starts, points, t),
+    match split_centre::centre_of(contour) {
+        Some(centre) => split_sectors::append_sectors(contour, centre, limit, starts, points, t),
+        None => split_chords::append_fan_parts(contour, limit, starts, points, t),
     }
 }
 

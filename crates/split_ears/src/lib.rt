@@ -36,10 +36,8 @@ fn fill_ring(ring: &mut [u32], n: usize)
     ensures { Fresh ring.new n }
 {
     let last = n - 1;
-    let mut i: usize = 0;
-    while i < last {
+    for i in 0..last {
         set_next(ring, i, i + 1);
-        i += 1;
     }
     set_next(ring, last, 0);
 }
@@ -60,11 +58,9 @@ fn append_after(
         × Appended (corners_after contour.now ring.now start n) points.old count points.new (count + n) }
 {
     let mut end = start;
-    let mut k: usize = 0;
-    while k < n {
+    for k in 0..n {
         end = next_of(ring, end);
         split_chords::append_point(contour, end, points, count + k);
-        k += 1;
     }
     end
 }
@@ -117,12 +113,10 @@ fn append_ears(
     let extra = triangles % part_count;
     let mut tally = t;
     let mut start: usize = 0;
-    let mut i: usize = 0;
-    while i < part_count {
+    for i in 0..part_count {
         let n = split_chords::share(i, size, extra);
         tally = append_ear(contour, ring, start, n, starts, points, tally);
         start = next_of(ring, start);
-        i += 1;
     }
     tally
 }

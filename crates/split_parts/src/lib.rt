@@ -35,12 +35,13 @@ pub fn to_convex_polygons_with_max_vertices(
     let n = mesh.len();
     if n <= TINY {
         if n <= split::raised(limit) - 2 {
-            return convex_join::join_tiny(mesh, starts, corners);
+            convex_join::join_tiny(mesh, starts, corners)
+        } else {
+            split_sizes::split_tiny(mesh, limit, strategy, starts, corners)
         }
-        return split_sizes::split_tiny(mesh, limit, strategy, starts, corners);
+    } else if limit < split::MIN_LIMIT {
+        split_sizes::split_more(mesh, split::MIN_LIMIT, strategy, starts, corners)
+    } else {
+        split_sizes::split_more(mesh, limit, strategy, starts, corners)
     }
-    if limit < split::MIN_LIMIT {
-        return split_sizes::split_more(mesh, split::MIN_LIMIT, strategy, starts, corners);
-    }
-    split_sizes::split_more(mesh, limit, strategy, starts, corners)
 }

@@ -23,9 +23,10 @@ fn corner_round(contour: &[[i32; 2]], i: usize) -> IntPoint
     ensures { (point result ≡ get_or (closed_of contour.now) i O) × OnGrid result }
 {
     if i < contour.len() {
-        return points::point_at(contour, i);
+        points::point_at(contour, i)
+    } else {
+        points::point_at(contour, 0)
     }
-    points::point_at(contour, 0)
 }
 
 // Whether the centre, a and b make a positive turn.
@@ -44,13 +45,8 @@ fn sector_end(contour: &[[i32; 2]], centre: IntPoint, start: usize, target: usiz
 {
     let a = points::point_at(contour, start);
     let mut end = start + 1;
-    while end < target {
-        let b = corner_round(contour, end + 1);
-        if turns_left(centre, a, b) {
-            end += 1;
-        } else {
-            return end;
-        }
+    while end < target && turns_left(centre, a, corner_round(contour, end + 1)) {
+        end += 1;
     }
     end
 }
@@ -69,10 +65,11 @@ fn append_arc(
 {
     let rest = contour.len() - i;
     if n <= rest {
-        return split_chords::append_run(contour, i, n, points, count);
+        split_chords::append_run(contour, i, n, points, count)
+    } else {
+        let most = split_chords::append_run(contour, i, rest, points, count);
+        split_chords::append_point(contour, 0, points, most)
     }
-    let most = split_chords::append_run(contour, i, rest, points, count);
-    split_chords::append_point(contour, 0, points, most)
 }
 
 // The part of the centre and the n edges from corner start on is appended.
@@ -149,12 +146,10 @@ pub fn append_sectors(
     let extra = edges % part_count;
     let mut tally = t;
     let mut start: usize = 0;
-    let mut i: usize = 0;
-    while i < part_count {
+    for i in 0..part_count {
         let target = start + split_chords::share(i, size, extra);
         tally = append_group(contour, centre, start, target, starts, points, tally);
         start = target;
-        i += 1;
     }
     tally
 }

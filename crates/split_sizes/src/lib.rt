@@ -5,20 +5,53 @@
 // split_contour and convex_gather.
 #![tactic(auto)]
 
-ghost use Rattle.std.specs.Prelude.{◌≡◌, ◌+◌, ◌<◌, ◌≤◌, length, get_or, []};
+ghost use Rattle.std.specs.Prelude.{◌≡◌, ◌+◌, ◌<◌, ◌≤◌, ◌^◌, length, get_or, []};
 ghost use Rattle.integers.specs.Faults.{first_fault};
-ghost use Rattle.mesh.specs.Mesh.{max_triangles, mesh_kinds};
+ghost use Rattle.mesh.specs.Mesh.{mesh_kinds};
 ghost use Rattle.mesh.specs.Rows.{rows_mesh};
-ghost use Rattle.convex_regions.specs.Parts.{tiny, small, medium};
+ghost use Rattle.convex_regions.specs.Parts.{tiny};
 ghost use Rattle.split.specs.Splitting.{split_contour, SplitAnswered};
 ghost use Rattle.points.specs.Gathered.{Gathered, RoomFor, PartsAppended};
 ghost use Rattle.split_sizes.specs.Parts.{parts_in, Splittable, split_each, WorkRoom};
 
 use convex_regions::{MEDIUM, SMALL, TINY};
-use mesh::Row;
+use mesh::{MAX_TRIANGLES, Row};
 use points::Tally;
 use split::ConvexSplitStrategy;
 use table::Counts;
+
+// Places in the work arrays of each size: as many as `WorkRoom` asks for.
+const TINY_BEGINS: usize = TINY + 1;
+
+const TINY_JOINED: usize = 3 * TINY;
+
+const TINY_SPLIT_BEGINS: usize = 2 * TINY + 1;
+
+const TINY_POINTS: usize = 6 * TINY;
+
+const SMALL_BEGINS: usize = SMALL + 1;
+
+const SMALL_JOINED: usize = 3 * SMALL;
+
+const SMALL_SPLIT_BEGINS: usize = 2 * SMALL + 1;
+
+const SMALL_POINTS: usize = 6 * SMALL;
+
+const MEDIUM_BEGINS: usize = MEDIUM + 1;
+
+const MEDIUM_JOINED: usize = 3 * MEDIUM;
+
+const MEDIUM_SPLIT_BEGINS: usize = 2 * MEDIUM + 1;
+
+const MEDIUM_POINTS: usize = 6 * MEDIUM;
+
+const LARGE_BEGINS: usize = MAX_TRIANGLES + 1;
+
+const LARGE_JOINED: usize = 3 * MAX_TRIANGLES;
+
+const LARGE_SPLIT_BEGINS: usize = 2 * MAX_TRIANGLES + 1;
+
+const LARGE_POINTS: usize = 6 * MAX_TRIANGLES;
 
 // The parts of joined part k are appended.
 fn append_part(
@@ -64,10 +97,8 @@ fn split_all(
         parts: 0,
         corners: 0,
     };
-    let mut k: usize = 0;
-    while k < u.parts {
+    for k in 0..u.parts {
         t = append_part(begins, joined, u, k, limit, strategy, starts, points, t);
-        k += 1;
     }
     t
 }
@@ -96,6 +127,44 @@ fn split_within(
     convex_gather::hand_out(split_begins, points, t, starts, corners)
 }
 
+// The parts of an accepted mesh, in work arrays of its own: BEGINS starts and JOINED points for
+// the joined parts, SPLIT_BEGINS starts and POINTS points for those they are split into.
+fn split_in<
+    const BEGINS: usize,
+    const JOINED: usize,
+    const SPLIT_BEGINS: usize,
+    const POINTS: usize,
+>(
+    mesh: &[Row],
+    limit: u32,
+    strategy: ConvexSplitStrategy,
+    starts: &mut [u32],
+    corners: &mut [i32],
+) -> Counts
+    requires { (first_fault (mesh_kinds (rows_mesh mesh.now)) ≡ 0)
+        × WorkRoom (length mesh.now) BEGINS JOINED SPLIT_BEGINS POINTS
+        × (BEGINS < 2 ^ 32)
+        × (JOINED < 2 ^ 32) }
+    ensures { SplitAnswered strategy limit (rows_mesh mesh.now) starts.old corners.old
+        result starts.new corners.new }
+{
+    let mut begins = [0u32; BEGINS];
+    let mut joined = [[0i32; 2]; JOINED];
+    let mut split_begins = [0u32; SPLIT_BEGINS];
+    let mut points = [[0i32; 2]; POINTS];
+    split_within(
+        mesh,
+        limit,
+        strategy,
+        &mut begins,
+        &mut joined,
+        &mut split_begins,
+        &mut points,
+        starts,
+        corners,
+    )
+}
+
 // The parts of a tiny mesh that is accepted.
 pub fn split_tiny(
     mesh: &[Row],
@@ -108,107 +177,8 @@ pub fn split_tiny(
     ensures { SplitAnswered strategy limit (rows_mesh mesh.now) starts.old corners.old
         result starts.new corners.new }
 {
-    let mut begins = [0u32; TINY + 1];
-    let mut joined = [[0i32; 2]; 3 * TINY];
-    let mut split_begins = [0u32; 2 * TINY + 1];
-    let mut points = [[0i32; 2]; 6 * TINY];
-    split_within(
-        mesh,
-        limit,
-        strategy,
-        &mut begins,
-        &mut joined,
-        &mut split_begins,
-        &mut points,
-        starts,
-        corners,
-    )
-}
-
-// The parts of a small mesh that is accepted.
-fn split_small(
-    mesh: &[Row],
-    limit: u32,
-    strategy: ConvexSplitStrategy,
-    starts: &mut [u32],
-    corners: &mut [i32],
-) -> Counts
-    requires { (length mesh.now ≤ small) × (first_fault (mesh_kinds (rows_mesh mesh.now)) ≡ 0) }
-    ensures { SplitAnswered strategy limit (rows_mesh mesh.now) starts.old corners.old
-        result starts.new corners.new }
-{
-    let mut begins = [0u32; SMALL + 1];
-    let mut joined = [[0i32; 2]; 3 * SMALL];
-    let mut split_begins = [0u32; 2 * SMALL + 1];
-    let mut points = [[0i32; 2]; 6 * SMALL];
-    split_within(
-        mesh,
-        limit,
-        strategy,
-        &mut begins,
-        &mut joined,
-        &mut split_begins,
-        &mut points,
-        starts,
-        corners,
-    )
-}
-
-// The parts of a medium mesh that is accepted.
-fn split_medium(
-    mesh: &[Row],
-    limit: u32,
-    strategy: ConvexSplitStrategy,
-    starts: &mut [u32],
-    corners: &mut [i32],
-) -> Counts
-    requires { (length mesh.now ≤ medium) × (first_fault (mesh_kinds (rows_mesh mesh.now)) ≡ 0) }
-    ensures { SplitAnswered strategy limit (rows_mesh mesh.now) starts.old corners.old
-        result starts.new corners.new }
-{
-    let mut begins = [0u32; MEDIUM + 1];
-    let mut joined = [[0i32; 2]; 3 * MEDIUM];
-    let mut split_begins = [0u32; 2 * MEDIUM + 1];
-    let mut points = [[0i32; 2]; 6 * MEDIUM];
-    split_within(
-        mesh,
-        limit,
-        strategy,
-        &mut begins,
-        &mut joined,
-        &mut split_begins,
-        &mut points,
-        starts,
-        corners,
-    )
-}
-
-// The parts of any mesh that is accepted.
-fn split_large(
-    mesh: &[Row],
-    limit: u32,
-    strategy: ConvexSplitStrategy,
-    starts: &mut [u32],
-    corners: &mut [i32],
-) -> Counts
-    requires { (length mesh.now ≤ max_triangles) × (first_fault (mesh_kinds (rows_mesh mesh.now)) ≡ 0) }
-    ensures { SplitAnswered strategy limit (rows_mesh mesh.now) starts.old corners.old
-        result starts.new corners.new }
-{
-    let mut begins = [0u32; mesh::MAX_TRIANGLES + 1];
-    let mut joined = [[0i32; 2]; 3 * mesh::MAX_TRIANGLES];
-    let mut split_begins = [0u32; 2 * mesh::MAX_TRIANGLES + 1];
-    let mut points = [[0i32; 2]; 6 * mesh::MAX_TRIANGLES];
-    split_within(
-        mesh,
-        limit,
-        strategy,
-        &mut begins,
-        &mut joined,
-        &mut split_begins,
-        &mut points,
-        starts,
-        corners,
+    split_in::<TINY_BEGINS, TINY_JOINED, TINY_SPLIT_BEGINS, TINY_POINTS>(
+        mesh, limit, strategy, starts, corners,
     )
 }
 
@@ -226,10 +196,16 @@ pub fn split_more(
 {
     let n = mesh.len();
     if n <= SMALL {
-        return split_small(mesh, limit, strategy, starts, corners);
+        split_in::<SMALL_BEGINS, SMALL_JOINED, SMALL_SPLIT_BEGINS, SMALL_POINTS>(
+            mesh, limit, strategy, starts, corners,
+        )
+    } else if n <= MEDIUM {
+        split_in::<MEDIUM_BEGINS, MEDIUM_JOINED, MEDIUM_SPLIT_BEGINS, MEDIUM_POINTS>(
+            mesh, limit, strategy, starts, corners,
+        )
+    } else {
+        split_in::<LARGE_BEGINS, LARGE_JOINED, LARGE_SPLIT_BEGINS, LARGE_POINTS>(
+            mesh, limit, strategy, starts, corners,
+        )
     }
-    if n <= MEDIUM {
-        return split_medium(mesh, limit, strategy, starts, corners);
-    }
-    split_large(mesh, limit, strategy, starts, corners)
 }

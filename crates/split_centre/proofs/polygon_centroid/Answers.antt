@@ -22,7 +22,7 @@ use Rattle.wide.specs.Words.{value}
 use Rattle.points.specs.Points.{corner_of, corner_in}
 use Rattle.split.specs.Splitting.{rounded, centre_of}
 use Rattle.split_centre.specs.declared.Sums.{Sums}
-use Rattle.split_centre.specs.declared.Centre.TheVariants.{At, Unserved}
+use Rattle.std.specs.Prelude.{Option, Some, None}
 use Rattle.split_centre.specs.Centre.{Summable, Summed, Placed, rounded_centre, centroid_found}
 use Rattle.split_centre.proofs.Range.{area_seen}
 use Rattle.split_centre.proofs.Reading.{grid_of, corner_read}
@@ -46,7 +46,7 @@ module _ (cs : List (List ℤ)) (h : Summable (map corner_of cs)) (n : 3 ≤ len
   area_kept : area ≡ s.area
   area_kept = kept {w = w64} (cast_fits sum_is h.below)
 
-  past : lt_z threshold area ≡ true → Unserved ≡ centroid_found l
+  past : lt_z threshold area ≡ true → None ≡ centroid_found l
   unfolding centroid_found
   past t = rw (ap (lt_z threshold) (sym (area_kept ∙ sum_is)) ∙ t)
 
@@ -73,12 +73,12 @@ module _ (cs : List (List ℤ)) (h : Summable (map corner_of cs)) (n : 3 ≤ len
     place_y : Placed (to_z w32 (of_z w32 o.y)) s.y d
     place_y = rw (y_kept, d_is) (placed_y some h g)
 
-    found : {x y : ℤ} → lt_z threshold area ≡ false → x ≡ to_z w32 (of_z w32 o.x) +ℤ rounded (value s.x) d → y ≡ to_z w32 (of_z w32 o.y) +ℤ rounded (value s.y) d → At (record { x = x; y = y }) ≡ centroid_found l
+    found : {x y : ℤ} → lt_z threshold area ≡ false → x ≡ to_z w32 (of_z w32 o.x) +ℤ rounded (value s.x) d → y ≡ to_z w32 (of_z w32 o.y) +ℤ rounded (value s.y) d → Some (record { x = x; y = y }) ≡ centroid_found l
     unfolding centroid_found centre_of
     found {x} {y} t p q =
         let u : x ≡ (rounded_centre l).x = p ∙ (λ i. x_kept i +ℤ rounded (g.x i) ((d_is ∙ ap (λ z. 3 * nat_abs z) g.area) i)) in
         let v : y ≡ (rounded_centre l).y = q ∙ (λ i. y_kept i +ℤ rounded (g.y i) ((d_is ∙ ap (λ z. 3 * nat_abs z) g.area) i)) in
-        (λ i. At (record { x = u i; y = v i })) ∙ sym (rw (ap (lt_z threshold) (sym (area_kept ∙ sum_is)) ∙ t))
+        (λ i. Some (record { x = u i; y = v i })) ∙ sym (rw (ap (lt_z threshold) (sym (area_kept ∙ sum_is)) ∙ t))
 
 pub returns-then-s-gt-MAX_CENTROID_AREA : goal.returns-then-s-gt-MAX_CENTROID_AREA
 returns-then-s-gt-MAX_CENTROID_AREA c = past c.args.contour.now c.requires.0 c.requires.1 c.sums_of-s.ensures c.if-s-gt-MAX_CENTROID_AREA.true

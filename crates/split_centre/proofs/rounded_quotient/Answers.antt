@@ -56,6 +56,6 @@ pub returns-then-sum : goal.returns-then-sum
 returns-then-sum c = let r = c.divide_with_rounding-size in
     below c.args.sum.negative (magnitude c.args.sum.words) (omega (arith, c.requires.0)) c.requires.1 r.ensures c.if-sum.true
 
-pub returns : goal.returns
-returns c = let r = c.divide_with_rounding-size in
+pub returns-else-sum : goal.returns-else-sum
+returns-else-sum c = let r = c.divide_with_rounding-size in
     above c.args.sum.negative (magnitude c.args.sum.words) (omega (arith, c.requires.0)) c.requires.1 r.ensures c.if-sum.false

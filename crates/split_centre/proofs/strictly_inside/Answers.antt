@@ -46,14 +46,14 @@ loop-i-init c = starts c.args.contour.now c.args.g c.requires.2 c.point_at-a.ens
 
 pub returns-then-area_two-le0 : goal.returns-then-area_two-le0
 returns-then-area_two-le0 c = let k = c.area_two in
-    refused c.args.contour.now c.args.g c.loop-i-test.true c.loop-i.invariant c.point_at-b.ensures
+    refused c.args.contour.now c.args.g (omega arith) c.loop-i.invariant c.point_at-b.ensures
     (got w64 k.result k.type_inv ∙ k.ensures.0) c.if-area_two-le0.true
 
 pub loop-i-preserved : goal.loop-i-preserved
 loop-i-preserved c = let k = c.area_two in
-    turns c.args.contour.now c.args.g c.loop-i-test.true c.loop-i.invariant c.point_at-b.ensures
+    turns c.args.contour.now c.args.g (omega arith) c.loop-i.invariant c.point_at-b.ensures
     (got w64 k.result k.type_inv ∙ k.ensures.0) c.if-area_two-le0.false
 
 pub returns : goal.returns
 returns c = let k = c.area_two-2 in
-    ends c.args.contour.now c.args.g c.loop-i-test.false c.loop-i.invariant c.point_at.ensures.0 (got w64 k.result k.type_inv ∙ k.ensures.0)
+    ends c.args.contour.now c.args.g (omega arith) c.loop-i.invariant c.point_at.ensures.0 (got w64 k.result k.type_inv ∙ k.ensures.0)

@@ -27,6 +27,3 @@ pub record Round (cs : List (List ℤ)) (g a : IntPoint) (i : ℕ) : Type 0 wher
 
 abbrev pub invariant-loop-i : goal.invariant-loop-i
 invariant-loop-i l = Round l.contour l.g l.a l.i
-
-abbrev pub decreases-loop-i : goal.decreases-loop-i
-decreases-loop-i l = length l.contour - l.i

@@ -55,16 +55,16 @@ pub loop-i-init : goal.loop-i-init
 loop-i-init c = starts c.args.contour.now c.requires.1 (vector_read c.args.contour.now 1 0 c.subtract-a.ensures.0 c.point_at.ensures.0 c.point_at-origin.ensures.0) c.subtract-a.ensures.1
 
 pub point_at-requires-in-loop-i : goal.point_at-requires-in-loop-i
-point_at-requires-in-loop-i c = (c.loop-i-test.true, grid_of c.args.contour.now c.requires.0.grid)
+point_at-requires-in-loop-i c = (omega arith, grid_of c.args.contour.now c.requires.0.grid)
 
 pub add_edge-s-requires : goal.add_edge-s-requires
 add_edge-s-requires c = let e = vector_read c.args.contour.now c.loop-i.i 0 c.subtract-b.ensures.0 c.point_at-in-loop-i.ensures.0 c.point_at-origin.ensures.0 in
     let g = c.loop-i.invariant in
-    (room c.args.contour.now c.loop-i-test.true g e c.requires.0, g.short, c.subtract-b.ensures.1)
+    (room c.args.contour.now (omega arith) g e c.requires.0, g.short, c.subtract-b.ensures.1)
 
 pub loop-i-preserved : goal.loop-i-preserved
 loop-i-preserved c = let e = vector_read c.args.contour.now c.loop-i.i 0 c.subtract-b.ensures.0 c.point_at-in-loop-i.ensures.0 c.point_at-origin.ensures.0 in
-    turns c.args.contour.now c.loop-i-test.true c.loop-i.invariant e c.subtract-b.ensures.1 c.add_edge-s.ensures
+    turns c.args.contour.now (omega arith) c.loop-i.invariant e c.subtract-b.ensures.1 c.add_edge-s.ensures
 
 pub returns : goal.returns
-returns c = ends c.args.contour.now c.loop-i-test.false c.loop-i.invariant
+returns c = ends c.args.contour.now (omega arith) c.loop-i.invariant

@@ -26,6 +26,3 @@ pub record Going (cs : List (List ℤ)) (s : Sums) (a : IntVector) (i : ℕ) : T
 
 abbrev pub invariant-loop-i : goal.invariant-loop-i
 invariant-loop-i l = Going l.contour l.s l.a l.i
-
-abbrev pub decreases-loop-i : goal.decreases-loop-i
-decreases-loop-i l = length l.contour - l.i

@@ -1,7 +1,7 @@
 -- `split_chords::append_fan_parts` meets its contract: the invariant is `Fanning` of Fans. Assumes
 -- nothing.
 use borrow.Author.Rules.{rules}
-use Prim.Native.Nat.{◌-◌, ◌≤◌}
+use Prim.Native.Nat.{◌-◌, ◌≤◌, ◌<◌}
 use native.Mathlib.Omega.{arith}
 use lib.ListN.{length}
 use Rattle.points.specs.Points.{corners_in}
@@ -13,7 +13,7 @@ use Rattle.split_chords.proofs.append_fan_parts.Goals as goal
 pub loop-i-init : goal.loop-i-init
 loop-i-init c = let g = c.args in
     let e = c.ceil_div-part_count.ensures in
-    (omega arith, fanning_start g.contour.now g.starts.now g.points.now g.t g.limit (omega (arith, c.requires.0, c.requires.1)) e.1 e.0)
+    fanning_start g.contour.now g.starts.now g.points.now g.t g.limit (omega (arith, c.requires.0, c.requires.1)) e.1 e.0
 
 pub append_fan_part-tally-requires : goal.append_fan_part-tally-requires
 append_fan_part-tally-requires c = let g = c.args in
@@ -21,17 +21,17 @@ append_fan_part-tally-requires c = let g = c.args in
     let k = c.ceil_div-part_count.result in
     let n = length g.contour.now - 2 in
     let qs = fan_parts g.limit (corners_in g.contour.now) in
-    let h = c.loop-i-test.true in
-    (fanning_within g.contour.now g.starts.now g.points.now g.t l.invariant.1 h c.share-n.ensures, fanning_room g.contour.now g.starts.now g.points.now g.t l.invariant.1 h c.share-n.ensures c.requires.3)
+    let h : l.i < k = omega arith in
+    (fanning_within g.contour.now g.starts.now g.points.now g.t l.invariant h c.share-n.ensures, fanning_room g.contour.now g.starts.now g.points.now g.t l.invariant h c.share-n.ensures c.requires.3)
 
 pub loop-i-preserved : goal.loop-i-preserved
 loop-i-preserved c = let g = c.args in
     let l = c.loop-i in
     let k = c.ceil_div-part_count.result in
-    let h = c.loop-i-test.true in
-    (omega (arith, h), fanning_turn g.contour.now g.starts.now g.points.now g.t l.invariant.1 h c.share-n.ensures c.append_fan_part-tally.ensures)
+    let h : l.i < k = omega arith in
+    fanning_turn g.contour.now g.starts.now g.points.now g.t l.invariant h c.share-n.ensures c.append_fan_part-tally.ensures
 
 pub returns : goal.returns
 returns c = let g = c.args in
     let l = c.loop-i in
-    fanning_end g.contour.now g.starts.now g.points.now g.t l.invariant.1 c.loop-i-test.false
+    fanning_end g.contour.now g.starts.now g.points.now g.t l.invariant (omega arith)

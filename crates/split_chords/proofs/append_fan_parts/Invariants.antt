@@ -11,7 +11,4 @@ use Rattle.split_chords.proofs.Fans.{Fanning, fanning_start, fanning_within, fan
 use Rattle.split_chords.proofs.append_fan_parts.Given as goal
 
 abbrev pub invariant-loop-i : goal.invariant-loop-i
-invariant-loop-i l = (l.i ≤ l.part_count) × Fanning l.contour (fan_parts l.limit (corners_in l.contour)) (length l.contour - 2) l.part_count l.i l.start l.initial.starts l.initial.points l.initial.tally l.starts l.points l.tally
-
-abbrev pub decreases-loop-i : goal.decreases-loop-i
-decreases-loop-i l = l.part_count - l.i
+invariant-loop-i l = Fanning l.contour (fan_parts l.limit (corners_in l.contour)) (length l.contour - 2) l.part_count l.i l.start l.initial.starts l.initial.points l.initial.tally l.starts l.points l.tally

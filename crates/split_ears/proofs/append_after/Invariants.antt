@@ -10,7 +10,4 @@ use Rattle.split_ears.proofs.Ringing.{stepped_none, stepped_more, after_none, af
 use Rattle.split_ears.proofs.append_after.Given as goal
 
 abbrev pub invariant-loop-k : goal.invariant-loop-k
-invariant-loop-k l = (l.k ≤ l.n) × (l.end ≡ stepped l.ring l.start l.k) × (l.end < length l.contour) × Appended (corners_after l.contour l.ring l.start l.k) l.initial.points l.count l.points (l.count + l.k)
-
-abbrev pub decreases-loop-k : goal.decreases-loop-k
-decreases-loop-k l = l.n - l.k
+invariant-loop-k l = (l.end ≡ stepped l.ring l.start l.k) × (l.end < length l.contour) × Appended (corners_after l.contour l.ring l.start l.k) l.initial.points l.count l.points (l.count + l.k)

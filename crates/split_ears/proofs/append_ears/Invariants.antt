@@ -13,7 +13,4 @@ use Rattle.split_ears.proofs.Ears.{Clipping, clipping_start, clipping_within, cl
 use Rattle.split_ears.proofs.append_ears.Given as goal
 
 abbrev pub invariant-loop-i : goal.invariant-loop-i
-invariant-loop-i l = (l.i ≤ l.part_count) × (length l.ring ≡ length l.initial.ring) × Clipping l.contour (ear_parts l.limit (corners_in l.contour)) (length l.contour - 2) l.part_count l.i l.start l.ring l.initial.starts l.initial.points l.initial.tally l.starts l.points l.tally
-
-abbrev pub decreases-loop-i : goal.decreases-loop-i
-decreases-loop-i l = l.part_count - l.i
+invariant-loop-i l = (length l.ring ≡ length l.initial.ring) × Clipping l.contour (ear_parts l.limit (corners_in l.contour)) (length l.contour - 2) l.part_count l.i l.start l.ring l.initial.starts l.initial.points l.initial.tally l.starts l.points l.tally

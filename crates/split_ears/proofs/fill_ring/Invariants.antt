@@ -8,7 +8,4 @@ use Rattle.split_ears.proofs.Ringing.{Filled, filled_turn, filled_end}
 use Rattle.split_ears.proofs.fill_ring.Given as goal
 
 abbrev pub invariant-loop-i : goal.invariant-loop-i
-invariant-loop-i l = (l.i ≤ l.last) × (length l.ring ≡ length l.initial.ring) × Filled l.ring l.i
-
-abbrev pub decreases-loop-i : goal.decreases-loop-i
-decreases-loop-i l = l.last - l.i
+invariant-loop-i l = (length l.ring ≡ length l.initial.ring) × Filled l.ring l.i

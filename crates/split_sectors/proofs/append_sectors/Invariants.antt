@@ -12,7 +12,4 @@ use Rattle.split_sectors.proofs.Turns.{Sectoring, sectoring_start, sectoring_wit
 use Rattle.split_sectors.proofs.append_sectors.Given as goal
 
 abbrev pub invariant-loop-i : goal.invariant-loop-i
-invariant-loop-i l = (l.i ≤ l.part_count) × Sectoring l.contour (point l.centre) (centroid_parts l.limit (point l.centre) (corner_in l.contour 0) (corners_in l.contour)) (length l.contour) l.part_count l.i l.start l.initial.starts l.initial.points l.initial.tally l.starts l.points l.tally
-
-abbrev pub decreases-loop-i : goal.decreases-loop-i
-decreases-loop-i l = l.part_count - l.i
+invariant-loop-i l = Sectoring l.contour (point l.centre) (centroid_parts l.limit (point l.centre) (corner_in l.contour 0) (corners_in l.contour)) (length l.contour) l.part_count l.i l.start l.initial.starts l.initial.points l.initial.tally l.starts l.points l.tally

@@ -21,7 +21,7 @@ loop-end-preserved c = let g = c.args in
     let h = c.loop-end-test.true in (
       omega (arith, h),
       taking_more (point g.centre) (closed_of g.contour.now) g.target (point c.point_at-a.result) l.end h
-          (omega (arith, h, c.requires.1, length_closed g.contour.now)) c.corner_round-b.ensures.0
+          (omega (arith, h, c.requires.1, length_closed g.contour.now)) c.corner_round.ensures.0
           (sym c.turns_left.ensures ∙ c.if-turns_left.true)
           ∙ l.invariant.1,
     )
@@ -30,8 +30,8 @@ pub returns-else-turns_left : goal.returns-else-turns_left
 returns-else-turns_left c = let g = c.args in
     let l = c.loop-end in
     let h = c.loop-end-test.true in
-    taking_stop (point g.centre) (closed_of g.contour.now) g.target (point c.point_at-a.result) l.end h (omega (arith, h, c.requires.1, length_closed g.contour.now)) c.corner_round-b.ensures.0 (sym c.turns_left.ensures ∙ c.if-turns_left.false) ∙ l.invariant.1
+    taking_stop (point g.centre) (closed_of g.contour.now) g.target (point c.point_at-a.result) l.end h (omega (arith, h, c.requires.1, length_closed g.contour.now)) c.corner_round.ensures.0 (sym c.turns_left.ensures ∙ c.if-turns_left.false) ∙ l.invariant.1
 
-pub returns : goal.returns
-returns c = let g = c.args in
+pub returns-after-loop-end : goal.returns-after-loop-end
+returns-after-loop-end c = let g = c.args in
     taking_none (point g.centre) (closed_of g.contour.now) g.target (point c.point_at-a.result) c.loop-end.end c.loop-end-test.false ∙ c.loop-end.invariant.1

@@ -27,5 +27,5 @@ refused ys s c h e =
     let m = triangles_mesh ys in
     mesh_refused m (parts m) s c (too_many_lem ys h) (λ q. suc-ne-zero 0 q) e
 
-pub returns : goal.returns
-returns c = refused c.args.mesh.now c.args.starts.now c.args.corners.now c.if-n-le-MAX_TRIANGLES.false c.refusal.ensures
+pub returns-else-n-le-MAX_TRIANGLES : goal.returns-else-n-le-MAX_TRIANGLES
+returns-else-n-le-MAX_TRIANGLES c = refused c.args.mesh.now c.args.starts.now c.args.corners.now c.if-n-le-MAX_TRIANGLES.false c.refusal.ensures
