@@ -13,7 +13,4 @@ use Rattle.split_sizes.proofs.Each.{room_at, each_more, first_gathered, resized}
 use Rattle.split_sizes.proofs.split_all.Given as goal
 
 abbrev pub invariant-loop-k : goal.invariant-loop-k
-invariant-loop-k l = (l.k ≤ l.u.parts) × PartsAppended (split_each l.strategy l.limit (take l.k (parts_in l.begins l.joined l.u))) l.initial.starts l.initial.points l.initial.t l.starts l.points l.t
-
-abbrev pub decreases-loop-k : goal.decreases-loop-k
-decreases-loop-k l = l.u.parts - l.k
+invariant-loop-k l = PartsAppended (split_each l.strategy l.limit (take l.k (parts_in l.begins l.joined l.u))) l.initial.starts l.initial.points l.initial.t l.starts l.points l.t
