@@ -8,14 +8,13 @@ use Prim.Native.Nat.{ℕ, ◌+◌, ◌-◌, ◌≤◌, ◌<◌, ◌^◌}
 use native.Mathlib.Numerals.{add-one}
 use native.Mathlib.Omega.{arith}
 use lib.ListN.{length, get_or, set, take, drop, length-drop, length-map, length-set, get_or-map}
-use lib.Seq.{take-suc, take-suc-set, get_or-drop, length-take-le}
+use lib.Seq.{take-suc-set, length-take-le}
 use lib.IntN.{ℤ}
 use borrow.Rule.Slice.PartMut.{put_mid, same_len_mid}
 use Rattle.std.proofs.lemmas.Slice.{take-put_mid}
 use Rattle.integers.proofs.Elements.{map-take, map-drop}
 use Rattle.plane.specs.Plane.{Pt, O}
 use Rattle.points.specs.Points.{corner_of, corner_in, Appended, corners_in}
-use Rattle.points.proofs.Points.{appended_more}
 use Rattle.points.specs.declared.Tally.{Tally}
 use Rattle.points.specs.Gathered.{RoomFor, PartsAppended}
 use Rattle.points.proofs.Gathering.{none_appended, then_appended, part_appended, room_first, room_rest}

@@ -1,7 +1,7 @@
 -- One contour's parts: the contour whole is one run of its corners (`whole_run`); which split its
 -- length and the strategy give (`split_whole`, `split_past`); about its centre where that serves,
 -- else its fan (`centre_at`, `centre_unserved`). Assumes nothing.
-use mathlib.Core.Path.{◌≡◌, refl, sym, ◌∙◌, ap, subst}
+use mathlib.Core.Path.{◌≡◌, refl, sym, ap, subst}
 use mathlib.Core.Bool.{Bool, true, false, cond}
 use mathlib.Core.List.{List, [], ◌∷◌}
 use Prim.Native.Nat.{ℕ, ◌≤◌, ◌<◌}
@@ -19,7 +19,7 @@ use Rattle.points.specs.declared.Tally.{Tally}
 use Rattle.points.specs.Gathered.{RoomFor, PartsAppended}
 use Rattle.split.specs.declared.ConvexSplitStrategy.{ConvexSplitStrategy}
 use Rattle.split.specs.Splitting.{centre_serves, centroid_parts, centred_parts, fan_parts, split_by, split_contour}
-use Rattle.std.specs.Prelude.{Option, Some, None}
+use Rattle.std.specs.Prelude.{Some, None}
 use Rattle.split_centre.specs.Centre.{Summable, rounded_centre, grid_point, centre_found}
 use Rattle.split_centre.proofs.Range.{centre_on_grid}
 use Rattle.split_chords.specs.Runs.{run_of}

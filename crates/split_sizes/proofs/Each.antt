@@ -6,7 +6,7 @@
 -- (`gathered_in`). Assumes an accepted mesh where it says so.
 use mathlib.Core.Path.{◌≡◌, refl, sym, ◌∙◌, ap, subst}
 use mathlib.Core.List.{List, [], ◌∷◌, ◌++◌, map, flatten, map-append, append-nil}
-use Prim.Native.Nat.{ℕ, zero, suc, ◌+◌, ◌*◌, ◌≤◌, ◌<◌, ◌^◌}
+use Prim.Native.Nat.{ℕ, suc, ◌+◌, ◌*◌, ◌≤◌, ◌<◌, ◌^◌}
 use native.Mathlib.Omega.{arith}
 use native.Mathlib.Numerals.{add-one}
 use lib.ListN.{length, get_or, set, take, drop, take-append-drop}
@@ -25,7 +25,6 @@ use Rattle.table.specs.Table.{starts_from, starts_of, parts_of}
 use Rattle.table.proofs.Parts.{parts_starts}
 use Rattle.convex.specs.Joining.{parts}
 use Rattle.convex.proofs.Sizes.{parts_corners}
-use Rattle.points.specs.Points.{first_points}
 use Rattle.points.specs.declared.Tally.{Tally}
 use Rattle.points.specs.Gathered.{Gathered, RoomFor, PartsAppended}
 use Rattle.points.proofs.Reading.{PartPlaced, enough_starts, part_placed}

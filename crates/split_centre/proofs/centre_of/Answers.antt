@@ -5,7 +5,6 @@ use mathlib.Core.Bool.{Bool, true, false, cond}
 use mathlib.Core.List.{List, [], ◌∷◌, map}
 use Prim.Native.Nat.{ℕ, ◌<◌}
 use native.Mathlib.Omega.{arith}
-use borrow.Author.Rules.{rules}
 use lib.ListN.{length, length-map}
 use lib.IntN.{pos}
 use lib.Signed.{lt_z}
@@ -17,7 +16,7 @@ use Rattle.plane.specs.Machine.{point, OnGrid}
 use Rattle.plane.proofs.Size.{on_grid_both}
 use Rattle.points.specs.Points.{corner_of}
 use Rattle.split.specs.Splitting.{left_of_all, centre_serves}
-use Rattle.std.specs.Prelude.{Option, Some, None}
+use Rattle.std.specs.Prelude.{Some, None}
 use Rattle.split_centre.specs.Centre.{Summable, rounded_centre, grid_point, centroid_found, centre_found}
 use Rattle.split_centre.proofs.Range.{centre_on_grid}
 use Rattle.split_centre.proofs.Reading.{grid_of}

@@ -22,7 +22,7 @@ use Rattle.wide.specs.Words.{value}
 use Rattle.points.specs.Points.{corner_of, corner_in}
 use Rattle.split.specs.Splitting.{rounded, centre_of}
 use Rattle.split_centre.specs.declared.Sums.{Sums}
-use Rattle.std.specs.Prelude.{Option, Some, None}
+use Rattle.std.specs.Prelude.{Some, None}
 use Rattle.split_centre.specs.Centre.{Summable, Summed, Placed, rounded_centre, centroid_found}
 use Rattle.split_centre.proofs.Range.{area_seen}
 use Rattle.split_centre.proofs.Reading.{grid_of, corner_read}

@@ -1,20 +1,17 @@
 -- `split_centre::sums_of` meets its contract. The loop's invariant: the sums are those of the
 -- wedges before corner i, and a is corner i - 1 seen from the first; the measure is the corners
 -- left. Assumes nothing.
-use mathlib.Core.Path.{◌≡◌, ◌∙◌, ap, subst}
+use mathlib.Core.Path.{◌≡◌}
 use mathlib.Core.List.{List, map}
-use Prim.Native.Nat.{ℕ, ◌+◌, ◌-◌, ◌≤◌, ◌<◌}
-use native.Mathlib.Omega.{arith}
-use lib.ListN.{length, get_or, length-map}
+use Prim.Native.Nat.{ℕ, ◌-◌, ◌≤◌}
+use lib.ListN.{length, get_or}
 use lib.IntN.{ℤ}
 use Rattle.plane.specs.declared.IntVector.{IntVector}
-use Rattle.plane.specs.Plane.{Pt, O, ◌-ᵖ◌, cross}
+use Rattle.plane.specs.Plane.{O, ◌-ᵖ◌}
 use Rattle.plane.specs.Machine.{vector, Short}
 use Rattle.points.specs.Points.{corner_of}
 use Rattle.split_centre.specs.declared.Sums.{Sums}
-use Rattle.split_centre.specs.Centre.{Summable, Roomy, Added, Summed}
-use Rattle.split_centre.proofs.Reading.{grid_of, vector_read}
-use Rattle.split_centre.proofs.Fan.{Sofar, sofar_start, sofar_turn, sofar_room, sofar_end, no_sums}
+use Rattle.split_centre.proofs.Fan.{Sofar}
 use Rattle.split_centre.proofs.sums_of.Given as goal
 
 pub record Going (cs : List (List ℤ)) (s : Sums) (a : IntVector) (i : ℕ) : Type 0 where

@@ -1,13 +1,9 @@
 -- `split_chords::append_fan_part` meets its contract: two pieces are appended, and the part is
 -- ended. Assumes nothing.
-use mathlib.Core.List.{[], ◌∷◌}
 use Prim.Native.Nat.{◌+◌}
 use native.Mathlib.Omega.{arith}
-use Rattle.points.specs.Points.{corner_in}
 use Rattle.points.proofs.Points.{appended_more}
-use Rattle.split_chords.specs.Runs.{run_of}
-use Rattle.split_chords.proofs.Appending.{length_run, room_point, room_run, room_end, part_ended}
-use borrow.Author.Rules.{rules}
+use Rattle.split_chords.proofs.Appending.{length_run, room_point, room_run, part_ended}
 use Rattle.split_chords.proofs.append_fan_part.Goals as goal
 
 pub append_point-first-requires : goal.append_point-first-requires

@@ -1,13 +1,10 @@
 -- `split_chords::append_fan_parts` meets its contract: the invariant is `Fanning` of Fans. Assumes
 -- nothing.
-use borrow.Author.Rules.{rules}
-use Prim.Native.Nat.{◌-◌, ◌≤◌}
-use native.Mathlib.Omega.{arith}
+use Prim.Native.Nat.{◌-◌}
 use lib.ListN.{length}
 use Rattle.points.specs.Points.{corners_in}
 use Rattle.split.specs.Splitting.{fan_parts}
-use Rattle.split_chords.proofs.Groups.{share_small}
-use Rattle.split_chords.proofs.Fans.{Fanning, fanning_start, fanning_within, fanning_room, fanning_turn, fanning_end}
+use Rattle.split_chords.proofs.Fans.{Fanning}
 use Rattle.split_chords.proofs.append_fan_parts.Given as goal
 
 abbrev pub invariant-loop-i : goal.invariant-loop-i

@@ -2,11 +2,10 @@
 -- else the fan. Assumes nothing.
 use mathlib.Core.Path.{sym, ◌∙◌}
 use native.Mathlib.Omega.{arith}
-use lib.ListN.{length, length-map}
+use lib.ListN.{length-map}
 use Rattle.points.specs.Points.{corner_of}
 use Rattle.split_centre.proofs.Reading.{grid_of}
 use Rattle.split_contour.proofs.Contour.{centre_at, centre_grid, centre_unserved, same_room, same_parts}
-use borrow.Author.Rules.{rules}
 use Rattle.split_contour.proofs.append_centroid_parts.Goals as goal
 
 pub append_sectors-requires : goal.append_sectors-requires

@@ -2,11 +2,10 @@
 -- strategy gives. Assumes nothing.
 use mathlib.Core.Path.{sym, ◌∙◌, ap}
 use native.Mathlib.Omega.{arith}
-use lib.ListN.{length, length-map}
+use lib.ListN.{length-map}
 use Rattle.points.specs.Points.{corner_of, corners_in}
 use Rattle.split.specs.Splitting.{split_by}
 use Rattle.split_contour.proofs.Contour.{split_whole, split_past, same_room, same_parts}
-use borrow.Author.Rules.{rules}
 use Rattle.split_contour.proofs.append_split.Goals as goal
 
 pub append_whole-requires : goal.append_whole-requires

@@ -1,12 +1,11 @@
 -- `split_contour::append_whole` meets its contract: the contour is one run of its corners. Assumes
 -- nothing.
-use mathlib.Core.List.{[], ◌∷◌, flatten}
+use mathlib.Core.List.{[], flatten}
 use native.Mathlib.Omega.{arith}
-use lib.ListN.{length, length-append, length-map}
+use lib.ListN.{length-append, length-map}
 use Rattle.points.specs.Points.{corner_of, corners_in}
-use Rattle.split_chords.proofs.Appending.{room_end, part_ended}
+use Rattle.split_chords.proofs.Appending.{part_ended}
 use Rattle.split_contour.proofs.Contour.{whole_run}
-use borrow.Author.Rules.{rules}
 use Rattle.split_contour.proofs.append_whole.Goals as goal
 
 pub append_run-count-requires : goal.append_run-count-requires

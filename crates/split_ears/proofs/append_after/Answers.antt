@@ -1,11 +1,7 @@
 -- `split_ears::append_after` meets its contract: the first k corners are appended. Assumes nothing.
-use borrow.Author.Rules.{rules}
-use mathlib.Core.Path.{◌≡◌, sym, ◌∙◌, ap, subst}
-use Prim.Native.Nat.{◌+◌, ◌-◌, ◌≤◌, ◌<◌}
+use mathlib.Core.Path.{sym, ◌∙◌, ap}
 use native.Mathlib.Omega.{arith}
-use lib.ListN.{length, get_or}
-use Rattle.points.specs.Points.{Appended}
-use Rattle.split_ears.specs.Rings.{stepped, corners_after}
+use lib.ListN.{get_or}
 use Rattle.split_ears.proofs.Ringing.{stepped_none, stepped_more, after_none, after_turn}
 use Rattle.split_ears.proofs.append_after.Goals as goal
 

@@ -1,14 +1,10 @@
 -- `split_ears::append_ear` meets its contract: two pieces are appended, and the part is ended.
 -- Assumes nothing.
-use mathlib.Core.List.{[], ◌∷◌}
 use Prim.Native.Nat.{◌+◌}
 use native.Mathlib.Omega.{arith}
-use Rattle.points.specs.Points.{corner_in}
 use Rattle.points.proofs.Points.{appended_more}
 use Rattle.split_chords.proofs.Appending.{room_point, room_run, room_end, part_ended}
-use Rattle.split_ears.specs.Rings.{corners_after}
 use Rattle.split_ears.proofs.Ringing.{passed_over, length_after}
-use borrow.Author.Rules.{rules}
 use Rattle.split_ears.proofs.append_ear.Goals as goal
 
 pub append_point-first-requires : goal.append_point-first-requires

@@ -1,15 +1,11 @@
 -- `split_ears::append_ears` meets its contract: the invariant is `Clipping` of Ears. Assumes
 -- nothing.
-use borrow.Author.Rules.{rules}
-use mathlib.Core.Path.{◌≡◌, refl, ◌∙◌}
-use Prim.Native.Nat.{◌+◌, ◌-◌, ◌≤◌}
-use native.Mathlib.Omega.{arith}
+use mathlib.Core.Path.{◌≡◌}
+use Prim.Native.Nat.{◌-◌}
 use lib.ListN.{length}
 use Rattle.points.specs.Points.{corners_in}
 use Rattle.split.specs.Splitting.{ear_parts}
-use Rattle.split_chords.proofs.Groups.{share_small}
-use Rattle.split_ears.proofs.Ringing.{length_passed}
-use Rattle.split_ears.proofs.Ears.{Clipping, clipping_start, clipping_within, clipping_room, clipping_turn, clipping_end}
+use Rattle.split_ears.proofs.Ears.{Clipping}
 use Rattle.split_ears.proofs.append_ears.Given as goal
 
 abbrev pub invariant-loop-i : goal.invariant-loop-i

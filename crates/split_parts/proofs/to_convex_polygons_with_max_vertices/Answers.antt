@@ -8,7 +8,6 @@ use Rattle.mesh.specs.Rows.{rows_mesh}
 use Rattle.mesh.proofs.Rows.{length_rows}
 use Rattle.split.specs.Splitting.{split_parts, split_fault}
 use Rattle.convex_gather.proofs.Answer.{mesh_refused}
-use borrow.Author.Rules.{rules}
 use Rattle.split_parts.proofs.Alike.{left_whole, same_limit}
 use Rattle.split_parts.proofs.to_convex_polygons_with_max_vertices.Goals as goal
 

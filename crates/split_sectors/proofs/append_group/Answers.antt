@@ -3,9 +3,9 @@
 use native.Mathlib.Omega.{arith}
 use mathlib.Core.Path.{refl}
 use mathlib.Core.List.{[], ◌∷◌}
-use Prim.Native.Nat.{◌+◌, ◌-◌, ◌≤◌}
+use Prim.Native.Nat.{◌+◌, ◌-◌}
 use Rattle.plane.specs.Machine.{point}
-use Rattle.split_chords.proofs.Appending.{Partway, partway_start, partway_room, partway_turn, partway_end}
+use Rattle.split_chords.proofs.Appending.{partway_start, partway_room, partway_turn, partway_end}
 use Rattle.split_sectors.specs.Arcs.{arc_of}
 use Rattle.split_sectors.proofs.Turns.{group_from, group_none, group_turn, sector_some, sector_within}
 use Rattle.split_sectors.proofs.append_group.Goals as goal

@@ -1,13 +1,9 @@
 -- `split_sectors::append_group` meets its contract: the parts before corner at are appended.
 -- Assumes nothing.
-use native.Mathlib.Omega.{arith}
-use mathlib.Core.Path.{refl}
-use mathlib.Core.List.{[], ◌∷◌}
-use Prim.Native.Nat.{◌+◌, ◌-◌, ◌≤◌}
+use Prim.Native.Nat.{◌-◌, ◌≤◌}
 use Rattle.plane.specs.Machine.{point}
-use Rattle.split_chords.proofs.Appending.{Partway, partway_start, partway_room, partway_turn, partway_end}
-use Rattle.split_sectors.specs.Arcs.{arc_of}
-use Rattle.split_sectors.proofs.Turns.{group_from, group_none, group_turn, sector_some, sector_within}
+use Rattle.split_chords.proofs.Appending.{Partway}
+use Rattle.split_sectors.proofs.Turns.{group_from}
 use Rattle.split_sectors.proofs.append_group.Given as goal
 
 abbrev pub invariant-loop-at : goal.invariant-loop-at

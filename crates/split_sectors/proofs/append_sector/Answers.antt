@@ -1,7 +1,6 @@
 -- `split_sectors::append_sector` meets its contract: two pieces are appended, and the part is
 -- ended. Assumes nothing.
 use mathlib.Core.Path.{refl}
-use mathlib.Core.List.{[], ◌∷◌}
 use Prim.Native.Nat.{◌+◌}
 use Rattle.plane.specs.Machine.{point}
 use Rattle.points.proofs.Points.{appended_more}
@@ -10,7 +9,6 @@ use Rattle.split_chords.proofs.Appending.{room_point, room_run, room_end, part_e
 use Rattle.split_sectors.specs.Arcs.{arc_of}
 use Rattle.split_sectors.proofs.Arcing.{length_arc}
 use native.Mathlib.Omega.{arith}
-use borrow.Author.Rules.{rules}
 use Rattle.split_sectors.proofs.append_sector.Goals as goal
 
 pub put_point-requires : goal.put_point-requires

@@ -1,14 +1,11 @@
 -- `split_sectors::append_sectors` meets its contract: the invariant is `Sectoring` of Turns.
 -- Assumes nothing.
-use borrow.Author.Rules.{rules}
-use Prim.Native.Nat.{◌-◌, ◌≤◌, ◌<◌}
+use Prim.Native.Nat.{◌<◌}
 use native.Mathlib.Omega.{arith}
-use lib.ListN.{length}
 use Rattle.plane.specs.Machine.{point}
 use Rattle.points.specs.Points.{corner_in, corners_in}
 use Rattle.split.specs.Splitting.{centroid_parts}
-use Rattle.split_chords.proofs.Groups.{share_small}
-use Rattle.split_sectors.proofs.Turns.{Sectoring, sectoring_start, sectoring_within, sectoring_room, sectoring_turn, sectoring_end}
+use Rattle.split_sectors.proofs.Turns.{sectoring_start, sectoring_within, sectoring_room, sectoring_turn, sectoring_end}
 use Rattle.split_sectors.proofs.append_sectors.Goals as goal
 
 pub loop-i-init : goal.loop-i-init

@@ -1,14 +1,10 @@
 -- `split_sectors::append_sectors` meets its contract: the invariant is `Sectoring` of Turns.
 -- Assumes nothing.
-use borrow.Author.Rules.{rules}
-use Prim.Native.Nat.{◌-◌, ◌≤◌}
-use native.Mathlib.Omega.{arith}
 use lib.ListN.{length}
 use Rattle.plane.specs.Machine.{point}
 use Rattle.points.specs.Points.{corner_in, corners_in}
 use Rattle.split.specs.Splitting.{centroid_parts}
-use Rattle.split_chords.proofs.Groups.{share_small}
-use Rattle.split_sectors.proofs.Turns.{Sectoring, sectoring_start, sectoring_within, sectoring_room, sectoring_turn, sectoring_end}
+use Rattle.split_sectors.proofs.Turns.{Sectoring}
 use Rattle.split_sectors.proofs.append_sectors.Given as goal
 
 abbrev pub invariant-loop-i : goal.invariant-loop-i

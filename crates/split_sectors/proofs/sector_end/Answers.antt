@@ -1,13 +1,10 @@
 -- `split_sectors::sector_end` meets its contract: the part reaches corner end, and ends where it
 -- would from there. Assumes nothing.
-use mathlib.Core.Path.{◌≡◌, sym, ◌∙◌}
-use Prim.Native.Nat.{◌+◌, ◌-◌, ◌≤◌}
-use lib.ListN.{drop}
+use mathlib.Core.Path.{sym, ◌∙◌}
 use Rattle.plane.specs.Machine.{point}
-use Rattle.split.specs.Splitting.{edges_taken}
 use Rattle.split_sectors.specs.Arcs.{closed_of}
 use Rattle.split_sectors.proofs.Arcing.{closed_near, length_closed}
-use Rattle.split_sectors.proofs.Turns.{end_from, taking_start, taking_more, taking_stop, taking_none}
+use Rattle.split_sectors.proofs.Turns.{taking_start, taking_more, taking_stop, taking_none}
 use native.Mathlib.Omega.{arith}
 use Rattle.split_sectors.proofs.sector_end.Goals as goal
 

@@ -1,14 +1,12 @@
 -- `split_sectors::sector_end` meets its contract: the part reaches corner end, and ends where it
 -- would from there. Assumes nothing.
-use mathlib.Core.Path.{◌≡◌, sym, ◌∙◌}
+use mathlib.Core.Path.{◌≡◌}
 use Prim.Native.Nat.{◌+◌, ◌-◌, ◌≤◌}
 use lib.ListN.{drop}
 use Rattle.plane.specs.Machine.{point}
 use Rattle.split.specs.Splitting.{edges_taken}
 use Rattle.split_sectors.specs.Arcs.{closed_of}
-use Rattle.split_sectors.proofs.Arcing.{closed_near, length_closed}
-use Rattle.split_sectors.proofs.Turns.{end_from, taking_start, taking_more, taking_stop, taking_none}
-use native.Mathlib.Omega.{arith}
+use Rattle.split_sectors.proofs.Turns.{end_from}
 use Rattle.split_sectors.proofs.sector_end.Given as goal
 
 abbrev pub invariant-loop-end : goal.invariant-loop-end

@@ -1,14 +1,11 @@
 -- `split_sizes::append_part` meets its contract: joined part k lies between its starts. Assumes
 -- nothing.
 use mathlib.Core.Path.{sym, subst}
-use mathlib.Core.List.{[]}
 use native.Mathlib.Omega.{arith}
-use lib.ListN.{get_or}
-use Rattle.points.specs.Gathered.{RoomFor, PartsAppended}
+use Rattle.points.specs.Gathered.{RoomFor}
 use Rattle.split.specs.Splitting.{split_contour}
 use Rattle.split_centre.specs.Centre.{Summable}
 use Rattle.split_sizes.proofs.Each.{starts_enough, placed, sums_fit, at_part}
-use borrow.Author.Rules.{rules}
 use Rattle.split_sizes.proofs.append_part.Goals as goal
 
 pub offset_bounds-begins-k : goal.offset_bounds-begins-k

@@ -1,12 +1,12 @@
 -- `split_sizes::split_all` meets its contract: after k turns the parts of the first k contours are
 -- appended. Assumes nothing.
-use mathlib.Core.Path.{◌≡◌, sym, ◌∙◌, ap, subst}
+use mathlib.Core.Path.{◌≡◌, ◌∙◌, ap, subst}
 use mathlib.Core.List.{[], flatten}
-use Prim.Native.Nat.{◌-◌, ◌≤◌, ◌<◌}
+use Prim.Native.Nat.{◌<◌}
 use native.Mathlib.Omega.{arith}
 use lib.ListN.{length, take, length-set}
 use lib.Seq.{take_all}
-use Rattle.points.specs.Gathered.{Gathered, RoomFor, PartsAppended}
+use Rattle.points.specs.Gathered.{Gathered}
 use Rattle.points.proofs.Gathering.{none_appended}
 use Rattle.split_sizes.specs.Parts.{parts_in, split_each}
 use Rattle.split_sizes.proofs.Each.{room_at, each_more, first_gathered, resized}
