@@ -1,61 +1,64 @@
 -- The steps of one edge: which edges belong to it (`fresh_belongs`, `zero_belongs`,
--- `by_direction`), the direction after one (`took_headed`, `took_fresh`), a run that stops or goes
--- on (`run_none`, `run_first`, `run_second`), and one turn of the code's loop (`stopped_on`,
--- `went_on`, `took_first`, `left_first`), where both walks stay judged (`first_judged`,
+-- `by_direction`), the direction after one (`took_headed`, `took_zero`, `took_fresh`), a run that
+-- stops or goes on (`run_none`, `run_first`, `run_second`), and one turn of the code's loop
+-- (`stopped`, `went_on`, `took_first`, `left_first`), where both walks stay judged (`first_judged`,
 -- `second_judged`). Assumes nothing.
+use Rattle.std.specs.Prelude.{Some, None}
 use mathlib.Core.Path.{◌≡◌, refl, sym, ◌∙◌, ap, subst}
-use mathlib.Core.Bool.{Bool, true, false, not, cond}
+use mathlib.Core.Bool.{Bool, true, false, cond}
 use mathlib.Core.List.{List}
-use Prim.Native.Nat.{ℕ, zero, suc, ◌-◌, ◌<◌}
+use Prim.Native.Nat.{ℕ, zero, suc, ◌<◌}
 use native.Mathlib.Omega.{arith}
 use lib.ListN.{length}
-use lib.IntN.{ℤ, pos}
+use lib.IntN.{ℤ}
 use Rattle.plane.specs.Plane.{Pt, is_zero, angle_cmp, is_equal}
 use Rattle.plane.specs.declared.IntVector.{IntVector}
 use Rattle.plane.specs.Machine.{vector, Short}
 use Rattle.corners.specs.Corners.{points_of}
 use Rattle.pair.specs.declared.ConvexSum.{ConvexSum}
 use Rattle.pair.specs.Walk.{advance}
-use Rattle.pair.specs.Pair.{none, first, second, next_step, step_first, step_second, Heading, unset, along, Run, belongs, headed, run, steps_left}
+use Rattle.pair.specs.Pair.{none, first, second, next_step, step_first, step_second, Heading, unset, Run, belongs, headed, run, steps_left}
 use Rattle.walk.proofs.Answers.{advance_placed}
 use Rattle.walk_pick.specs.Picking.{Judged}
 use Rattle.walk_pick.proofs.Picks.{first_left, second_left}
 use Rattle.walk_merge.specs.declared.Going.{Going}
-use Rattle.walk_merge.specs.Merging.{heading_by, heading_of, stop_of, final_of, Took, MayStep, steps_to_come, SteppedOn}
+use Rattle.walk_merge.specs.Merging.{heading_by, heading_of, HeadingShort, stop_of, final_of, Took, MayStep, GoesOn}
 
 -- ---- which edges belong
 
-module _ {set : Bool} (v : IntVector) (e : Pt) where
-  pub fresh_belongs : set ≡ false → true ≡ belongs (heading_by set v) e
-  unfolding belongs
-  fresh_belongs h = rw h
+pub fresh_belongs : (e : Pt) → true ≡ belongs unset e
+unfolding belongs
+fresh_belongs e = refl
 
-  pub zero_belongs : set ≡ true → is_zero e ≡ true → true ≡ belongs (heading_by set v) e
+module _ (v : IntVector) (e : Pt) where
+  pub zero_belongs : is_zero e ≡ true → true ≡ belongs (heading_by (Some v)) e
   unfolding belongs
-  zero_belongs h z = rw (h, z)
+  zero_belongs z = rw z
 
-  pub by_direction : set ≡ true → is_zero e ≡ false → {t : Bool} → is_equal (angle_cmp (vector v) e) ≡ t → t ≡ belongs (heading_by set v) e
+  pub by_direction : is_zero e ≡ false → {t : Bool} → is_equal (angle_cmp (vector v) e) ≡ t → t ≡ belongs (heading_by (Some v)) e
   unfolding belongs
-  by_direction h z f = sym f ∙ rw (h, z)
+  by_direction z f = sym f ∙ rw z
 
 -- ---- the direction after an edge
 
-pub took_headed : {g : Going} {e : Pt} {t : ConvexSum} → g.headed ≡ true → Short g.heading → Took g e t (record { on = true; headed = true; heading = g.heading; at = t })
-unfolding headed
-took_headed {g} {e} h s = record { on = refl; heads = ap (λ b. headed (heading_by b g.heading) e) (sym h); at = refl; short = s }
+module _ {g : Going} {v : IntVector} {t : ConvexSum} where
+  -- one begun stays
+  pub took_headed : {d : IntVector} → g.heading ≡ Some d → HeadingShort g.heading → Took g (vector v) t (record { heading = Some d; at = t })
+  unfolding headed
+  took_headed {d} h s = record {
+    heads = ap (λ o. headed (heading_by o) (vector v)) (sym h);
+    at = refl;
+    short = subst HeadingShort h s;
+  }
 
-pub took_fresh : {g : Going} {v : IntVector} {t : ConvexSum} {z : Bool} → g.headed ≡ false → z ≡ is_zero (vector v) → Short v → Took g (vector v) t (record { on = true; headed = not z; heading = v; at = t })
-unfolding headed
-took_fresh {g} {v} {z} h e s = record {
-  on = refl;
-  heads = ap (λ b. cond (not b) (along (vector v)) unset) e ∙ turned (is_zero (vector v)) ∙ ap (λ b. headed (heading_by b g.heading) (vector v)) (sym h);
-  at = refl;
-  short = s;
-}
-  where
-    turned : (b : Bool) → cond (not b) (along (vector v)) unset ≡ cond b unset (along (vector v))
-    turned true = refl
-    turned false = refl
+  -- a zero edge begins none
+  pub took_zero : g.heading ≡ None → is_zero (vector v) ≡ true → Took g (vector v) t (record { heading = None; at = t })
+  unfolding headed
+  took_zero h z = record { heads = rw (h, z); at = refl; short = tt }
+
+  pub took_fresh : g.heading ≡ None → is_zero (vector v) ≡ false → Short v → Took g (vector v) t (record { heading = Some v; at = t })
+  unfolding headed
+  took_fresh h z s = record { heads = rw (h, z); at = refl; short = s }
 
 -- ---- a run stops or goes on
 
@@ -106,7 +109,7 @@ module _ {l r : List ℤ} {s : ConvexSum} (j : Judged l r s) where
 
 -- ---- one turn of the loop
 
-module _ (l r : List ℤ) (g : Going) (on : g.on ≡ true) (ready : MayStep l r g) where
+module _ (l r : List ℤ) (g : Going) (ready : MayStep l r g) where
   abbrev A : List Pt
   A = points_of l
 
@@ -117,76 +120,54 @@ module _ (l r : List ℤ) (g : Going) (on : g.on ≡ true) (ready : MayStep l r 
   abbrev ahead : Run
   ahead = run (steps_left g.at) A B (heading_of g) g.at
 
-  final_ahead : final_of A B g ≡ ahead
+  pub stopped : none ≡ next_step A B g.at → final_of A B g ≡ stop_of g
   unfolding final_of
-  final_ahead = ap (λ b. cond b ahead (stop_of g)) on
+  stopped p = run_none A B (heading_of g) g.at (steps_left g.at) p
 
-  abbrev stopped : Going
-  stopped = record { on = false; headed = g.headed; heading = g.heading; at = g.at }
-
-  pub stopped_on : {h : Going} → h ≡ stopped → ahead ≡ stop_of g → SteppedOn l r g h
-  unfolding final_of steps_to_come
-  stopped_on e f = subst (SteppedOn l r g) (sym e) (record {
-    ready = record { judged = ready.judged; short = ready.short };
-    same = there ∙ sym f ∙ sym final_ahead;
-    fewer = less;
-  })
-    where
-      there : final_of A B stopped ≡ stop_of g
-      there = refl
-
-      less : steps_to_come stopped < steps_to_come g
-      less = rw on (omega arith)
-
-  pub went_on : {e : Pt} {t : ConvexSum} {h : Going} → Took g e t h → Judged l r t → steps_left g.at ≡ suc (steps_left t) → ahead ≡ run (steps_left t) A B (headed (heading_of g) e) t → SteppedOn l r g h
-  unfolding final_of steps_to_come
+  pub went_on : {e : Pt} {t : ConvexSum} {h : Going} → Took g e t h → Judged l r t → steps_left g.at ≡ suc (steps_left t) → ahead ≡ run (steps_left t) A B (headed (heading_of g) e) t → GoesOn l r g h
+  unfolding final_of
   went_on {e} {t} {h} k j n f = record {
     ready = record { judged = subst (Judged l r) (sym k.at) j; short = k.short };
-    same = there ∙ sym f ∙ sym final_ahead;
+    same = (λ i. run (steps_left (k.at i)) A B (k.heads i) (k.at i)) ∙ sym f;
     fewer = less;
   }
     where
-      there : final_of A B h ≡ run (steps_left t) A B (headed (heading_of g) e) t
-      there = ap (λ b. cond b (run (steps_left h.at) A B (heading_of h) h.at) (stop_of h)) k.on ∙ (λ i. run (steps_left (k.at i)) A B (k.heads i) (k.at i))
-
-      less : steps_to_come h < steps_to_come g
-      less = rw (on, k.on, k.at) (omega arith)
+      less : steps_left h.at < steps_left g.at
+      less = rw k.at (omega arith)
 
   -- an edge that belongs is taken
-  pub took_first : {e : Pt} → first e ≡ next_step A B g.at → belongs (heading_of g) e ≡ true → {t : ConvexSum} {h : Going} → t ≡ step_first A g.at → Took g e t h → SteppedOn l r g h
+  pub took_first : {e : Pt} → first e ≡ next_step A B g.at → belongs (heading_of g) e ≡ true → {t : ConvexSum} {h : Going} → t ≡ step_first A g.at → Took g e t h → GoesOn l r g h
   unfolding advance
   took_first {e} p b {t} {h} u k =
       went_on k (subst (Judged l r) (sym u) (first_judged ready.judged)) (omega (arith, (first_left A B g.at p).0) ∙ ap (λ z. suc (steps_left z)) (sym u))
       (run_first A B (heading_of g) g.at p ∙ ap (λ z. cond z (run (steps_left (step_first A g.at)) A B (headed (heading_of g) e) (step_first A g.at)) (stop_of g)) b ∙ ap (λ z. run (steps_left z) A B (headed (heading_of g) e) z) (sym u))
 
-  pub took_second : {e : Pt} → second e ≡ next_step A B g.at → belongs (heading_of g) e ≡ true → {t : ConvexSum} {h : Going} → t ≡ step_second B g.at → Took g e t h → SteppedOn l r g h
+  pub took_second : {e : Pt} → second e ≡ next_step A B g.at → belongs (heading_of g) e ≡ true → {t : ConvexSum} {h : Going} → t ≡ step_second B g.at → Took g e t h → GoesOn l r g h
   unfolding advance
   took_second {e} p b {t} {h} u k =
       went_on k (subst (Judged l r) (sym u) (second_judged ready.judged)) (omega (arith, (second_left A B g.at p).0) ∙ ap (λ z. suc (steps_left z)) (sym u))
       (run_second A B (heading_of g) g.at p ∙ ap (λ z. cond z (run (steps_left (step_second B g.at)) A B (headed (heading_of g) e) (step_second B g.at)) (stop_of g)) b ∙ ap (λ z. run (steps_left z) A B (headed (heading_of g) e) z) (sym u))
 
   -- one that does not is left
-  pub left_first : {e : Pt} → first e ≡ next_step A B g.at → belongs (heading_of g) e ≡ false → {h : Going} → h ≡ stopped → SteppedOn l r g h
-  left_first {e} p b u =
-      stopped_on u (run_first A B (heading_of g) g.at p ∙ ap (λ z. cond z (run (steps_left (step_first A g.at)) A B (headed (heading_of g) e) (step_first A g.at)) (stop_of g)) b)
+  pub left_first : {e : Pt} → first e ≡ next_step A B g.at → belongs (heading_of g) e ≡ false → final_of A B g ≡ stop_of g
+  unfolding final_of
+  left_first {e} p b =
+      run_first A B (heading_of g) g.at p ∙ ap (λ z. cond z (run (steps_left (step_first A g.at)) A B (headed (heading_of g) e) (step_first A g.at)) (stop_of g)) b
 
-  pub left_second : {e : Pt} → second e ≡ next_step A B g.at → belongs (heading_of g) e ≡ false → {h : Going} → h ≡ stopped → SteppedOn l r g h
-  left_second {e} p b u =
-      stopped_on u (run_second A B (heading_of g) g.at p ∙ ap (λ z. cond z (run (steps_left (step_second B g.at)) A B (headed (heading_of g) e) (step_second B g.at)) (stop_of g)) b)
+  pub left_second : {e : Pt} → second e ≡ next_step A B g.at → belongs (heading_of g) e ≡ false → final_of A B g ≡ stop_of g
+  unfolding final_of
+  left_second {e} p b =
+      run_second A B (heading_of g) g.at p ∙ ap (λ z. cond z (run (steps_left (step_second B g.at)) A B (headed (heading_of g) e) (step_second B g.at)) (stop_of g)) b
 
--- ---- the loop's first and last
+-- ---- the loop's first
 
 -- the steps not begun
 abbrev begun : ConvexSum → Going
-begun s = record { on = true; headed = false; heading = record { x = pos 0; y = pos 0 }; at = s }
+begun s = record { heading = None; at = s }
 
 pub ready_first : {l r : List ℤ} {s : ConvexSum} → Judged l r s → MayStep l r (begun s)
-ready_first j = record { judged = j; short = record { x_small = record { abs = omega arith }; y_small = record { abs = omega arith } } }
+ready_first j = record { judged = j; short = tt }
 
 pub final_first : (A B : List Pt) (s : ConvexSum) → final_of A B (begun s) ≡ run (steps_left s) A B unset s
 unfolding final_of
 final_first A B s = refl
-
-pub final_last : (A B : List Pt) (g : Going) → g.on ≡ false → final_of A B g ≡ stop_of g
-unfolding final_of
-final_last A B g h = ap (λ b. cond b (run (steps_left g.at) A B (heading_of g) g.at) (stop_of g)) h

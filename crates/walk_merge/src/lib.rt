@@ -4,13 +4,13 @@
 // Leans on walk_pick, walk_move, walk_read, plane.
 #![tactic(auto)]
 
-ghost use Rattle.std.specs.Prelude.{◌≡◌, true, false, ◌<◌, length};
+ghost use Rattle.std.specs.Prelude.{◌≡◌, false, ◌<◌, length};
 ghost use Rattle.plane.specs.Machine.{vector, Short};
 ghost use Rattle.corners.specs.Corners.{points_of};
 ghost use Rattle.pair.specs.Pair.{step_first, step_second, unset, belongs, run, steps_left};
 ghost use Rattle.walk.specs.Calls.{length_broken, misplaced};
 ghost use Rattle.walk_pick.specs.Picking.{Judged};
-ghost use Rattle.walk_merge.specs.Merging.{heading_by, stop_of, Took, MayStep, SteppedOn};
+ghost use Rattle.walk_merge.specs.Merging.{heading_by, HeadingShort, stop_of, Took, MayStep, SteppedOn};
 
 use corners::corner_count;
 use pair::ConvexSum;
@@ -19,70 +19,42 @@ use std::cmp::Ordering;
 use walk_move::advance_of;
 use walk_pick::Step;
 
-// The steps of one edge: whether they go on, the direction of the edge, if it is begun, and where
-// both walks stand.
+// The steps of one edge: its direction, none where no edge is begun, and where both walks stand.
 #[derive(Clone, Copy)]
 pub struct Going {
-    pub on: bool,
-    pub headed: bool,
-    pub heading: IntVector,
+    pub heading: Option<IntVector>,
     pub at: ConvexSum,
 }
 
 // Whether an edge belongs to the one begun: a zero edge does, and any does where none is begun.
-fn belongs(headed: bool, heading: IntVector, e: IntVector) -> bool
-    requires { Short heading × Short e }
-    ensures { result ≡ belongs (heading_by headed heading) (vector e) }
+fn belongs(heading: Option<IntVector>, e: IntVector) -> bool
+    requires { HeadingShort heading × Short e }
+    ensures { result ≡ belongs (heading_by heading) (vector e) }
 {
-    if !headed {
+    let Some(begun) = heading else {
         return true;
-    }
+    };
     if plane::is_zero(e) {
         return true;
     }
-    let order = plane::angle_cmp(heading, e);
-    match order {
-        Ordering::Less => false,
+    match plane::angle_cmp(begun, e) {
         Ordering::Equal => true,
-        Ordering::Greater => false,
+        Ordering::Less | Ordering::Greater => false,
     }
 }
 
 // An edge that belongs is taken: the walks stand at t, and the edge begun has its direction, unless
 // it is zero.
 fn take(g: Going, e: IntVector, t: ConvexSum) -> Going
-    requires { Short g.heading × Short e }
+    requires { HeadingShort g.heading × Short e }
     ensures { Took g (vector e) t result }
 {
-    if g.headed {
-        let heading = g.heading;
-        return Going {
-            on: true,
-            headed: true,
-            heading: heading,
-            at: t,
-        };
-    }
-    Going {
-        on: true,
-        headed: !plane::is_zero(e),
-        heading: e,
-        at: t,
-    }
-}
-
-// The steps stop where they are.
-fn stop(g: Going) -> Going
-    ensures { result ≡ record { on = false; headed = g.headed; heading = g.heading; at = g.at } }
-{
-    let heading = g.heading;
-    let at = g.at;
-    Going {
-        on: false,
-        headed: g.headed,
-        heading: heading,
-        at: at,
-    }
+    let heading = match g.heading {
+        Some(begun) => Some(begun),
+        None if plane::is_zero(e) => None,
+        None => Some(e),
+    };
+    Going { heading, at: t }
 }
 
 // The first walk one step on, which has a step left.
@@ -90,11 +62,9 @@ fn step_first(left: &[i32], s: ConvexSum) -> ConvexSum
     requires { (length_broken left.now ≡ false) × (misplaced (length (points_of left.now)) s.a ≡ false) × (0 < s.a.remaining) }
     ensures { result ≡ step_first (points_of left.now) s }
 {
-    let a = s.a;
-    let b = s.b;
     ConvexSum {
-        a: advance_of(corner_count(left), a),
-        b: b,
+        a: advance_of(corner_count(left), s.a),
+        b: s.b,
     }
 }
 
@@ -103,35 +73,32 @@ fn step_second(right: &[i32], s: ConvexSum) -> ConvexSum
     requires { (length_broken right.now ≡ false) × (misplaced (length (points_of right.now)) s.b ≡ false) × (0 < s.b.remaining) }
     ensures { result ≡ step_second (points_of right.now) s }
 {
-    let a = s.a;
-    let b = s.b;
     ConvexSum {
-        a: a,
-        b: advance_of(corner_count(right), b),
+        a: s.a,
+        b: advance_of(corner_count(right), s.b),
     }
 }
 
-// One more step of the edge, or a stop.
-fn step_on(left: &[i32], right: &[i32], g: Going) -> Going
-    requires { (g.on ≡ true) × MayStep left.now right.now g }
+// One more step of the edge; none where the steps stop.
+fn step_on(left: &[i32], right: &[i32], g: Going) -> Option<Going>
+    requires { MayStep left.now right.now g }
     ensures { SteppedOn left.now right.now g result }
 {
-    let at = g.at;
-    let heading = g.heading;
-    let step = walk_pick::next_step(left, right, at);
-    match step {
-        Step::Neither => stop(g),
+    match walk_pick::next_step(left, right, g.at) {
+        Step::Neither => None,
         Step::First(e) => {
-            if belongs(g.headed, heading, e) {
-                return take(g, e, step_first(left, at));
+            if belongs(g.heading, e) {
+                Some(take(g, e, step_first(left, g.at)))
+            } else {
+                None
             }
-            stop(g)
         }
         Step::Second(e) => {
-            if belongs(g.headed, heading, e) {
-                return take(g, e, step_second(right, at));
+            if belongs(g.heading, e) {
+                Some(take(g, e, step_second(right, g.at)))
+            } else {
+                None
             }
-            stop(g)
         }
     }
 }
@@ -142,13 +109,11 @@ pub fn run(left: &[i32], right: &[i32], s: ConvexSum) -> Going
     ensures { stop_of result ≡ run (steps_left s) (points_of left.now) (points_of right.now) unset s }
 {
     let mut g = Going {
-        on: true,
-        headed: false,
-        heading: IntVector { x: 0, y: 0 },
+        heading: None,
         at: s,
     };
-    while g.on {
-        g = step_on(left, right, g);
+    while let Some(next) = step_on(left, right, g) {
+        g = next;
     }
     g
 }

@@ -2,6 +2,7 @@
 -- what an accepted one was judged by (`judged_by`), the faults one by one (`fault_left_7` and the
 -- others), a corner and the end from the code's steps (`corner_given`, `end_given`). Assumes
 -- nothing.
+use Rattle.std.specs.Prelude.{Option, Some, None}
 use mathlib.Core.Path.{◌≡◌, refl, sym, ◌∙◌, ap, subst}
 use mathlib.Core.Bool.{Bool, true, false, cond}
 use mathlib.Core.List.{List, [], ◌∷◌}
@@ -14,6 +15,7 @@ use Rattle.integers.specs.Faults.{first_fault}
 use Rattle.integers.proofs.Faults.{first_this, first_next, first_none, first_empty}
 use Rattle.plane.specs.Plane.{Pt}
 use Rattle.plane.specs.declared.IntPoint.{IntPoint}
+use Rattle.plane.specs.declared.IntVector.{IntVector}
 use Rattle.plane.specs.Machine.{point}
 use Rattle.corners.specs.Corners.{points_of, off_range}
 use Rattle.pair.specs.declared.ConvexSum.{ConvexSum}
@@ -134,15 +136,15 @@ module _ (A B : List Pt) (s : ConvexSum) where
 
 -- by the steps that the code took, to g
 module _ (A B : List Pt) (s : ConvexSum) (g : Going) (e : stop_of g ≡ run (steps_left s) A B unset s) where
-  -- the answer, whether the edge is begun or not
-  abbrev told : Bool → Next
-  told b = next_of (emitted_by (sum_point A B s) (record { heading = heading_by b g.heading; at = g.at }))
+  -- the answer, whether an edge is begun or not
+  abbrev told : Option IntVector → Next
+  told h = next_of (emitted_by (sum_point A B s) (record { heading = heading_by h; at = g.at }))
 
-  pub corner_given : g.headed ≡ true → {p : IntPoint} → point p ≡ sum_point A B s → next.Corner p g.at ≡ next_of (pair_step A B s)
+  pub corner_given : {d : IntVector} → g.heading ≡ Some d → {p : IntPoint} → point p ≡ sum_point A B s → next.Corner p g.at ≡ next_of (pair_step A B s)
   unfolding pair_step
-  corner_given h q = ap (λ c. next.Corner (int_point c) g.at) q ∙ ap told (sym h) ∙ ap (λ r. next_of (emitted_by (sum_point A B s) r)) e
+  corner_given {d} h q = ap (λ c. next.Corner (int_point c) g.at) q ∙ ap told (sym h) ∙ ap (λ r. next_of (emitted_by (sum_point A B s) r)) e
 
-  pub end_given : g.headed ≡ false → next.End g.at ≡ next_of (pair_step A B s)
+  pub end_given : g.heading ≡ None → next.End g.at ≡ next_of (pair_step A B s)
   unfolding pair_step
   end_given h = ap told (sym h) ∙ ap (λ r. next_of (emitted_by (sum_point A B s) r)) e
 

@@ -37,39 +37,25 @@ pub fn emit(left: &[i32], right: &[i32], s: ConvexSum) -> Next
     requires { Judged left.now right.now s }
     ensures { result ≡ next_of (pair_step (points_of left.now) (points_of right.now) s) }
 {
-    let a = s.a;
-    let b = s.b;
-    let p = add_points(point_of(left, a), point_of(right, b));
+    let p = add_points(point_of(left, s.a), point_of(right, s.b));
     let g = walk_merge::run(left, right, s);
-    let at = g.at;
-    if g.headed {
-        return Next::Corner(p, at);
+    match g.heading {
+        Some(_) => Next::Corner(p, g.at),
+        None => Next::End(g.at),
     }
-    Next::End(at)
 }
 
 // The fault of a pair's step; 0 for none.
 fn pair_fault(left: &[i32], right: &[i32], s: ConvexSum) -> u32
     ensures { result ≡ pair_step_fault left.now right.now s }
 {
-    if length_broken(left) {
+    if length_broken(left) || length_broken(right) {
         return integers::fault::RULES;
     }
-    if length_broken(right) {
-        return integers::fault::RULES;
-    }
-    let a = s.a;
-    if misplaced(corner_count(left), a) {
+    if misplaced(corner_count(left), s.a) || misplaced(corner_count(right), s.b) {
         return integers::fault::PLACE;
     }
-    let b = s.b;
-    if misplaced(corner_count(right), b) {
-        return integers::fault::PLACE;
-    }
-    if corners::off_range(left) {
-        return integers::fault::RANGE;
-    }
-    if corners::off_range(right) {
+    if corners::off_range(left) || corners::off_range(right) {
         return integers::fault::RANGE;
     }
     0

@@ -1,26 +1,28 @@
 -- `walk_merge::belongs` meets its contract: the code's tests are the definition's. Assumes nothing.
-use mathlib.Core.Path.{sym, ◌∙◌, ap}
-use borrow.Author.Tests.{not-true, not-false}
+use mathlib.Core.Bool.{false}
+use mathlib.Core.Logic.{◌⊎◌, inl, inr}
+use mathlib.Core.Path.{◌≡◌, sym, ◌∙◌, ap}
+use Rattle.plane.specs.declared.Ordering.{Ordering}
+use Rattle.plane.specs.declared.Ordering.TheVariants.{Less, Greater}
 use Rattle.plane.specs.Plane.{is_equal}
 use Rattle.plane.specs.Machine.{vector}
 use Rattle.walk_merge.proofs.Runs.{fresh_belongs, zero_belongs, by_direction}
-use borrow.Author.Rules.{rules}
 use Rattle.walk_merge.proofs.belongs.Goals as goal
 
-pub returns-then-not-headed : goal.returns-then-not-headed
-returns-then-not-headed c = fresh_belongs c.args.heading (vector c.args.e) c.if-not-headed.true
+unequal : {r : Ordering} → (r ≡ Less) ⊎ (r ≡ Greater) → is_equal r ≡ false
+unequal (inl e) = ap is_equal e
+unequal (inr e) = ap is_equal e
+
+pub returns-in_default : goal.returns-in_default
+returns-in_default c = rw c.in_default.is (fresh_belongs (vector c.args.e))
 
 pub returns-then-is_zero : goal.returns-then-is_zero
-returns-then-is_zero c = zero_belongs c.args.heading (vector c.args.e) c.if-not-headed.false (sym c.is_zero.ensures ∙ c.if-is_zero.true)
-
-pub returns-in-Less : goal.returns-in-Less
-returns-in-Less c = by_direction c.args.heading (vector c.args.e) c.if-not-headed.false
-    (sym c.is_zero.ensures ∙ c.if-is_zero.false) (ap is_equal (sym c.angle_cmp-order.ensures ∙ c.in-Less.is))
+returns-then-is_zero c = rw c.in-Some.is (zero_belongs c.in-Some.begun (vector c.args.e) (sym c.is_zero.ensures ∙ c.if-is_zero.true))
 
 pub returns-in-Equal : goal.returns-in-Equal
-returns-in-Equal c = by_direction c.args.heading (vector c.args.e) c.if-not-headed.false
-    (sym c.is_zero.ensures ∙ c.if-is_zero.false) (ap is_equal (sym c.angle_cmp-order.ensures ∙ c.in-Equal.is))
+returns-in-Equal c = rw c.in-Some.is
+    (by_direction c.in-Some.begun (vector c.args.e) (sym c.is_zero.ensures ∙ c.if-is_zero.false) (ap is_equal (sym c.angle_cmp.ensures ∙ c.in-Equal.is)))
 
-pub returns-in-Greater : goal.returns-in-Greater
-returns-in-Greater c = by_direction c.args.heading (vector c.args.e) c.if-not-headed.false
-    (sym c.is_zero.ensures ∙ c.if-is_zero.false) (ap is_equal (sym c.angle_cmp-order.ensures ∙ c.in-Greater.is))
+pub returns-in-Less : goal.returns-in-Less
+returns-in-Less c = rw c.in-Some.is
+    (by_direction c.in-Some.begun (vector c.args.e) (sym c.is_zero.ensures ∙ c.if-is_zero.false) (ap is_equal (sym c.angle_cmp.ensures) ∙ unequal c.in-Less.is))

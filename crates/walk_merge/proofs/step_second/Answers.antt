@@ -1,10 +1,7 @@
 -- `walk_merge::step_second` meets its contract. Assumes nothing.
-use mathlib.Core.Path.{◌∙◌, ap}
 use Rattle.pair.specs.declared.ConvexSum.{ConvexSum}
 use Rattle.pair.specs.declared.Place.{Place}
-use Rattle.pair.specs.Walk.{advance}
 use Rattle.walk.proofs.Answers.{few_corners}
-use borrow.Author.Rules.{rules}
 use Rattle.walk_merge.proofs.step_second.Goals as goal
 
 -- with this place for the walk's

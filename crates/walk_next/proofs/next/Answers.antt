@@ -3,7 +3,6 @@
 use mathlib.Core.Path.{sym, ◌∙◌, subst}
 use Rattle.walk.specs.Clauses.{NextBy}
 use Rattle.walk_next.proofs.Promises.{judged_by, next_refused, next_given, next_by}
-use borrow.Author.Rules.{rules}
 use Rattle.walk_next.proofs.next.Goals as goal
 
 pub returns-then-fault-ne0 : goal.returns-then-fault-ne0
