@@ -18,10 +18,7 @@ use walk_read::length_broken;
 fn first_of(f: u32, g: u32) -> u32
     ensures { result ≡ first_of f g }
 {
-    if g < f {
-        return g;
-    }
-    f
+    f.min(g)
 }
 
 // Both walks begun, on contours of sound length and range. Refuses with 8, 20.
@@ -31,15 +28,11 @@ fn pair_checked(left: &[i32], right: &[i32], reflected: bool) -> Paired
 {
     let first = begin_checked(left, false);
     let second = begin_checked(right, reflected);
-    match first {
-        Begun::At(a) => match second {
-            Begun::At(b) => Paired::At(ConvexSum { a: a, b: b }),
-            Begun::Refused(g) => Paired::Refused(g),
-        },
-        Begun::Refused(f) => match second {
-            Begun::At(b) => Paired::Refused(f),
-            Begun::Refused(g) => Paired::Refused(first_of(f, g)),
-        },
+    match (first, second) {
+        (Begun::At(a), Begun::At(b)) => Paired::At(ConvexSum { a, b }),
+        (Begun::At(_), Begun::Refused(g)) => Paired::Refused(g),
+        (Begun::Refused(f), Begun::At(_)) => Paired::Refused(f),
+        (Begun::Refused(f), Begun::Refused(g)) => Paired::Refused(first_of(f, g)),
     }
 }
 
@@ -47,16 +40,10 @@ fn pair_checked(left: &[i32], right: &[i32], reflected: bool) -> Paired
 fn begin_pair(left: &[i32], right: &[i32], reflected: bool) -> Paired
     ensures { PairedBy reflected left.now right.now result }
 {
-    if length_broken(left) {
+    if length_broken(left) || length_broken(right) {
         return Paired::Refused(integers::fault::RULES);
     }
-    if length_broken(right) {
-        return Paired::Refused(integers::fault::RULES);
-    }
-    if corners::off_range(left) {
-        return Paired::Refused(integers::fault::RANGE);
-    }
-    if corners::off_range(right) {
+    if corners::off_range(left) || corners::off_range(right) {
         return Paired::Refused(integers::fault::RANGE);
     }
     pair_checked(left, right, reflected)
