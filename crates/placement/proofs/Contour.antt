@@ -5,7 +5,7 @@
 use mathlib.Core.Path.{◌≡◌, refl, sym, ◌∙◌, ap, subst}
 use mathlib.Core.Bool.{Bool, true, false, cond}
 use mathlib.Core.List.{List, [], ◌∷◌, ◌++◌}
-use Prim.Native.Nat.{ℕ, zero, suc, ◌+◌, ◌-◌, ◌<◌, ◌≤◌}
+use Prim.Native.Nat.{ℕ, suc, ◌+◌, ◌-◌, ◌<◌, ◌≤◌}
 use native.Mathlib.Numerals.{add-one}
 use native.Mathlib.Omega.{arith}
 use lib.ListN.{length, drop, get_or, drop_of_length-le}
@@ -22,7 +22,7 @@ use Rattle.plane.proofs.Sides.{area_first}
 use Rattle.pair.specs.Walk.{corner_at}
 use Rattle.placement.proofs.Bools.{or_none, or-all, and_none, and_and, or_or}
 use Rattle.placement.specs.declared.Contact.TheVariants.{Apart, Touching, Overlapping}
-use Rattle.placement.specs.Placement.{every, some, side, on_or_left, left_or_none, left_of, among, inside_at, strictly_inside_at, contact_in}
+use Rattle.placement.specs.Placement.{every, some, on_or_left, left_or_none, left_of, among, inside_at, strictly_inside_at, contact_in}
 
 -- the last corner stands last
 last_at : (p : Pt) (l : List Pt) → get_or (p ∷ l) (length l) O ≡ last_of p l

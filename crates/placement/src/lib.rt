@@ -40,10 +40,7 @@ fn place_fault(starts: &[u32], corners: &[i32], z: IntPoint) -> u32
     if table::result_broken(starts, corners) {
         return integers::fault::RULES;
     }
-    if !plane::on_grid(z) {
-        return integers::fault::RANGE;
-    }
-    if corners::off_range(corners) {
+    if !plane::on_grid(z) || corners::off_range(corners) {
         return integers::fault::RANGE;
     }
     0
@@ -53,48 +50,32 @@ fn place_fault(starts: &[u32], corners: &[i32], z: IntPoint) -> u32
 fn or_not_right(before: bool, a: IntPoint, b: IntPoint) -> bool
     ensures { result ≡ cond (le_z (point a).x (point b).x) true before }
 {
-    if a.x <= b.x {
-        return true;
-    }
-    before
+    a.x <= b.x || before
 }
 
 // Whether a is not above b, or was not before.
 fn or_not_above(before: bool, a: IntPoint, b: IntPoint) -> bool
     ensures { result ≡ cond (le_z (point a).y (point b).y) true before }
 {
-    if a.y <= b.y {
-        return true;
-    }
-    before
+    a.y <= b.y || before
 }
 
 // Whether z is not past all corners to one side.
 fn is_among(contour: &[i32], z: IntPoint) -> bool
     ensures { result ≡ among (points_of contour.now) (point z) }
 {
-    let n = corner_count(contour);
     let mut right = false;
     let mut left = false;
     let mut above = false;
     let mut below = false;
-    let mut k: usize = 0;
-    while k < n {
+    for k in 0..corner_count(contour) {
         let c = corner_at(contour, k);
         right = or_not_right(right, c, z);
         left = or_not_right(left, z, c);
         above = or_not_above(above, c, z);
         below = or_not_above(below, z, c);
-        k += 1;
     }
-    if right {
-        if left {
-            if above {
-                return below;
-            }
-        }
-    }
-    false
+    right && left && above && below
 }
 
 // How far z is left of the edge from corner i to corner k.
@@ -109,10 +90,7 @@ fn side_at(contour: &[i32], i: usize, k: usize, z: IntPoint) -> i64
 fn or_above(before: bool, s: i64) -> bool
     ensures { result ≡ cond (lt_z (pos 0) s) true before }
 {
-    if s > 0 {
-        return true;
-    }
-    before
+    s > 0 || before
 }
 
 // Whether z, with side s of the edge from corner i to corner k, is left of it or the edge has no
@@ -122,13 +100,7 @@ fn and_left(contour: &[i32], i: usize, k: usize, before: bool, s: i64) -> bool
     ensures { let l = points_of contour.now in
         result ≡ cond before (cond (lt_z (pos 0) s) true (eq_pt (corner_at l i) (corner_at l k))) false }
 {
-    if before {
-        if s > 0 {
-            return true;
-        }
-        return plane::same_point(corner_at(contour, i), corner_at(contour, k));
-    }
-    false
+    before && (s > 0 || plane::same_point(corner_at(contour, i), corner_at(contour, k)))
 }
 
 // Where z lies by one contour.
@@ -143,8 +115,7 @@ pub fn placed_in(contour: &[i32], z: IntPoint) -> Contact
     let mut strict = true;
     let mut left = false;
     let mut i = n - 1;
-    let mut k: usize = 0;
-    while k < n {
+    for k in 0..n {
         let s = side_at(contour, i, k, z);
         if s < 0 {
             return Contact::Apart;
@@ -152,17 +123,14 @@ pub fn placed_in(contour: &[i32], z: IntPoint) -> Contact
         strict = and_left(contour, i, k, strict, s);
         left = or_above(left, s);
         i = k;
-        k += 1;
     }
-    if strict {
-        if left {
-            return Contact::Overlapping;
-        }
+    if strict && left {
+        Contact::Overlapping
+    } else if is_among(contour, z) {
+        Contact::Touching
+    } else {
+        Contact::Apart
     }
-    if is_among(contour, z) {
-        return Contact::Touching;
-    }
-    Contact::Apart
 }
 
 // Where z lies by contour k.
@@ -182,31 +150,25 @@ fn placed_by(starts: &[u32], corners: &[i32], z: IntPoint) -> Contact
 {
     let parts = starts.len() - 1;
     let mut touches = false;
-    let mut k: usize = 0;
-    while k < parts {
-        let p = placed_at(starts, corners, k, z);
-        match p {
+    for k in 0..parts {
+        match placed_at(starts, corners, k, z) {
             Contact::Apart => {}
-            Contact::Touching => {
-                touches = true;
-            }
-            Contact::Overlapping => {
-                return Contact::Overlapping;
-            }
+            Contact::Touching => touches = true,
+            Contact::Overlapping => return Contact::Overlapping,
         }
-        k += 1;
     }
     if touches {
-        return Contact::Touching;
+        Contact::Touching
+    } else {
+        Contact::Apart
     }
-    Contact::Apart
 }
 
 // Where the place (x, y) lies by the contours of a pair result. Refuses with 7, 2, in this order.
 pub fn placement(starts: &[u32], corners: &[i32], x: i32, y: i32) -> Placed
     ensures { result ≡ placed_of starts.now corners.now (record { x = x; y = y }) }
 {
-    let z = IntPoint { x: x, y: y };
+    let z = IntPoint { x, y };
     let fault = place_fault(starts, corners, z);
     if fault != 0 {
         return Placed::Refused(fault);

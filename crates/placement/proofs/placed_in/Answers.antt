@@ -5,7 +5,6 @@ use mathlib.Core.Bool.{Bool, true, false, cond}
 use mathlib.Core.Logic.{◌⊎◌, inl, inr, ⊎_elim}
 use Prim.Native.Nat.{◌<◌, ◌-◌}
 use native.Mathlib.Omega.{arith}
-use borrow.Author.Rules.{rules}
 use lib.ListN.{length}
 use mir.Syntax.{w64}
 use Rattle.integers.proofs.Bits.{got}
@@ -14,7 +13,7 @@ use Rattle.corners.specs.Corners.{points_of}
 use Rattle.placement.specs.declared.Contact.{Contact}
 use Rattle.placement.specs.declared.Contact.TheVariants.{Apart, Touching}
 use Rattle.placement.proofs.Contour.{InTurn, empty_apart, turn_start, in_turn, turned_out, turned_strictly, turned}
-use Rattle.placement.proofs.placed_in.Goals.{then-strict+else-left, else-strict}
+use Rattle.placement.proofs.placed_in.Goals.{else-strict-via-then-strict+else-left, else-strict-via-else-strict}
 use Rattle.placement.proofs.placed_in.Goals as goal
 
 -- touching or not, by the corners
@@ -46,9 +45,9 @@ pub returns-then-left : goal.returns-then-left
 returns-then-left c = turned_strictly _ _ c.loop-k.invariant.1 (omega (arith, c.loop-k-test.false, c.corner_count-n.ensures)) c.if-strict.true c.if-left.true
 
 pub returns-then-is_among : goal.returns-then-is_among
-returns-then-is_among c = (by_corners (turned _ _ c.loop-k.invariant.1 (omega (arith, c.loop-k-test.false, c.corner_count-n.ensures)) (not_strictly (elim c.if-strict.branch [ then-strict+else-left w ↦ inl (w.if-strict.true, w.if-left.false) | else-strict w ↦ inr w.if-strict.false ])))).0
+returns-then-is_among c = (by_corners (turned _ _ c.loop-k.invariant.1 (omega (arith, c.loop-k-test.false, c.corner_count-n.ensures)) (not_strictly (elim c.else-strict.branch [ else-strict-via-then-strict+else-left w ↦ inl (w.if-strict.true, w.if-left.false) | else-strict-via-else-strict w ↦ inr w.if-strict.false ])))).0
     (sym c.is_among.ensures ∙ c.if-is_among.true)
 
-pub returns : goal.returns
-returns c = (by_corners (turned _ _ c.loop-k.invariant.1 (omega (arith, c.loop-k-test.false, c.corner_count-n.ensures)) (not_strictly (elim c.if-strict.branch [ then-strict+else-left w ↦ inl (w.if-strict.true, w.if-left.false) | else-strict w ↦ inr w.if-strict.false ])))).1
+pub returns-else-is_among : goal.returns-else-is_among
+returns-else-is_among c = (by_corners (turned _ _ c.loop-k.invariant.1 (omega (arith, c.loop-k-test.false, c.corner_count-n.ensures)) (not_strictly (elim c.else-strict.branch [ else-strict-via-then-strict+else-left w ↦ inl (w.if-strict.true, w.if-left.false) | else-strict-via-else-strict w ↦ inr w.if-strict.false ])))).1
     (sym c.is_among.ensures ∙ c.if-is_among.false)

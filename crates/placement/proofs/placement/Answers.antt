@@ -1,7 +1,6 @@
 -- `placement::placement` meets its contract: refused by its fault, or where the place lies. Assumes
 -- nothing.
 use mathlib.Core.Path.{sym, ◌∙◌, ap}
-use borrow.Author.Rules.{rules}
 use Rattle.integers.proofs.Bits.{kept}
 use Rattle.plane.proofs.Size.{on_grid_both}
 use Rattle.table.specs.Table.{table_parts}

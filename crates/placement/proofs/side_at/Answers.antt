@@ -1,10 +1,4 @@
 -- `placement::side_at` meets its contract: the two corners by their places. Assumes nothing.
-use mathlib.Core.Path.{sym, ◌∙◌, subst}
-use borrow.Author.Rules.{rules}
-use mir.Syntax.{w64}
-use Rattle.integers.proofs.Bits.{got}
-use Rattle.plane.specs.Plane.{area_two}
-use Rattle.plane.specs.Machine.{point, CrossSize}
 use Rattle.walk_read.proofs.Grid.{grid_at}
 use Rattle.placement.proofs.side_at.Goals as goal
 
