@@ -2,20 +2,20 @@
 -- of which those before corner k are added (`Summing`), at the start, after a turn, at the end; the
 -- contours of a table, of which those before contour k are added (`Totalling`), likewise. Assumes
 -- nothing.
-use mathlib.Core.Path.{◌≡◌, refl, sym, ◌∙◌, ap, subst}
-use mathlib.Core.Bool.{true, false}
-use mathlib.Core.List.{List, [], ◌∷◌, ◌++◌, map, map-append}
-use Prim.Native.Nat.{ℕ, suc, ◌+◌, ◌*◌, ◌-◌, ◌/◌, ◌^◌, ◌≤◌, ◌<◌}
+use mathlib.Core.Path.{◌≡◌, refl, sym, ◌∙◌, ap}
+use mathlib.Core.Bool.{false}
+use mathlib.Core.List.{List, [], ◌∷◌, map, map-append}
+use Prim.Native.Nat.{ℕ, suc, ◌+◌, ◌-◌, ◌^◌, ◌≤◌, ◌<◌}
 use native.Mathlib.Nat.{zero-add}
 use native.Mathlib.Numerals.{add-one}
 use native.Mathlib.Omega.{arith}
 use lib.ListN.{length, take, drop, get_or, drop_of_length-le, length-take, length-drop}
 use lib.Seq.{drop-cons}
-use lib.IntN.{ℤ, pos, neg_ℤ, nat_abs, ◌+ℤ◌, +ℤ_idl, +ℤ_idr, +ℤ_assoc, +ℤ_comm}
+use lib.IntN.{ℤ, pos, nat_abs, ◌+ℤ◌, +ℤ_idl, +ℤ_idr, +ℤ_assoc, +ℤ_comm}
 use lib.Signed.{lt_z}
 use Rattle.integers.specs.Lists.{sumℤ, links, neighbours}
 use Rattle.integers.proofs.Ring.{◌:≡◌, pt, ring}
-use Rattle.integers.proofs.Order.{by_test, zarith, neg_parts}
+use Rattle.integers.proofs.Order.{by_test, neg_parts}
 use Rattle.integers.proofs.Sizes.{abs_+, abs_parts}
 use Rattle.integers.proofs.Sums.{sum_cons, sum_snoc}
 use Rattle.integers.proofs.Tests.{zneeds}
@@ -28,7 +28,7 @@ use Rattle.wide.specs.declared.SignedProduct.{SignedProduct}
 use Rattle.wide.specs.Words.{two_words, magnitude, signed, value}
 use Rattle.wide.proofs.Signs.{signed_size}
 use Rattle.corners.specs.Corners.{points_of, corners_between}
-use Rattle.corners.proofs.Corners.{length_points, points_slice}
+use Rattle.corners.proofs.Corners.{points_slice}
 use Rattle.pair.specs.Walk.{corner_at}
 use Rattle.table_areas.specs.Areas.{total_area, Terms}
 

@@ -69,11 +69,9 @@ pub fn contour_area(contour: &[i32]) -> SignedProduct
         return total;
     }
     let mut i = n - 1;
-    let mut k: usize = 0;
-    while k < n {
+    for k in 0..n {
         total = add_term(total, cross_at(contour, i, k));
         i = k;
-        k += 1;
     }
     total
 }
@@ -99,10 +97,8 @@ pub fn total_area(starts: &[u32], corners: &[i32]) -> SignedProduct
         negative: false,
         words: Words { high: 0, low: 0 },
     };
-    let mut k: usize = 0;
-    while k < parts {
+    for k in 0..parts {
         total = wide::add(total, area_at(starts, corners, k));
-        k += 1;
     }
     total
 }

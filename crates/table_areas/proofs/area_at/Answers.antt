@@ -3,7 +3,6 @@ use mathlib.Core.Path.{◌∙◌, ap}
 use Prim.Native.Nat.{◌+◌, ◌*◌}
 use lib.ListN.{get_or}
 use native.Mathlib.Omega.{arith}
-use borrow.Author.Rules.{rules}
 use Rattle.plane.specs.Contour.{contour_area}
 use Rattle.corners.specs.Corners.{points_of, off_range}
 use Rattle.corners.proofs.Corners.{length_points}

@@ -1,7 +1,6 @@
 -- `table_areas::cross_at` meets its contract: the cross of two points is the doubled area that they
 -- and the origin have. Assumes nothing.
 use mathlib.Core.Path.{sym, ◌∙◌, subst}
-use borrow.Author.Rules.{rules}
 use native.Mathlib.Omega.{arith}
 use mir.Syntax.{w64}
 use Rattle.integers.proofs.Bits.{got}
