@@ -2,15 +2,15 @@
 -- of each call by the tests that code makes, and what none tells; an answer behind a fault; bounds
 -- corner by corner. Assumes nothing.
 use mathlib.Core.Path.{◌≡◌, refl, sym, ◌∙◌, ap}
-use mathlib.Core.Bool.{Bool, true, false, not, cond}
+use mathlib.Core.Bool.{Bool, true, false}
 use mathlib.Core.List.{List, [], ◌∷◌}
-use Prim.Native.Nat.{ℕ, suc, ◌+◌, ◌*◌, ◌%◌, ◌^◌, ◌≤◌, ◌<◌}
+use Prim.Native.Nat.{ℕ, suc, ◌+◌, ◌^◌, ◌≤◌, ◌<◌}
 use native.Mathlib.Nat.{zero-add}
 use native.Mathlib.Numerals.{add-one}
 use native.Mathlib.Omega.{arith}
 use borrow.Author.Tests.{eq-eqb, ne_eqb, le-leb, lt-leb, leb-false}
 use lib.Dec.{leb}
-use lib.ListN.{length, drop, get_or, drop_of_length-le}
+use lib.ListN.{length, drop, drop_of_length-le}
 use lib.Seq.{drop-cons}
 use lib.IntN.{ℤ, pos, negsuc, neg_ℤ}
 use Rattle.integers.specs.Faults.{fault_rules, fault_range, fault_total, fault_part}
@@ -27,7 +27,6 @@ use Rattle.pair.specs.Walk.{corner_at, in_word}
 use Rattle.mesh_bounds.specs.Bounds.{point_bounds, widened, widened_by, bounds_of}
 use Rattle.placement.specs.Placement.{Placeable}
 use Rattle.measure.specs.declared.Measured.{Measured}
-use Rattle.measure.specs.declared.Bounded.{Bounded}
 use Rattle.measure.specs.Measured.{area_refused, area_told, area_behind, bounds_laid, contour_fault, table_fault, part_fault, bounds_told}
 
 -- ---- 64 bits

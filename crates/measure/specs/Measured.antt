@@ -2,7 +2,7 @@
 -- the bounds of all corners; the fault of each. Starts and corners are a part table's or a pair
 -- result's: "The limits above don't bind it." A contour may run either way, cross itself or be
 -- empty. Assumes nothing.
-use Rattle.std.specs.Prelude.{not, cond, List, [], ◌∷◌, ℕ, ◌%◌, eqb, leb, length, get_or, ℤ, pos}
+use Rattle.std.specs.Prelude.{cond, List, [], ◌∷◌, ℕ, eqb, leb, get_or, ℤ, pos}
 use Rattle.integers.specs.Faults.{first_fault, fault_rules, fault_range, fault_total, fault_part}
 use Rattle.plane.specs.Contour.{contour_area}
 use Rattle.table.specs.declared.IntRect.{IntRect}

@@ -43,10 +43,7 @@ const LARGEST_BELOW: u64 = 9223372036854775808;
 fn refused(fault: u32) -> Measured
     ensures { result ≡ area_refused fault }
 {
-    Measured {
-        fault: fault,
-        area_two: 0,
-    }
+    Measured { fault, area_two: 0 }
 }
 
 // The doubled area -size, or 11 where it leaves 64 bits.
@@ -172,10 +169,8 @@ fn corner_bounds(corners: &[i32]) -> IntRect
         };
     }
     let mut b = mesh_bounds::bounds_of(corner_at(corners, 0));
-    let mut k: usize = 0;
-    while k < n {
+    for k in 0..n {
         b = mesh_bounds::with_point(b, corner_at(corners, k));
-        k += 1;
     }
     b
 }
@@ -188,7 +183,7 @@ pub fn table_bounds(starts: &[u32], corners: &[i32]) -> Bounded
     let fault = table_fault(starts, corners);
     if fault != 0 {
         return Bounded {
-            fault: fault,
+            fault,
             min_x: 0,
             max_x: 0,
             min_y: 0,

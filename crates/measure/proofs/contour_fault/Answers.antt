@@ -1,6 +1,5 @@
 -- `measure::contour_fault` meets its contract: each refusal in its turn. Assumes nothing.
 use mathlib.Core.Path.{sym, ◌∙◌}
-use borrow.Author.Rules.{rules}
 use Rattle.measure.proofs.Answers.{contour_7, contour_2, contour_none}
 use Rattle.measure.proofs.contour_fault.Goals as goal
 

@@ -1,7 +1,6 @@
 -- `measure::part_area_two` meets its contract: refused by its fault, or its area told. Assumes
 -- nothing.
 use mathlib.Core.Path.{sym, ◌∙◌, ap}
-use borrow.Author.Rules.{rules}
 use Rattle.measure.specs.Measured.{area_told, part_measured}
 use Rattle.measure.proofs.Answers.{part_accepted, behind_refused, behind_told}
 use Rattle.measure.proofs.part_area_two.Goals as goal

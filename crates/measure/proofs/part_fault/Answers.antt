@@ -1,7 +1,6 @@
 -- `measure::part_fault` meets its contract: the table's faults before 12. Assumes nothing.
 use mathlib.Core.Path.{sym, ◌∙◌}
 use native.Mathlib.Omega.{arith}
-use borrow.Author.Rules.{rules}
 use Rattle.measure.proofs.Answers.{part_before, part_12, part_none}
 use Rattle.measure.proofs.part_fault.Goals as goal
 

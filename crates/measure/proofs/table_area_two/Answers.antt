@@ -1,7 +1,6 @@
 -- `measure::table_area_two` meets its contract: refused by its fault, or its area told. Assumes
 -- nothing.
 use mathlib.Core.Path.{sym, ◌∙◌, ap}
-use borrow.Author.Rules.{rules}
 use Rattle.measure.specs.Measured.{area_told, table_measured}
 use Rattle.measure.proofs.Answers.{table_accepted, behind_refused, behind_told}
 use Rattle.measure.proofs.table_area_two.Goals as goal

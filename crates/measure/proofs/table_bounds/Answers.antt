@@ -1,6 +1,6 @@
 -- `measure::table_bounds` meets its contract: refused by its fault, or the bounds of the corners.
 -- Assumes nothing.
-use mathlib.Core.Path.{◌≡◌, sym, ◌∙◌}
+use mathlib.Core.Path.{◌∙◌}
 use borrow.Author.Rules.{rules}
 use mir.Syntax.{w32}
 use mir.Val.{SFits}

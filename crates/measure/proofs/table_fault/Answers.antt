@@ -1,6 +1,5 @@
 -- `measure::table_fault` meets its contract: each refusal in its turn. Assumes nothing.
 use mathlib.Core.Path.{sym, ◌∙◌}
-use borrow.Author.Rules.{rules}
 use Rattle.measure.proofs.Answers.{table_7, table_2, table_none}
 use Rattle.measure.proofs.table_fault.Goals as goal
 

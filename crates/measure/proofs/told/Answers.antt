@@ -2,11 +2,10 @@
 -- size. Assumes nothing.
 use mathlib.Core.Path.{sym, ◌∙◌, ap}
 use native.Mathlib.Omega.{arith}
-use borrow.Author.Rules.{rules}
 use mir.Syntax.{w64}
 use mir.ValLaws.{to_z_pos}
 use Rattle.measure.specs.Measured.{area_told}
-use Rattle.measure.proofs.Answers.{above_told, above_refused, high_refused, value_below, value_above}
+use Rattle.measure.proofs.Answers.{above_told, above_refused, high_refused, value_above}
 use Rattle.measure.proofs.told.Goals as goal
 
 pub returns-then-words-ne0 : goal.returns-then-words-ne0

@@ -2,11 +2,10 @@
 use mathlib.Core.Path.{◌≡◌, ◌∙◌}
 use Prim.Native.Nat.{ℕ, ◌-◌}
 use native.Mathlib.Omega.{arith}
-use borrow.Author.Rules.{rules}
 use lib.IntN.{pos, negsuc, neg_ℤ}
 use mir.Syntax.{w64}
 use Rattle.integers.proofs.Order.{zarith, neg_parts}
-use Rattle.integers.proofs.Bits.{down_fits, down_is}
+use Rattle.integers.proofs.Bits.{down_is}
 use Rattle.measure.specs.Measured.{area_refused, area_told}
 use Rattle.measure.proofs.Answers.{below_told, below_refused}
 use Rattle.measure.proofs.told_below.Goals as goal
