@@ -2,10 +2,11 @@
 -- (`none_unrolled`); where the walk begins, by what `begin_checked` answers (`begun_at`,
 -- `begun_refused`, `walkable`); the walk's points are the contour unrolled (`unrolled_walk`,
 -- `walk_unrolled`), all in range (`unrolled_ranged`). Assumes nothing.
+use Rattle.std.specs.Prelude.{Some, None}
 use mathlib.Core.Path.{◌≡◌, refl, sym, ◌∙◌, ap, subst}
 use mathlib.Core.Bool.{Bool, true, false}
 use mathlib.Core.List.{List, [], ◌∷◌}
-use Prim.Native.Nat.{ℕ, zero, suc, ◌+◌, ◌≤◌, ◌<◌}
+use Prim.Native.Nat.{ℕ, zero, suc, ◌<◌}
 use native.Mathlib.Omega.{arith}
 use borrow.Author.Tests.{not-false}
 use lib.ListN.{length}
@@ -28,26 +29,25 @@ use Rattle.walk_read.proofs.Grid.{off_nowhere}
 use Rattle.walk_begin.proofs.Begins.{begin_8, begin_at}
 use Rattle.points.specs.Points.{Appended}
 use Rattle.points.proofs.Points.{appended_none}
-use Rattle.pair_unroll.specs.declared.Unrolled.TheVariants.{To, Leaves}
 use Rattle.pair_unroll.specs.Unroll.{Ranged, points_from, Walkable, Unrollable, UnrolledTo, UnrolledBy}
 use Rattle.pair_unroll.proofs.Along.{every_point}
 
 -- ---- what is answered
 
 module _ {reflected : Bool} {l : List Pt} {points : List (List ℤ)} {from : ℕ} {points' : List (List ℤ)} where
-  pub told_to : {n : ℕ} → UnrolledTo reflected l points from points' n → UnrolledBy reflected l points from points' (To n)
+  pub told_to : {n : ℕ} → UnrolledTo reflected l points from points' n → UnrolledBy reflected l points from points' (Some n)
   told_to {n} u = record { to = λ m e. subst (UnrolledTo reflected l points from points') (same e) u; leaves = λ e. absurd (clash e) }
     where
-      same : {m : ℕ} → To n ≡ To m → n ≡ m
+      same : {m : ℕ} → Some n ≡ Some m → n ≡ m
       same e = cc
 
-      clash : To n ≡ Leaves → ⊥
+      clash : Some n ≡ None → ⊥
       clash e = let z : ◌≡◌ {A = ℕ} 0 1 = cc in omega arith
 
-  pub told_leaves : winding_leaves reflected l ≡ true → UnrolledBy reflected l points from points' Leaves
+  pub told_leaves : winding_leaves reflected l ≡ true → UnrolledBy reflected l points from points' None
   told_leaves t = record { to = λ m e. absurd (clash e); leaves = λ e. t }
     where
-      clash : {m : ℕ} → Leaves ≡ To m → ⊥
+      clash : {m : ℕ} → None ≡ Some m → ⊥
       clash e = let z : ◌≡◌ {A = ℕ} 0 1 = cc in omega arith
 
 -- ---- an empty contour

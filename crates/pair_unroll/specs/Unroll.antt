@@ -1,6 +1,6 @@
 -- A walk's points put one after another (`with_point`), in a buffer (`Adding`, `PointAdded`), and
 -- what unrolling a contour answers (`UnrolledBy`). Assumes nothing.
-use Rattle.std.specs.Prelude.{◌≡◌, Bool, true, false, cond, List, [], ◌∷◌, ℕ, ◌+◌, ◌-◌, ◌≤◌, ◌<◌, ltb, length, ℤ}
+use Rattle.std.specs.Prelude.{◌≡◌, Bool, true, false, cond, List, [], ◌∷◌, ℕ, ◌+◌, ◌-◌, ◌≤◌, ◌<◌, ltb, length, ℤ, Option, Some, None}
 use Rattle.plane.specs.Plane.{Pt, ◌-ᵖ◌, eq_pt, angle_cmp, is_equal}
 use Rattle.plane.specs.Machine.{Coordinate}
 use Rattle.corners.specs.Corners.{points_of, off_range}
@@ -11,8 +11,6 @@ use Rattle.pair.specs.EdgeLists.{grouped}
 use Rattle.pair_points.specs.Points.{points_along, unrolled}
 use Rattle.walk.specs.Calls.{length_broken, misplaced}
 use Rattle.points.specs.Points.{corner_in, Appended}
-use Rattle.pair_unroll.specs.declared.Unrolled.{Unrolled}
-use Rattle.pair_unroll.specs.declared.Unrolled.TheVariants as answer
 
 -- ---- one point more
 
@@ -77,6 +75,6 @@ pub record UnrolledTo (reflected : Bool) (l : List Pt) (points : List (List ℤ)
   pub appended : Appended (unrolled reflected l) points from points' n
 
 -- that, or the winding leaves 64 bits (fault 8), and what is there is of no matter
-pub record UnrolledBy (reflected : Bool) (l : List Pt) (points : List (List ℤ)) (from : ℕ) (points' : List (List ℤ)) (r : Unrolled) : Type 0 where
-  pub to : (n : ℕ) → r ≡ answer.To n → UnrolledTo reflected l points from points' n
-  pub leaves : r ≡ answer.Leaves → winding_leaves reflected l ≡ true
+pub record UnrolledBy (reflected : Bool) (l : List Pt) (points : List (List ℤ)) (from : ℕ) (points' : List (List ℤ)) (r : Option ℕ) : Type 0 where
+  pub to : (n : ℕ) → r ≡ Some n → UnrolledTo reflected l points from points' n
+  pub leaves : r ≡ None → winding_leaves reflected l ≡ true

@@ -17,13 +17,6 @@ use std::cmp::Ordering;
 use walk::Begun;
 use walk_move::point_of;
 
-// How many points there are now, or that the contour's winding leaves 64 bits.
-#[derive(Clone, Copy)]
-pub enum Unrolled {
-    To(usize),
-    Leaves,
-}
-
 // Point i.
 pub fn point_at(points: &[[i32; 2]], i: usize) -> IntPoint
     requires { i < length points.now }
@@ -38,11 +31,9 @@ fn straight_on(p: IntPoint, q: IntPoint, r: IntPoint) -> bool
     requires { OnGrid p × OnGrid q × OnGrid r }
     ensures { result ≡ straight_on (point p) (point q) (point r) }
 {
-    let order = plane::angle_cmp(plane::subtract(q, p), plane::subtract(r, q));
-    match order {
-        Ordering::Less => false,
+    match plane::angle_cmp(plane::subtract(q, p), plane::subtract(r, q)) {
         Ordering::Equal => true,
-        Ordering::Greater => false,
+        Ordering::Less | Ordering::Greater => false,
     }
 }
 
@@ -51,10 +42,7 @@ fn goes_on(points: &[[i32; 2]], from: usize, count: usize, r: IntPoint) -> bool
     requires { Adding points.now from count × OnGrid r }
     ensures { result ≡ goes_on points.now from count (point r) }
 {
-    if count - from < 2 {
-        return false;
-    }
-    straight_on(point_at(points, count - 2), point_at(points, count - 1), r)
+    count - from >= 2 && straight_on(point_at(points, count - 2), point_at(points, count - 1), r)
 }
 
 // The point r after the points `from` .. `count`: a repeated one goes, one straight on takes the
@@ -92,17 +80,22 @@ fn add_walk(contour: &[i32], start: Place, points: &mut [[i32; 2]], from: usize)
 }
 
 // A contour of sound length and range unrolled after the first `from` points, which have room for
-// its corner count and one more.
-pub fn unroll(contour: &[i32], reflected: bool, points: &mut [[i32; 2]], from: usize) -> Unrolled
+// its corner count and one more. Answers how many points there are now; none where the contour's
+// winding leaves 64 bits.
+pub fn unroll(
+    contour: &[i32],
+    reflected: bool,
+    points: &mut [[i32; 2]],
+    from: usize,
+) -> Option<usize>
     requires { Unrollable contour.now points.old from }
     ensures { UnrolledBy reflected (points_of contour.now) points.old from points.new result }
 {
-    if contour.len() == 0 {
-        return Unrolled::To(from);
+    if contour.is_empty() {
+        return Some(from);
     }
-    let begun = walk_begin::begin_checked(contour, reflected);
-    let Begun::At(w) = begun else {
-        return Unrolled::Leaves;
-    };
-    Unrolled::To(add_walk(contour, w, points, from))
+    match walk_begin::begin_checked(contour, reflected) {
+        Begun::At(w) => Some(add_walk(contour, w, points, from)),
+        Begun::Refused(_) => None,
+    }
 }

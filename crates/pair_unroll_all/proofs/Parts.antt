@@ -2,6 +2,7 @@
 -- (`part_short`, `part_unrollable`); the loop over the parts (`Unrolling`: `unrolling_start`,
 -- `unrolling_leaves`, `unrolling_turn`, `unrolling_end`); how many points (`unrolled_few`); every
 -- point in range (`parts_ranged`). Assumes nothing.
+use Rattle.std.specs.Prelude.{Option}
 use mathlib.Core.Path.{◌≡◌, refl, sym, ◌∙◌, ap, subst}
 use mathlib.Core.Bool.{Bool, true, false, cond}
 use mathlib.Core.List.{List, [], ◌∷◌, ◌++◌, map-append, flatten}
@@ -28,7 +29,6 @@ use Rattle.points.proofs.Gathering.{part_appended, none_appended, then_appended}
 use Rattle.pair_points.specs.Points.{unrolled}
 use Rattle.pair_points.proofs.Merged.{length_unrolled}
 use Rattle.minkowski.specs.Pairs.{some_winding_leaves}
-use Rattle.pair_unroll.specs.declared.Unrolled.{Unrolled}
 use Rattle.pair_unroll.specs.Unroll.{Ranged, Unrollable, UnrolledTo, UnrolledBy}
 use Rattle.pair_unroll.proofs.Contours.{unrolled_ranged}
 use Rattle.pair_unroll_all.specs.Parts.{unrolled_parts, tally_at, PartAt, AllUnrolled}
@@ -60,7 +60,7 @@ part_unrollable {starts} {corners} {p} {points} {from} a = record {
 pub unrollable_at : {starts : List ℕ} {corners l : List ℤ} {p : ℕ} {points : List (List ℤ)} {from : ℕ} → l ≡ part_numbers starts corners p → PartAt starts corners p points from → Unrollable l points from
 unrollable_at {points = points} {from = from} e a = subst (λ l. Unrollable l points from) (sym e) (part_unrollable a)
 
-pub unrolled_at : {reflected : Bool} {l m : List Pt} {points : List (List ℤ)} {from : ℕ} {points' : List (List ℤ)} {r : Unrolled} → l ≡ m → UnrolledBy reflected l points from points' r → UnrolledBy reflected m points from points' r
+pub unrolled_at : {reflected : Bool} {l m : List Pt} {points : List (List ℤ)} {from : ℕ} {points' : List (List ℤ)} {r : Option ℕ} → l ≡ m → UnrolledBy reflected l points from points' r → UnrolledBy reflected m points from points' r
 unrolled_at {reflected} {points = points} {from = from} {points' = points'} {r = r} e u = subst (λ l. UnrolledBy reflected l points from points' r) e u
 
 -- ---- the loop: the first p parts are unrolled after `done` walks, and none of their windings

@@ -9,8 +9,6 @@ ghost use Rattle.table.specs.Table.{table_parts};
 ghost use Rattle.pair_unroll.specs.Unroll.{UnrolledBy};
 ghost use Rattle.pair_unroll_all.specs.Parts.{PartAt, Unrollables, AllUnrolled};
 
-use pair_unroll::Unrolled;
-
 // Part p unrolled after the first `from` points.
 fn unroll_part(
     starts: &[u32],
@@ -19,7 +17,7 @@ fn unroll_part(
     reflected: bool,
     points: &mut [[i32; 2]],
     from: usize,
-) -> Unrolled
+) -> Option<usize>
     requires { PartAt starts.now corners.now p points.old from }
     ensures { let part = get_or (table_parts starts.now corners.now) p [] in
         UnrolledBy reflected part points.old from points.new result }
@@ -45,15 +43,12 @@ pub fn unroll_all(
 {
     let parts = starts.len() - 1;
     let mut count = firsts[done] as usize;
-    let mut p: usize = 0;
-    while p < parts {
-        let r = unroll_part(starts, corners, p, reflected, points, count);
-        let Unrolled::To(n) = r else {
+    for p in 0..parts {
+        let Some(n) = unroll_part(starts, corners, p, reflected, points, count) else {
             return true;
         };
         count = n;
-        p += 1;
-        points::put_start(firsts, done + p, count);
+        points::put_start(firsts, done + p + 1, count);
     }
     false
 }

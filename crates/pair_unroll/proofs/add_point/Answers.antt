@@ -4,7 +4,6 @@ use mathlib.Core.Path.{◌∙◌, ap}
 use Rattle.plane.specs.Plane.{eq_pt}
 use Rattle.plane.specs.Machine.{point}
 use Rattle.pair_unroll.proofs.Buffered.{added_repeated, added_straight, added_turning}
-use borrow.Author.Rules.{rules}
 use Rattle.pair_unroll.proofs.add_point.Goals as goal
 
 pub returns-then-same_point : goal.returns-then-same_point

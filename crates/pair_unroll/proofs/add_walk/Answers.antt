@@ -10,7 +10,7 @@ use Rattle.walk.specs.Calls.{misplaced}
 use Rattle.walk.proofs.Answers.{few_corners, index_inside}
 use Rattle.walk_read.proofs.Grid.{off_nowhere}
 use Rattle.points.specs.Points.{pair_of}
-use Rattle.pair_unroll.proofs.Walked.{fewer_steps, walking_placed, Walking, walking_start, walking_step, walking_adding, walking_end, onto, stored}
+use Rattle.pair_unroll.proofs.Walked.{fewer_steps, walking_placed, walking_start, walking_step, walking_adding, walking_end, onto, stored}
 use Rattle.pair_unroll.proofs.add_walk.Goals as goal
 
 pub point_of-requires : goal.point_of-requires

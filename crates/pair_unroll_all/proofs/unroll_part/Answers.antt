@@ -1,6 +1,5 @@
 -- `pair_unroll_all::unroll_part` meets its contract: part p of a sound table is a contour of sound
 -- length and range. Assumes nothing.
-use borrow.Author.Rules.{rules}
 use mathlib.Core.Path.{◌∙◌, ap}
 use native.Mathlib.Omega.{arith}
 use Rattle.corners.specs.Corners.{points_of}
