@@ -28,8 +28,7 @@ pub struct Walk<'a> {
 pub extern "C" fn begun(contour: &[i32], reflected: bool, fault: &mut u32) -> Place
     ensures { BegunPlace contour.now reflected fault.new result }
 {
-    let start = walk_begin::begin(contour, reflected);
-    match start {
+    match walk_begin::begin(contour, reflected) {
         Begun::At(first) => {
             *fault = 0;
             first
@@ -55,10 +54,7 @@ pub fn begin<'a>(contour: &'a [i32], reflected: bool, fault: &mut u32) -> Walk<'
     ensures { BegunWalk contour.entry reflected fault.new result }
 {
     let place = begun(contour, reflected, fault);
-    Walk {
-        contour: contour,
-        place: place,
-    }
+    Walk { contour, place }
 }
 
 // Where a walk stands. Needs no step left.
@@ -81,8 +77,7 @@ pub fn edge<'a>(w: Walk<'a>) -> Edged
 pub extern "C" fn advanced(contour: &[i32], place: Place, fault: &mut u32) -> Place
     ensures { (fault.new ≡ step_fault contour.now place) × MovedBy contour.now place result }
 {
-    let step = walk_step::advance(contour, place);
-    match step {
+    match walk_step::advance(contour, place) {
         Advanced::At(t) => {
             *fault = 0;
             t
@@ -100,8 +95,5 @@ pub fn advance<'a>(w: Walk<'a>, fault: &mut u32) -> Walk<'a>
     ensures { AdvancedWalk w.entry fault.new result }
 {
     let place = advanced(w.contour, w.place, fault);
-    Walk {
-        contour: w.contour,
-        place: place,
-    }
+    Walk { place, ..w }
 }

@@ -36,17 +36,11 @@ fn step_fault(contour: &[i32], w: Place) -> u32
     if walk_read::length_broken(contour) {
         return integers::fault::RULES;
     }
-    if w.remaining == 0 {
-        return integers::fault::PLACE;
-    }
     let n = corner_count(contour);
-    if walk_read::misplaced(n, w) {
+    if w.remaining == 0 || walk_read::misplaced(n, w) {
         return integers::fault::PLACE;
     }
-    if off_at(contour, w.index as usize) {
-        return integers::fault::RANGE;
-    }
-    if off_at(contour, walk_read::next_index(n, w) as usize) {
+    if off_at(contour, w.index as usize) || off_at(contour, walk_read::next_index(n, w) as usize) {
         return integers::fault::RANGE;
     }
     0

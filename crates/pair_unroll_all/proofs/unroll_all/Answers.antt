@@ -1,4 +1,5 @@
--- `pair_unroll_all::unroll_all` meets its contract: the invariant is `Unrolling` of Parts. Assumes nothing.
+-- `pair_unroll_all::unroll_all` meets its contract: the invariant is `Unrolling` of Parts. Assumes
+-- nothing.
 use native.Mathlib.Omega.{arith}
 use Rattle.std.proofs.Common.{add_assoc}
 use Rattle.table.specs.Table.{table_parts}

@@ -1,4 +1,5 @@
--- `pair_unroll_all::unroll_all` meets its contract: the invariant is `Unrolling` of Parts. Assumes nothing.
+-- `pair_unroll_all::unroll_all` meets its contract: the invariant is `Unrolling` of Parts. Assumes
+-- nothing.
 use Rattle.table.specs.Table.{table_parts}
 use Rattle.pair_unroll_all.proofs.Parts.{Unrolling}
 use Rattle.pair_unroll_all.proofs.unroll_all.Given as goal

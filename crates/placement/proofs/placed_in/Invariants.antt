@@ -1,4 +1,5 @@
--- `placement::placed_in` meets its contract. The loop's invariant is `InTurn` of Contour. Assumes nothing.
+-- `placement::placed_in` meets its contract. The loop's invariant is `InTurn` of Contour. Assumes
+-- nothing.
 use Prim.Native.Nat.{◌<◌}
 use lib.ListN.{length}
 use Rattle.plane.specs.Machine.{point}

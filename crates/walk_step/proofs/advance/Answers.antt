@@ -5,7 +5,6 @@ use Rattle.walk.specs.Clauses.{AdvancedBy}
 use Rattle.walk.proofs.Answers.{few_corners, accepted}
 use Rattle.walk.proofs.Promises.{advanced_by}
 use Rattle.walk_step.proofs.Answers.{advance_refused, advance_given}
-use borrow.Author.Rules.{rules}
 use Rattle.walk_step.proofs.advance.Goals as goal
 
 pub returns-then-fault-ne0 : goal.returns-then-fault-ne0

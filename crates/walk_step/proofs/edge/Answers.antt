@@ -4,7 +4,6 @@ use Rattle.walk.specs.Clauses.{EdgedBy}
 use Rattle.walk.proofs.Answers.{accepted}
 use Rattle.walk.proofs.Promises.{edged_by}
 use Rattle.walk_step.proofs.Answers.{edge_refused, edge_given}
-use borrow.Author.Rules.{rules}
 use Rattle.walk_step.proofs.edge.Goals as goal
 
 pub returns-then-fault-ne0 : goal.returns-then-fault-ne0

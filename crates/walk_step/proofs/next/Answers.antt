@@ -6,7 +6,6 @@ use Rattle.walk.specs.Clauses.{SteppedBy}
 use Rattle.walk.proofs.Answers.{few_corners, accepted}
 use Rattle.walk.proofs.Promises.{stepped_by}
 use Rattle.walk_step.proofs.Answers.{step_refused, step_given}
-use borrow.Author.Rules.{rules}
 use Rattle.walk_step.proofs.next.Goals as goal
 
 pub returns-then-fault-ne0 : goal.returns-then-fault-ne0

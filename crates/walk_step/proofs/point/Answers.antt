@@ -3,7 +3,6 @@ use mathlib.Core.Path.{sym, subst}
 use Rattle.walk.specs.Clauses.{PointedBy}
 use Rattle.walk.proofs.Promises.{pointed_by}
 use Rattle.walk_step.proofs.Answers.{point_refused, point_given, point_sound}
-use borrow.Author.Rules.{rules}
 use Rattle.walk_step.proofs.point.Goals as goal
 
 pub returns-then-fault-ne0 : goal.returns-then-fault-ne0

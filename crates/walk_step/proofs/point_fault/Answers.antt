@@ -4,7 +4,6 @@ use mathlib.Core.Path.{sym, ◌∙◌, ap}
 use Rattle.walk.specs.Calls.{misplaced}
 use Rattle.walk.proofs.Answers.{index_inside}
 use Rattle.walk_step.proofs.Faults.{point_7, point_23, point_2, point_0}
-use borrow.Author.Rules.{rules}
 use Rattle.walk_step.proofs.point_fault.Goals as goal
 
 pub returns-then-length_broken : goal.returns-then-length_broken
