@@ -17,7 +17,7 @@ pub fn refusal(fault: u32) -> PairCounts
     ensures { result ≡ refusal_of fault }
 {
     PairCounts {
-        fault: fault,
+        fault,
         contours: 0,
         corners: 0,
         bounds: IntRect {
@@ -42,10 +42,7 @@ fn no_room(
     requires { Unrolleds firsts.now points.now left right most }
     ensures { result ≡ ltb room (length (flatten (contours_in firsts.now points.now left right))) }
 {
-    if most <= room {
-        return false;
-    }
-    minkowski_count::count_all(firsts, points, left, right) > room
+    most > room && minkowski_count::count_all(firsts, points, left, right) > room
 }
 
 // All pairs of two operands' walks, within `bounds`, on the front of the lent starts and corners.
@@ -84,6 +81,6 @@ pub fn hand_out(
         fault: 0,
         contours: contours as u32,
         corners: count as u32,
-        bounds: bounds,
+        bounds,
     }
 }

@@ -3,7 +3,7 @@
 -- (`work_corners_lem`); contours put so far (`put_on`, `to_next`). Assumes nothing.
 use mathlib.Core.Path.{◌≡◌, refl, sym, subst₂, ◌∙◌, ap, subst, ap₂}
 use mathlib.Core.List.{List, [], ◌∷◌, ◌++◌, flatten, append_assoc}
-use Prim.Native.Nat.{ℕ, ◌+◌, ◌*◌, ◌<◌, ◌-◌, ◌≤◌, ◌^◌}
+use Prim.Native.Nat.{ℕ, ◌+◌, ◌*◌, ◌<◌, ◌≤◌, ◌^◌}
 use native.Mathlib.Omega.{arith}
 use lib.IntN.{ℤ}
 use Rattle.plane.specs.Plane.{Pt}

@@ -1,15 +1,14 @@
 -- Corners that were copied from a work buffer are put. Assumes nothing.
-use mathlib.Core.Path.{◌≡◌, refl, sym, ◌∙◌, ap}
-use mathlib.Core.List.{List, ◌++◌, append-nil}
-use Prim.Native.Nat.{ℕ, ◌+◌, ◌*◌, ◌<◌, ◌-◌, ◌≤◌}
+use mathlib.Core.Path.{sym, ◌∙◌, ap}
+use mathlib.Core.List.{List, ◌++◌}
+use Prim.Native.Nat.{ℕ, ◌+◌, ◌*◌, ◌≤◌}
 use native.Mathlib.Omega.{arith}
-use lib.IntN.{ℤ, pos}
-use lib.ListN.{length, get_or, take, drop, length-take, length-drop, set, length-append, length-set}
+use lib.IntN.{ℤ}
+use lib.ListN.{length, take, length-take}
 use Rattle.integers.specs.Lists.{overlay}
 use Rattle.corners.specs.Corners.{numbers_of}
 use Rattle.corners.specs.Copying.{Copied}
 use Rattle.pair_merge.specs.Putting.{CornersPut}
-use Rattle.integers.proofs.Overlay.{overlay_eq, copy_turn_past}
 use Rattle.corners.proofs.Corners.{length_numbers, numbers_append, numbers_points}
 use Rattle.minkowski_chains.specs.Contours.{work_corners}
 use Rattle.minkowski_chains.proofs.Contours.{corners_count}

@@ -4,18 +4,20 @@
 // minkowski_rows (definitions and laws of contours put) and convex_gather.
 #![tactic(auto)]
 
-ghost use Rattle.std.specs.Prelude.{◌∷◌, [], ◌+◌, ◌*◌, ◌-◌, ◌<◌, ◌≤◌, length};
+ghost use Rattle.std.specs.Prelude.{◌∷◌, [], ◌+◌, ◌*◌, ◌-◌, ◌<◌, ◌≤◌, ◌^◌, length};
 ghost use Rattle.pair_walks.specs.Walks.{contours_in};
 ghost use Rattle.pair_numbers.specs.Numbers.{Keyed};
 ghost use Rattle.minkowski_rows.specs.Rows.{PairsRoom, PairsPut, AllPut};
-ghost use Rattle.minkowski_order.specs.Order.{pair_contour_at, Used, More};
+ghost use Rattle.minkowski_order.specs.Order.{pair_contour_at, most_edges, Used, More};
 ghost use Rattle.minkowski_chains.specs.Contours.{four_from, work_corners, PairRooms, PutOn, PutTo};
 
 use minkowski_order::Place;
 
-// The most points of two operands whose pairs have short work buffers, and the numbers of a buffer
-// that holds the corners of any pair.
+// The most points of two operands whose pairs have short work buffers, the numbers of such a buffer,
+// and those of one that holds the corners of any pair.
 const SMALL: usize = 512;
+
+const SMALL_WORK: usize = corners::WIDTH * SMALL;
 
 const WORK: usize = corners::WIDTH * (2 * table::MAX_CONTOUR);
 
@@ -85,20 +87,13 @@ fn append_four(
         PutOn left right 4 new s starts.old out.old result starts.new out.new }
 {
     let f = minkowski_order::four_next(firsts, points, numbers, left, right, s);
-    let x = f.x;
-    let t = f.s;
     let n = s.n;
-    let r = pair_chains::merge_four(points, numbers, x, out, s.k, wb, wc, wd);
+    let r = pair_chains::merge_four(points, numbers, f.x, out, s.k, wb, wc, wd);
     points::put_start(starts, n + 1, r.a);
     let b = append_copied(wb, r.b, starts, n + 1, out, r.a);
     let c = append_copied(wc, r.c, starts, n + 2, out, b);
     let d = append_copied(wd, r.d, starts, n + 3, out, c);
-    Place {
-        p: t.p,
-        q: t.q,
-        n: t.n,
-        k: d,
-    }
+    Place { k: d, ..f.s }
 }
 
 // The contours of all pairs but the last few are put, four at a time.
@@ -165,31 +160,9 @@ fn append_used(
     s.k
 }
 
-// In work buffers that hold the corners of a pair of any 512 points.
-fn append_small(
-    firsts: &[u32],
-    points: &[[i32; 2]],
-    numbers: &[u64],
-    left: usize,
-    right: usize,
-    starts: &mut [u32],
-    out: &mut [i32],
-) -> usize
-    requires used { Used firsts.now points.now numbers.now left right × (length points.now ≤ 512) }
-    requires room { PairsRoom (contours_in firsts.now points.now left right) starts.old 0 out.old 0 }
-    ensures { let all = contours_in firsts.now points.now left right in
-        AllPut all starts.old out.old starts.new out.new result }
-{
-    let mut wb = [0i32; corners::WIDTH * SMALL];
-    let mut wc = [0i32; corners::WIDTH * SMALL];
-    let mut wd = [0i32; corners::WIDTH * SMALL];
-    append_used(
-        firsts, points, numbers, left, right, &mut wb, &mut wc, &mut wd, starts, out,
-    )
-}
-
-// In work buffers that hold the corners of any pair.
-fn append_large(
+// In work buffers of N numbers, which hold the corners of any pair: small ones are faster to set up,
+// so each size has a frame of its own.
+fn append_in<const N: usize>(
     firsts: &[u32],
     points: &[[i32; 2]],
     numbers: &[u64],
@@ -199,13 +172,14 @@ fn append_large(
     out: &mut [i32],
 ) -> usize
     requires used { Used firsts.now points.now numbers.now left right }
+    requires work { (2 * most_edges points.now ≤ N) × (N < 2 ^ 32) }
     requires room { PairsRoom (contours_in firsts.now points.now left right) starts.old 0 out.old 0 }
     ensures { let all = contours_in firsts.now points.now left right in
         AllPut all starts.old out.old starts.new out.new result }
 {
-    let mut wb = [0i32; WORK];
-    let mut wc = [0i32; WORK];
-    let mut wd = [0i32; WORK];
+    let mut wb = [0i32; N];
+    let mut wc = [0i32; N];
+    let mut wd = [0i32; N];
     append_used(
         firsts, points, numbers, left, right, &mut wb, &mut wc, &mut wd, starts, out,
     )
@@ -229,24 +203,11 @@ pub fn append_keyed(
         AllPut all starts.old out.old starts.new out.new result }
 {
     let n = minkowski_order::first(firsts, left + right);
+    let points = &points[..n];
+    let numbers = &numbers[..n];
     if n <= SMALL {
-        return append_small(
-            firsts,
-            &points[..n],
-            &numbers[..n],
-            left,
-            right,
-            starts,
-            out,
-        );
+        append_in::<SMALL_WORK>(firsts, points, numbers, left, right, starts, out)
+    } else {
+        append_in::<WORK>(firsts, points, numbers, left, right, starts, out)
     }
-    append_large(
-        firsts,
-        &points[..n],
-        &numbers[..n],
-        left,
-        right,
-        starts,
-        out,
-    )
 }

@@ -29,7 +29,7 @@ fn ties(x: Pair, corners: usize) -> usize
     edges(x) - corners
 }
 
-// How many edges all pairs have.
+// How many edges all pairs have. The place goes from pair to pair by itself, and no count beside it.
 fn most_of(firsts: &[u32], points: &[[i32; 2]], numbers: &[u64], left: usize, right: usize) -> usize
     requires { Used firsts.now points.now numbers.now left right × (left * right < 2 ^ 32) }
     ensures { result ≡ sumℕ (edge_counts firsts.now points.now left right) }
@@ -89,19 +89,13 @@ fn lower_four(
 {
     let f = minkowski_order::four_next(firsts, points, numbers, left, right, s);
     let x = f.x;
-    let t = f.s;
     let c = pair_chains::count_four(numbers, x);
     let a = ties(x.a, c.a);
     let b = ties(x.b, c.b);
     let d = ties(x.c, c.c);
     let e = ties(x.d, c.d);
     let k = s.k - a - b - d - e;
-    Place {
-        p: t.p,
-        q: t.q,
-        n: t.n,
-        k: k,
-    }
+    Place { k, ..f.s }
 }
 
 // The bound once pairs are counted, four at a time, but the last few; no more are counted once it
@@ -124,10 +118,7 @@ fn lower_fours(
         n: 0,
         k: most_of(firsts, points, numbers, left, right),
     };
-    while s.n + 3 < all {
-        if s.k <= room {
-            return s;
-        }
+    while s.n + 3 < all && s.k > room {
         s = lower_four(firsts, points, numbers, left, right, s);
     }
     s
@@ -148,10 +139,7 @@ fn bound_used(
 {
     let all = left * right;
     let mut s = lower_fours(firsts, points, numbers, left, right, room);
-    while s.n < all {
-        if s.k <= room {
-            return s.k;
-        }
+    while s.n < all && s.k > room {
         s = lower_one(firsts, points, numbers, left, right, s);
     }
     s.k
@@ -189,10 +177,7 @@ pub fn no_room_keyed(
         × (all_corners firsts.now points.now left right ≤ most) }
     ensures { result ≡ ltb room (all_corners firsts.now points.now left right) }
 {
-    if most <= room {
-        return false;
-    }
-    room < bound_all(firsts, points, numbers, left, right, room)
+    most > room && room < bound_all(firsts, points, numbers, left, right, room)
 }
 
 // How many corners all contours have.

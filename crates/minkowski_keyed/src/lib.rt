@@ -46,7 +46,7 @@ fn hand_out_keyed(
         fault: 0,
         contours: contours as u32,
         corners: count as u32,
-        bounds: bounds,
+        bounds,
     }
 }
 

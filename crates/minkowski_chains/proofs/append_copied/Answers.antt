@@ -1,10 +1,7 @@
 -- `minkowski_chains::append_copied` meets its contract: corners copied, and the start after them.
 -- Assumes nothing.
-use mathlib.Core.List.{[]}
 use native.Mathlib.Omega.{arith}
-use borrow.Author.Rules.{rules}
 use Rattle.minkowski_rows.proofs.Pairs.{pairs_one}
-use Rattle.minkowski_chains.specs.Contours.{work_corners}
 use Rattle.minkowski_chains.proofs.Contours.{first_room, first_small, first_starts, corners_count}
 use Rattle.minkowski_chains.proofs.Copying.{copied_end}
 use Rattle.minkowski_chains.proofs.append_copied.Goals as goal

@@ -1,13 +1,10 @@
 -- `minkowski_chains::append_fours` meets its contract. The loop's invariant: the contours before
 -- the place are put. Assumes nothing.
-use mathlib.Core.Path.{◌≡◌, refl, ◌∙◌}
-use Prim.Native.Nat.{◌+◌, ◌*◌, ◌-◌, ◌≤◌, ◌<◌, ◌^◌}
-use native.Mathlib.Omega.{arith}
+use mathlib.Core.Path.{◌≡◌}
+use Prim.Native.Nat.{◌*◌, ◌-◌}
 use lib.ListN.{length}
 use Rattle.pair_walks.specs.Walks.{contours_in}
 use Rattle.minkowski_chains.specs.Contours.{PutTo}
-use Rattle.minkowski_order.proofs.Pairs.{contours_length}
-use Rattle.minkowski_chains.proofs.Contours.{four_piece, to_start, to_more, to_room, to_next, rooms_same}
 use Rattle.minkowski_chains.proofs.append_fours.Given as goal
 
 abbrev pub invariant-loop-s : goal.invariant-loop-s

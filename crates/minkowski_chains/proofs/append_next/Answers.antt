@@ -1,10 +1,6 @@
 -- `minkowski_chains::append_next` meets its contract: its contour is put, and the start after it.
 -- Assumes nothing.
-use native.Mathlib.Omega.{arith}
-use borrow.Author.Rules.{rules}
-use mathlib.Core.List.{[]}
 use Rattle.minkowski_rows.proofs.Pairs.{pairs_one}
-use Rattle.minkowski_order.specs.Order.{pair_contour_at}
 use Rattle.minkowski_chains.proofs.Contours.{put_on, first_room, first_small, first_starts}
 use Rattle.minkowski_order.proofs.Pairs.{as_fits, as_put}
 use Rattle.minkowski_chains.proofs.append_next.Goals as goal

@@ -1,13 +1,8 @@
 -- `minkowski_chains::append_used` meets its contract. The loop's invariant: as much more is put as
 -- the place has gone on. Assumes nothing.
-use mathlib.Core.Path.{◌≡◌, ◌∙◌, ap}
-use Prim.Native.Nat.{◌+◌, ◌*◌, ◌-◌, ◌≤◌, ◌<◌, ◌^◌}
-use native.Mathlib.Omega.{arith}
-use borrow.Author.Rules.{rules}
-use lib.ListN.{length, length-set}
+use Prim.Native.Nat.{◌*◌, ◌-◌}
 use Rattle.pair_walks.specs.Walks.{contours_in}
-use Rattle.minkowski_order.proofs.Pairs.{contours_length}
-use Rattle.minkowski_chains.proofs.Contours.{one_piece, Since, to_more, to_room, to_next, to_end, room_started}
+use Rattle.minkowski_chains.proofs.Contours.{Since}
 use Rattle.minkowski_chains.proofs.append_used.Given as goal
 
 abbrev pub invariant-loop-s : goal.invariant-loop-s

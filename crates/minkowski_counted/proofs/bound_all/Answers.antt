@@ -1,11 +1,9 @@
 -- `minkowski_counted::bound_all` meets its contract: of the buffers cut to the points in use.
 -- Assumes nothing.
-use native.Mathlib.Omega.{arith}
 use mathlib.Core.Path.{sym, subst}
-use lib.ListN.{take, length-take}
+use lib.ListN.{take}
 use Rattle.minkowski_order.specs.Order.{Used}
-use Rattle.minkowski_order.proofs.Cut.{firsts_last, points_size, numbers_size, cut_used}
-use Rattle.minkowski_counted.proofs.Counting.{above_same}
+use Rattle.minkowski_order.proofs.Cut.{firsts_last, cut_used}
 use Rattle.minkowski_counted.proofs.bound_all.Goals as goal
 
 pub first-n-requires : goal.first-n-requires

@@ -1,9 +1,7 @@
 -- `minkowski_counted::bound_used` meets its contract. The loop's invariant: the bound at the place.
 -- Assumes nothing.
-use Prim.Native.Nat.{◌+◌, ◌*◌, ◌-◌, ◌≤◌}
-use native.Mathlib.Omega.{arith}
+use Prim.Native.Nat.{◌*◌, ◌-◌}
 use Rattle.minkowski_counted.specs.Counts.{Bounds}
-use Rattle.minkowski_counted.proofs.Counting.{bounds_edges, bounds_next, bounds_within, bounds_exact}
 use Rattle.minkowski_counted.proofs.bound_used.Given as goal
 
 abbrev pub invariant-loop-s : goal.invariant-loop-s

@@ -1,12 +1,9 @@
 -- `minkowski_counted::lower_four` meets its contract: as many fewer as they have ties. Assumes
 -- nothing.
-use mathlib.Core.Path.{◌≡◌, ◌∙◌, ap}
+use mathlib.Core.Path.{◌≡◌, ap}
 use Prim.Native.Nat.{ℕ, ◌+◌, ◌-◌, ◌≤◌}
 use native.Mathlib.Omega.{arith}
-use borrow.Author.Rules.{rules}
 use Rattle.minkowski_order.proofs.Pairs.{as_few, as_count}
-use Rattle.minkowski_counted.proofs.Counting.{as_countable, lowered}
-use Rattle.minkowski_order.proofs.Order.{place_with}
 use Rattle.minkowski_counted.proofs.lower_four.Goals as goal
 
 -- of at least all edges the ties can be taken off in turn, and then corners stand for edges

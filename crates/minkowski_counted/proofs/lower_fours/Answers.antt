@@ -1,8 +1,7 @@
 -- `minkowski_counted::lower_fours` meets its contract. The loop's invariant: the bound at the
 -- place. Assumes nothing.
-use Prim.Native.Nat.{◌+◌, ◌*◌, ◌-◌, ◌≤◌}
+use Prim.Native.Nat.{◌+◌, ◌*◌, ◌≤◌}
 use native.Mathlib.Omega.{arith}
-use Rattle.minkowski_counted.specs.Counts.{Bounds}
 use Rattle.minkowski_counted.proofs.Counting.{bounds_start, bounds_four_edges, bounds_four}
 use Rattle.minkowski_counted.proofs.lower_fours.Goals as goal
 

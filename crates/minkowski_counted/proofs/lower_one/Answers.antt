@@ -1,9 +1,6 @@
 -- `minkowski_counted::lower_one` meets its contract: as many fewer as it has ties. Assumes nothing.
-use Prim.Native.Nat.{◌+◌}
 use native.Mathlib.Omega.{arith}
-use borrow.Author.Rules.{rules}
 use Rattle.minkowski_order.proofs.Pairs.{as_few, as_count}
-use Rattle.minkowski_counted.proofs.Counting.{as_countable, lowered}
 use Rattle.minkowski_counted.proofs.lower_one.Goals as goal
 
 pub ties-t-requires : goal.ties-t-requires

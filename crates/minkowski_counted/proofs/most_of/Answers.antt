@@ -1,9 +1,9 @@
 -- `minkowski_counted::most_of` meets its contract. The loop's invariant: the edges of the pairs
 -- before the place are added up. Assumes nothing.
-use mathlib.Core.Path.{◌≡◌, refl, ◌∙◌}
-use Prim.Native.Nat.{◌+◌, ◌*◌, ◌-◌, ◌≤◌}
+use mathlib.Core.Path.{refl, ◌∙◌}
+use Prim.Native.Nat.{◌+◌, ◌*◌, ◌≤◌}
 use native.Mathlib.Omega.{arith}
-use Rattle.minkowski_counted.proofs.Counting.{Summed, summed_start, summed_next, summed_end}
+use Rattle.minkowski_counted.proofs.Counting.{summed_start, summed_next, summed_end}
 use Rattle.minkowski_counted.proofs.most_of.Goals as goal
 
 pub loop-s-init : goal.loop-s-init

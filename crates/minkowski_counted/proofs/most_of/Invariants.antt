@@ -1,9 +1,7 @@
 -- `minkowski_counted::most_of` meets its contract. The loop's invariant: the edges of the pairs
 -- before the place are added up. Assumes nothing.
-use mathlib.Core.Path.{◌≡◌, refl, ◌∙◌}
-use Prim.Native.Nat.{◌+◌, ◌*◌, ◌-◌, ◌≤◌}
-use native.Mathlib.Omega.{arith}
-use Rattle.minkowski_counted.proofs.Counting.{Summed, summed_start, summed_next, summed_end}
+use Prim.Native.Nat.{◌*◌, ◌-◌}
+use Rattle.minkowski_counted.proofs.Counting.{Summed}
 use Rattle.minkowski_counted.proofs.most_of.Given as goal
 
 abbrev pub invariant-loop-s : goal.invariant-loop-s
