@@ -1,6 +1,6 @@
 -- What a call on two operands answers and leaves: a refusal (`refused`), for want of room
 -- (`starts_refused`, `corners_refused`), and the contours written (`handed`). Assumes nothing.
-use mathlib.Core.Path.{◌≡◌, refl, sym, ◌∙◌, ap}
+use mathlib.Core.Path.{◌≡◌, sym, ◌∙◌, ap}
 use mathlib.Core.List.{List, [], ◌∷◌, flatten}
 use Prim.Native.Nat.{ℕ, suc, ◌/◌, ◌≤◌, ◌<◌}
 use native.Mathlib.Omega.{arith}

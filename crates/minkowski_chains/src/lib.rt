@@ -160,8 +160,9 @@ fn append_used(
     s.k
 }
 
-// In work buffers of N numbers, which hold the corners of any pair: small ones are faster to set up,
-// so each size has a frame of its own.
+// In work buffers of N numbers, which hold the corners of any pair. It is put into no caller, so
+// that each size has a frame of its own: small ones are faster to set up.
+#[inline(never)]
 fn append_in<const N: usize>(
     firsts: &[u32],
     points: &[[i32; 2]],

@@ -29,7 +29,7 @@ fn ties(x: Pair, corners: usize) -> usize
     edges(x) - corners
 }
 
-// How many edges all pairs have. The place goes from pair to pair by itself, and no count beside it.
+// How many edges all pairs have. The place goes from pair to pair, and is itself the count.
 fn most_of(firsts: &[u32], points: &[[i32; 2]], numbers: &[u64], left: usize, right: usize) -> usize
     requires { Used firsts.now points.now numbers.now left right × (left * right < 2 ^ 32) }
     ensures { result ≡ sumℕ (edge_counts firsts.now points.now left right) }

@@ -7,9 +7,68 @@
 ghost use Rattle.std.specs.Prelude.{◌≡◌, false, true};
 ghost use Rattle.minkowski.specs.Pairs.{pairs_counts, pairs_starts, pairs_corners};
 ghost use Rattle.minkowski_faults.specs.Kinds.{operand};
+ghost use Rattle.minkowski_work.specs.Scratch.{call_of, Answers};
 
 use minkowski::{Operation, PairCounts};
 use table::IntRect;
+
+// All pairs of two operands, by the size that they have.
+fn pairs(
+    operation: Operation,
+    left_starts: &[u32],
+    left_corners: &[i32],
+    right_starts: &[u32],
+    right_corners: &[i32],
+    starts: &mut [u32],
+    corners: &mut [i32],
+) -> PairCounts
+    ensures { let x = call_of operation left_starts.now left_corners.now right_starts.now right_corners.now in
+        Answers x starts.old corners.old result starts.new corners.new }
+{
+    if minkowski_sizes::both_fit(
+        left_starts,
+        left_corners,
+        right_starts,
+        right_corners,
+        minkowski_sizes::TINY,
+    ) {
+        minkowski_sizes::tiny_pairs(
+            operation,
+            left_starts,
+            left_corners,
+            right_starts,
+            right_corners,
+            starts,
+            corners,
+        )
+    } else if minkowski_sizes::both_fit(
+        left_starts,
+        left_corners,
+        right_starts,
+        right_corners,
+        minkowski_sizes::SMALL,
+    ) {
+        minkowski_sizes::small_pairs(
+            operation,
+            left_starts,
+            left_corners,
+            right_starts,
+            right_corners,
+            starts,
+            corners,
+        )
+    } else {
+        minkowski_sizes::large_pairs(
+            operation,
+            left_starts,
+            left_corners,
+            right_starts,
+            right_corners,
+            starts,
+            corners,
+        )
+    }
+}
 
 // The sums of each left part and each right part: one contour a pair, starts and corners (x, y in
 // turn) on the front of the lent buffers. A refusal (7, 2, 9, 8, 10, 20, 22 or 21) gives zero
@@ -33,45 +92,11 @@ pub fn sum_parts(
         × (corners.new ≡ pairs_corners false left right s c) }
 {
     let operation = Operation {
-        reflected: false,
         left: left_bounds,
         right: right_bounds,
+        reflected: false,
     };
-    if minkowski_sizes::both_fit(
-        left_starts,
-        left_corners,
-        right_starts,
-        right_corners,
-        minkowski_sizes::TINY,
-    ) {
-        return minkowski_sizes::tiny_pairs(
-            operation,
-            left_starts,
-            left_corners,
-            right_starts,
-            right_corners,
-            starts,
-            corners,
-        );
-    }
-    if minkowski_sizes::both_fit(
-        left_starts,
-        left_corners,
-        right_starts,
-        right_corners,
-        minkowski_sizes::SMALL,
-    ) {
-        return minkowski_sizes::small_pairs(
-            operation,
-            left_starts,
-            left_corners,
-            right_starts,
-            right_corners,
-            starts,
-            corners,
-        );
-    }
-    minkowski_sizes::large_pairs(
+    pairs(
         operation,
         left_starts,
         left_corners,
@@ -103,45 +128,11 @@ pub fn difference_parts(
         × (corners.new ≡ pairs_corners true left right s c) }
 {
     let operation = Operation {
-        reflected: true,
         left: left_bounds,
         right: right_bounds,
+        reflected: true,
     };
-    if minkowski_sizes::both_fit(
-        left_starts,
-        left_corners,
-        right_starts,
-        right_corners,
-        minkowski_sizes::TINY,
-    ) {
-        return minkowski_sizes::tiny_pairs(
-            operation,
-            left_starts,
-            left_corners,
-            right_starts,
-            right_corners,
-            starts,
-            corners,
-        );
-    }
-    if minkowski_sizes::both_fit(
-        left_starts,
-        left_corners,
-        right_starts,
-        right_corners,
-        minkowski_sizes::SMALL,
-    ) {
-        return minkowski_sizes::small_pairs(
-            operation,
-            left_starts,
-            left_corners,
-            right_starts,
-            right_corners,
-            starts,
-            corners,
-        );
-    }
-    minkowski_sizes::large_pairs(
+    pairs(
         operation,
         left_starts,
         left_corners,

@@ -1,6 +1,7 @@
 -- The sizes of operands that have work buffers of their own, which take less time to set up.
 -- Assumes nothing.
-use Rattle.std.specs.Prelude.{Bool, List, ℕ, ◌+◌, ◌*◌, ◌/◌, ◌≤◌, ltb, length, ℤ}
+use Rattle.std.specs.Prelude.{Bool, List, ℕ, ◌+◌, ◌*◌, ◌/◌, ◌≤◌, ◌<◌, ◌^◌, ltb, length, ℤ}
+use Rattle.table.specs.Table.{part_count}
 
 -- an operand with at most so many starts and corners together is tiny, as of one triangle, small or
 -- medium: its work buffers are of that size
@@ -15,6 +16,14 @@ medium_places = 2048
 
 abbrev pub FitsIn : ℕ → List ℕ → List ℤ → Type 0
 FitsIn places starts corners = length starts + length corners / 2 ≤ places
+
+-- work buffers of so many points and firsts have room for two operands: a point a corner and one
+-- more a part, and a first a part and one more; every place has a number of 32 bits
+pub record RoomIn (points firsts : ℕ) (ls : List ℕ) (lc : List ℤ) (rs : List ℕ) (rc : List ℤ) : Type 0 where
+  pub for_points : length lc / 2 + part_count ls + (length rc / 2 + part_count rs) ≤ points
+  pub for_firsts : length ls + length rs ≤ firsts + 1
+  pub few_points : points < 2 ^ 32
+  pub few_firsts : firsts < 2 ^ 32
 
 -- whether all pairs have less than four times the operands' corners, a part more counted on either
 -- side

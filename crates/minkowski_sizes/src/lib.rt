@@ -6,7 +6,7 @@
 
 ghost use Rattle.std.specs.Prelude.{◌≡◌, false, true};
 ghost use Rattle.minkowski_work.specs.Scratch.{call_of, Accepted, Answers};
-ghost use Rattle.minkowski_sizes.specs.Sizes.{tiny_places, small_places, medium_places, FitsIn, few_pairs, FewAsked};
+ghost use Rattle.minkowski_sizes.specs.Sizes.{tiny_places, small_places, medium_places, FitsIn, RoomIn, few_pairs, FewAsked};
 
 use minkowski::{Operation, PairCounts};
 
@@ -18,19 +18,24 @@ pub const SMALL: usize = 256;
 
 pub const TINY: usize = 16;
 
-// The most points of any operand: 8,192 corners, and one more point for each of 2,048 parts.
-const POINTS: usize = table::MAX_CORNERS + table::MAX_PARTS;
+// The places of work buffers for two operands of each size.
+const MEDIUM_WORK: usize = 2 * MEDIUM;
 
-const FIRSTS: usize = table::MAX_PARTS + 1;
+const SMALL_WORK: usize = 2 * SMALL;
+
+const TINY_WORK: usize = 2 * TINY;
+
+// Those for any two operands: each has at most 8,192 corners, and one more point for each of 2,048
+// parts.
+const ANY_POINTS: usize = 2 * (table::MAX_CORNERS + table::MAX_PARTS);
+
+const ANY_FIRSTS: usize = 2 * (table::MAX_PARTS + 1);
 
 // Whether an operand has at most so many starts and corners together.
 fn fits(starts: &[u32], corners: &[i32], places: usize) -> bool
     ensures { result ≡ true → FitsIn places starts.now corners.now }
 {
-    if starts.len() > places {
-        return false;
-    }
-    corners::corner_count(corners) <= places - starts.len()
+    starts.len() <= places && corners::corner_count(corners) <= places - starts.len()
 }
 
 // Whether both have.
@@ -45,169 +50,76 @@ pub fn both_fit(
         FitsIn places left_starts.now left_corners.now
         × FitsIn places right_starts.now right_corners.now }
 {
-    if fits(left_starts, left_corners, places) {
-        return fits(right_starts, right_corners, places);
-    }
-    false
+    fits(left_starts, left_corners, places) && fits(right_starts, right_corners, places)
 }
 
-// In local buffers that hold the points of any two operands.
-fn pairs_large(
-    operation: Operation,
-    left_starts: &[u32],
-    left_corners: &[i32],
-    right_starts: &[u32],
-    right_corners: &[i32],
-    starts: &mut [u32],
-    corners: &mut [i32],
-) -> PairCounts
-    requires accepted { Accepted (call_of operation left_starts.now left_corners.now right_starts.now right_corners.now) }
-    ensures { let x = call_of operation left_starts.now left_corners.now right_starts.now right_corners.now in
-        Answers x starts.old corners.old result starts.new corners.new }
-{
-    let mut points = [[0i32; 2]; 2 * POINTS];
-    let mut firsts = [0u32; 2 * FIRSTS];
-    minkowski_work::pairs_over(
-        operation,
-        left_starts,
-        left_corners,
-        right_starts,
-        right_corners,
-        &mut points,
-        &mut firsts,
-        starts,
-        corners,
-    )
-}
-
-// In local buffers for two small operands.
-fn pairs_small(
-    operation: Operation,
-    left_starts: &[u32],
-    left_corners: &[i32],
-    right_starts: &[u32],
-    right_corners: &[i32],
-    starts: &mut [u32],
-    corners: &mut [i32],
-) -> PairCounts
-    requires accepted { Accepted (call_of operation left_starts.now left_corners.now right_starts.now right_corners.now) }
-    requires places { FitsIn small_places left_starts.now left_corners.now × FitsIn small_places right_starts.now right_corners.now }
-    ensures { let x = call_of operation left_starts.now left_corners.now right_starts.now right_corners.now in
-        Answers x starts.old corners.old result starts.new corners.new }
-{
-    let mut points = [[0i32; 2]; 2 * SMALL];
-    let mut firsts = [0u32; 2 * SMALL];
-    minkowski_work::pairs_over(
-        operation,
-        left_starts,
-        left_corners,
-        right_starts,
-        right_corners,
-        &mut points,
-        &mut firsts,
-        starts,
-        corners,
-    )
-}
-
-// By numbers, in local buffers for two small operands.
-fn keyed_small(
-    operation: Operation,
-    left_starts: &[u32],
-    left_corners: &[i32],
-    right_starts: &[u32],
-    right_corners: &[i32],
-    starts: &mut [u32],
-    corners: &mut [i32],
-) -> PairCounts
-    requires accepted { Accepted (call_of operation left_starts.now left_corners.now right_starts.now right_corners.now) }
-    requires places { FitsIn small_places left_starts.now left_corners.now × FitsIn small_places right_starts.now right_corners.now }
-    ensures { let x = call_of operation left_starts.now left_corners.now right_starts.now right_corners.now in
-        Answers x starts.old corners.old result starts.new corners.new }
-{
-    let mut points = [[0i32; 2]; 2 * SMALL];
-    let mut firsts = [0u32; 2 * SMALL];
-    let mut numbers = [0u64; 2 * SMALL];
-    minkowski_keyed::pairs_keyed(
-        operation,
-        left_starts,
-        left_corners,
-        right_starts,
-        right_corners,
-        &mut points,
-        &mut firsts,
-        &mut numbers,
-        starts,
-        corners,
-    )
-}
-
-// By numbers, in local buffers for two medium operands.
-fn keyed_medium(
-    operation: Operation,
-    left_starts: &[u32],
-    left_corners: &[i32],
-    right_starts: &[u32],
-    right_corners: &[i32],
-    starts: &mut [u32],
-    corners: &mut [i32],
-) -> PairCounts
-    requires accepted { Accepted (call_of operation left_starts.now left_corners.now right_starts.now right_corners.now) }
-    requires places { FitsIn medium_places left_starts.now left_corners.now × FitsIn medium_places right_starts.now right_corners.now }
-    ensures { let x = call_of operation left_starts.now left_corners.now right_starts.now right_corners.now in
-        Answers x starts.old corners.old result starts.new corners.new }
-{
-    let mut points = [[0i32; 2]; 2 * MEDIUM];
-    let mut firsts = [0u32; 2 * MEDIUM];
-    let mut numbers = [0u64; 2 * MEDIUM];
-    minkowski_keyed::pairs_keyed(
-        operation,
-        left_starts,
-        left_corners,
-        right_starts,
-        right_corners,
-        &mut points,
-        &mut firsts,
-        &mut numbers,
-        starts,
-        corners,
-    )
-}
-
-// By numbers, in local buffers that hold the points of any two operands.
-fn keyed_large(
-    operation: Operation,
-    left_starts: &[u32],
-    left_corners: &[i32],
-    right_starts: &[u32],
-    right_corners: &[i32],
-    starts: &mut [u32],
-    corners: &mut [i32],
-) -> PairCounts
-    requires accepted { Accepted (call_of operation left_starts.now left_corners.now right_starts.now right_corners.now) }
-    ensures { let x = call_of operation left_starts.now left_corners.now right_starts.now right_corners.now in
-        Answers x starts.old corners.old result starts.new corners.new }
-{
-    let mut points = [[0i32; 2]; 2 * POINTS];
-    let mut firsts = [0u32; 2 * FIRSTS];
-    let mut numbers = [0u64; 2 * POINTS];
-    minkowski_keyed::pairs_keyed(
-        operation,
-        left_starts,
-        left_corners,
-        right_starts,
-        right_corners,
-        &mut points,
-        &mut firsts,
-        &mut numbers,
-        starts,
-        corners,
-    )
-}
-
-// All pairs of two tiny operands. Each size has a function of its own that both calls ask, so that
-// no frame has larger buffers than its size: a large one takes longer to set up than a pair of
+// In local buffers of a size that holds the points of both operands. It is put into no caller, so
+// that no frame has larger buffers than its size: a large one takes longer to set up than a pair of
 // triangles to merge.
+#[inline(never)]
+fn pairs_in<const POINTS: usize, const FIRSTS: usize>(
+    operation: Operation,
+    left_starts: &[u32],
+    left_corners: &[i32],
+    right_starts: &[u32],
+    right_corners: &[i32],
+    starts: &mut [u32],
+    corners: &mut [i32],
+) -> PairCounts
+    requires accepted { Accepted (call_of operation left_starts.now left_corners.now right_starts.now right_corners.now) }
+    requires room { RoomIn POINTS FIRSTS left_starts.now left_corners.now right_starts.now right_corners.now }
+    ensures { let x = call_of operation left_starts.now left_corners.now right_starts.now right_corners.now in
+        Answers x starts.old corners.old result starts.new corners.new }
+{
+    let mut points = [[0i32; 2]; POINTS];
+    let mut firsts = [0u32; FIRSTS];
+    minkowski_work::pairs_over(
+        operation,
+        left_starts,
+        left_corners,
+        right_starts,
+        right_corners,
+        &mut points,
+        &mut firsts,
+        starts,
+        corners,
+    )
+}
+
+// The same by numbers.
+#[inline(never)]
+fn keyed_in<const POINTS: usize, const FIRSTS: usize>(
+    operation: Operation,
+    left_starts: &[u32],
+    left_corners: &[i32],
+    right_starts: &[u32],
+    right_corners: &[i32],
+    starts: &mut [u32],
+    corners: &mut [i32],
+) -> PairCounts
+    requires accepted { Accepted (call_of operation left_starts.now left_corners.now right_starts.now right_corners.now) }
+    requires room { RoomIn POINTS FIRSTS left_starts.now left_corners.now right_starts.now right_corners.now }
+    ensures { let x = call_of operation left_starts.now left_corners.now right_starts.now right_corners.now in
+        Answers x starts.old corners.old result starts.new corners.new }
+{
+    let mut points = [[0i32; 2]; POINTS];
+    let mut firsts = [0u32; FIRSTS];
+    let mut numbers = [0u64; POINTS];
+    minkowski_keyed::pairs_keyed(
+        operation,
+        left_starts,
+        left_corners,
+        right_starts,
+        right_corners,
+        &mut points,
+        &mut firsts,
+        &mut numbers,
+        starts,
+        corners,
+    )
+}
+
+// All pairs of two tiny operands.
 pub fn tiny_pairs(
     operation: Operation,
     left_starts: &[u32],
@@ -232,16 +144,12 @@ pub fn tiny_pairs(
     if fault != 0 {
         return minkowski_answer::refusal(fault);
     }
-    let mut points = [[0i32; 2]; 2 * TINY];
-    let mut firsts = [0u32; 2 * TINY];
-    minkowski_work::pairs_over(
+    pairs_in::<TINY_WORK, TINY_WORK>(
         operation,
         left_starts,
         left_corners,
         right_starts,
         right_corners,
-        &mut points,
-        &mut firsts,
         starts,
         corners,
     )
@@ -289,7 +197,7 @@ pub fn small_pairs(
         return minkowski_answer::refusal(fault);
     }
     if few_pairs(left_starts, left_corners, right_starts, right_corners) {
-        return pairs_small(
+        pairs_in::<SMALL_WORK, SMALL_WORK>(
             operation,
             left_starts,
             left_corners,
@@ -297,17 +205,18 @@ pub fn small_pairs(
             right_corners,
             starts,
             corners,
-        );
+        )
+    } else {
+        keyed_in::<SMALL_WORK, SMALL_WORK>(
+            operation,
+            left_starts,
+            left_corners,
+            right_starts,
+            right_corners,
+            starts,
+            corners,
+        )
     }
-    keyed_small(
-        operation,
-        left_starts,
-        left_corners,
-        right_starts,
-        right_corners,
-        starts,
-        corners,
-    )
 }
 
 // All pairs of any two operands.
@@ -335,7 +244,7 @@ pub fn large_pairs(
         return minkowski_answer::refusal(fault);
     }
     if few_pairs(left_starts, left_corners, right_starts, right_corners) {
-        return pairs_large(
+        pairs_in::<ANY_POINTS, ANY_FIRSTS>(
             operation,
             left_starts,
             left_corners,
@@ -343,16 +252,15 @@ pub fn large_pairs(
             right_corners,
             starts,
             corners,
-        );
-    }
-    if both_fit(
+        )
+    } else if both_fit(
         left_starts,
         left_corners,
         right_starts,
         right_corners,
         MEDIUM,
     ) {
-        return keyed_medium(
+        keyed_in::<MEDIUM_WORK, MEDIUM_WORK>(
             operation,
             left_starts,
             left_corners,
@@ -360,15 +268,16 @@ pub fn large_pairs(
             right_corners,
             starts,
             corners,
-        );
+        )
+    } else {
+        keyed_in::<ANY_POINTS, ANY_FIRSTS>(
+            operation,
+            left_starts,
+            left_corners,
+            right_starts,
+            right_corners,
+            starts,
+            corners,
+        )
     }
-    keyed_large(
-        operation,
-        left_starts,
-        left_corners,
-        right_starts,
-        right_corners,
-        starts,
-        corners,
-    )
 }

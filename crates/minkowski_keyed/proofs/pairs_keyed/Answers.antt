@@ -2,7 +2,6 @@
 -- is that for the operands. Assumes nothing.
 use mathlib.Core.Path.{sym, ◌∙◌}
 use native.Mathlib.Omega.{arith}
-use borrow.Author.Rules.{rules}
 use lib.ListN.{length}
 use Rattle.table.proofs.Rules.{sound}
 use Rattle.minkowski.specs.Pairs.{result_bounds, pair_contours}
@@ -10,7 +9,7 @@ use Rattle.minkowski_answer.proofs.Answer.{refused}
 use Rattle.minkowski_work.specs.Scratch.{call_of}
 use Rattle.minkowski_work.proofs.Faults.{walks_refused, room_decides}
 use Rattle.minkowski_work.proofs.Walked.{left_judged, right_judged, unrolleds, answered}
-use Rattle.minkowski_keyed.proofs.Numbers.{numberable, keyed}
+use Rattle.minkowski_keyed.proofs.Numbers.{keyed}
 use Rattle.minkowski_keyed.proofs.pairs_keyed.Goals as goal
 
 pub returns-then-fault-ne0 : goal.returns-then-fault-ne0

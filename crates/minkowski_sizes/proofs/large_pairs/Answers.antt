@@ -3,7 +3,7 @@
 use mathlib.Core.Path.{sym, ◌∙◌}
 use Rattle.minkowski_work.specs.Scratch.{call_of}
 use Rattle.minkowski_work.proofs.Walked.{call_refused}
-use Rattle.minkowski_sizes.proofs.Sizes.{few_asked}
+use Rattle.minkowski_sizes.proofs.Sizes.{few_asked, any_room}
 use borrow.Author.Rules.{rules}
 use Rattle.minkowski_sizes.proofs.large_pairs.Goals as goal
 
@@ -15,3 +15,13 @@ pub few_pairs-requires : goal.few_pairs-requires
 few_pairs-requires c = let g = c.args in
     let x = (call_of g.operation g.left_starts.now g.left_corners.now g.right_starts.now g.right_corners.now) in
     few_asked x (sym c.operands_fault-fault.ensures ∙ c.if-fault-ne0.false)
+
+pub pairs_in-requires-clause-room : goal.pairs_in-requires-clause-room
+pairs_in-requires-clause-room c = let g = c.args in
+    let x = (call_of g.operation g.left_starts.now g.left_corners.now g.right_starts.now g.right_corners.now) in
+    any_room x (sym c.operands_fault-fault.ensures ∙ c.if-fault-ne0.false)
+
+pub keyed_in-requires-else-both_fit-clause-room : goal.keyed_in-requires-else-both_fit-clause-room
+keyed_in-requires-else-both_fit-clause-room c = let g = c.args in
+    let x = (call_of g.operation g.left_starts.now g.left_corners.now g.right_starts.now g.right_corners.now) in
+    any_room x (sym c.operands_fault-fault.ensures ∙ c.if-fault-ne0.false)
