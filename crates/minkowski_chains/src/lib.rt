@@ -13,7 +13,7 @@ ghost use Rattle.minkowski_chains.specs.Contours.{four_from, work_corners, PairR
 
 use minkowski_order::Place;
 
-// The most points of two operands whose pairs have short work buffers, the numbers of such a buffer,
+// The most points of two operands whose pairs have short work buffers, the numbers of such a buffer
 // and those of one that holds the corners of any pair.
 const SMALL: usize = 512;
 

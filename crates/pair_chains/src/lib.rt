@@ -30,7 +30,8 @@ pub struct Pair {
     pub end: usize,
 }
 
-// Four pairs, and how many corners stand where two and four lanes put theirs.
+// Four pairs, and how many corners stand where two and four lanes put theirs. Lanes have names, and
+// not places in an array, for the clauses name each with the buffer that is its own.
 #[derive(Clone, Copy)]
 pub struct Pairs {
     pub a: Pair,
