@@ -2,16 +2,15 @@
 -- the bytes has as many starts and numbers as its counts say (`count_starts`, `count_numbers`), and
 -- counts past the limits break its rules (`counts_rules`); of a job of the right length, where its
 -- tables lie (`sized`). Assumes nothing.
-use mathlib.Core.Path.{◌≡◌, sym, ◌∙◌, ap}
-use mathlib.Core.Bool.{Bool, true, false, not, cond}
-use mathlib.Core.List.{List, map}
-use Prim.Native.Nat.{ℕ, ◌+◌, ◌*◌, ◌-◌, ◌/◌, ◌<◌, ◌≤◌}
+use mathlib.Core.Path.{◌≡◌, ◌∙◌, ap}
+use mathlib.Core.Bool.{true, false, not}
+use mathlib.Core.List.{List}
+use Prim.Native.Nat.{ℕ, ◌+◌, ◌*◌, ◌<◌, ◌≤◌}
 use native.Mathlib.Omega.{arith}
 use borrow.Author.Tests.{ltb-true, eqb-true, lt-ltb, le-ltb, ne_eqb, not-false}
 use lib.Dec.{eqb, ltb}
 use lib.ListN.{length, take, drop, length-drop, length-map}
 use lib.Seq.{length-take-le}
-use lib.IntN.{ℤ}
 use Rattle.integers.proofs.Order.{by_test}
 use Rattle.table.specs.Stored.{words_of, word_at, signed}
 use Rattle.table.specs.Table.{max_parts, max_corners, table_broken}

@@ -6,8 +6,8 @@ use Prim.Native.Nat.{ℕ, zero, suc, ◌+◌, ◌*◌}
 use native.Mathlib.Omega.{arith}
 use lib.ListN.{take, drop, get_or}
 use lib.Seq.{take-nil, take-take, drop-drop, get_or-take, get_or-drop}
-use Rattle.table.specs.Stored.{words_of, word_of, word_at, signed, stored_starts, stored_corners}
-use Rattle.pairs_job.specs.Job.{starts_at, corners_at, table_words, table_bytes, TableStored}
+use Rattle.table.specs.Stored.{words_of, word_of, word_at, signed}
+use Rattle.pairs_job.specs.Job.{table_words, table_bytes, TableStored}
 
 four : (n : ℕ) → 4 * suc n ≡ suc (suc (suc (suc (4 * n))))
 four n = omega arith

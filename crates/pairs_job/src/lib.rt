@@ -26,7 +26,7 @@ pub const LONGEST: usize = WORD
     * (1 + 2 * (4 + 2 + (table::MAX_PARTS + 1) + corners::WIDTH * table::MAX_CORNERS));
 
 // How many words the table at word k has, as its counts say.
-fn table_size(bytes: &[u8], k: usize) -> usize
+pub fn table_size(bytes: &[u8], k: usize) -> usize
     requires { 4 * (k + 2) ≤ length bytes.now }
     ensures size { result ≡ table_words bytes.now k }
     ensures small { result ≤ 12884901888 }
@@ -53,21 +53,16 @@ fn length_broken(bytes: &[u8]) -> bool
         return true;
     }
     let right = right_place(bytes);
-    if bytes.len() < WORD * (right + 2) {
-        return true;
-    }
-    bytes.len() != WORD * (right + table_size(bytes, right))
+    bytes.len() < WORD * (right + 2) || bytes.len() != WORD * (right + table_size(bytes, right))
 }
 
 // Whether a count of the table at word k is past its limit.
-fn counts_broken(bytes: &[u8], k: usize) -> bool
+pub fn counts_broken(bytes: &[u8], k: usize) -> bool
     requires { 4 * (k + 2) ≤ length bytes.now }
     ensures { result ≡ counts_broken bytes.now k }
 {
-    if word_at(bytes, k) as usize > table::MAX_PARTS {
-        return true;
-    }
-    word_at(bytes, k + 1) as usize > table::MAX_CORNERS
+    word_at(bytes, k) as usize > table::MAX_PARTS
+        || word_at(bytes, k + 1) as usize > table::MAX_CORNERS
 }
 
 // The fault of a job's shape; 0 for none.

@@ -6,7 +6,6 @@ use mathlib.Core.Bool.{Bool}
 use mathlib.Core.List.{List}
 use Prim.Native.Nat.{ℕ, ◌+◌, ◌*◌, ◌-◌, ◌≤◌}
 use native.Mathlib.Omega.{arith}
-use lib.Dec.{eqb}
 use lib.ListN.{length, take, drop, length-append}
 use lib.Seq.{take_at, length-take-le}
 use lib.IntN.{ℤ}
@@ -16,7 +15,7 @@ use Rattle.table.specs.declared.IntRect.{IntRect}
 use Rattle.table.specs.Stored.{word_at}
 use Rattle.minkowski.specs.Pairs.{Operand}
 use Rattle.minkowski_faults.specs.Kinds.{operand}
-use Rattle.pairs_job.specs.Job.{bounds_at, starts_at, corners_at, table_words, operation, reflected_of, right_place, left_of, right_of, job_fault, shape_fault, TableIn}
+use Rattle.pairs_job.specs.Job.{bounds_at, starts_at, corners_at, table_words, reflected_of, right_place, left_of, right_of, job_fault, shape_fault, TableIn}
 use Rattle.pairs_job.proofs.Sizes.{sized, place, count_starts, count_numbers}
 use Rattle.pairs_job.proofs.Shape.{left_inside, right_inside, shaped, shape_passed}
 use Rattle.pairs_work.specs.declared.Begun.{Begun}

@@ -40,7 +40,7 @@ fn refused(fault: u32) -> Begun
     ensures { result ≡ refused_begun fault }
 {
     Begun {
-        fault: fault,
+        fault,
         left: 0,
         right: 0,
         bounds: IntRect {
@@ -120,13 +120,16 @@ pub fn begin_operands(
     let left = left_starts.len() - 1;
     let right = right_starts.len() - 1;
     pair_numbers::number_walks(firsts, points, left, right, numbers);
-    let reflected = operation.reflected;
-    let bounds = minkowski_faults::result_bounds(operation.left, operation.right, reflected);
+    let bounds = minkowski_faults::result_bounds(
+        operation.left,
+        operation.right,
+        operation.reflected,
+    );
     Begun {
         fault: 0,
-        left: left,
-        right: right,
-        bounds: bounds,
+        left,
+        right,
+        bounds,
     }
 }
 
@@ -152,13 +155,10 @@ fn begin_shaped(
     let n = word_at(bytes, place + 1) as usize;
     pairs_job::read_operand(bytes, LEFT, left_starts, left_corners);
     pairs_job::read_operand(bytes, place, right_starts, right_corners);
-    let reflected = word_at(bytes, 0) == pairs_job::DIFFERENCE;
-    let left_bounds = pairs_job::bounds_at(bytes, LEFT_BOUNDS);
-    let right_bounds = pairs_job::bounds_at(bytes, place - 4);
     let operation = Operation {
-        reflected: reflected,
-        left: left_bounds,
-        right: right_bounds,
+        reflected: word_at(bytes, 0) == pairs_job::DIFFERENCE,
+        left: pairs_job::bounds_at(bytes, LEFT_BOUNDS),
+        right: pairs_job::bounds_at(bytes, place - 4),
     };
     begin_operands(
         operation,

@@ -2,8 +2,6 @@
 -- nothing.
 use mathlib.Core.Path.{◌∙◌, sym, ap}
 use Prim.Native.Nat.{◌+◌}
-use native.Mathlib.Omega.{arith}
-use borrow.Author.Rules.{rules}
 use Rattle.pairs_job.proofs.Sizes.{place}
 use Rattle.pairs_job.proofs.right_place.Goals as goal
 

@@ -1,7 +1,6 @@
 -- `pairs_job::shape_fault` meets its contract: the kinds in their order. Assumes nothing.
 use mathlib.Core.Path.{sym, ◌∙◌}
 use native.Mathlib.Omega.{arith}
-use borrow.Author.Rules.{rules}
 use Rattle.pairs_job.proofs.Sizes.{sized}
 use Rattle.pairs_job.proofs.Shape.{too_short, other_operation, other_length, left_inside, left_counts, right_counts, well_shaped}
 use Rattle.pairs_job.proofs.shape_fault.Goals as goal

@@ -1,6 +1,5 @@
 -- `pairs_work::begin_job` meets its contract: a fault of the shape is the job's. Assumes nothing.
 use mathlib.Core.Path.{sym, ◌∙◌}
-use borrow.Author.Rules.{rules}
 use Rattle.pairs_job.proofs.Shape.{shape_told}
 use Rattle.pairs_work.specs.Begun.{job_call}
 use Rattle.pairs_work.proofs.Answer.{begun_refused}

@@ -3,7 +3,6 @@
 use mathlib.Core.Path.{sym, ◌∙◌}
 use mathlib.Core.List.{[]}
 use native.Mathlib.Omega.{arith}
-use borrow.Author.Rules.{rules}
 use Rattle.table.proofs.Rules.{sound}
 use Rattle.minkowski_work.specs.Scratch.{call_of}
 use Rattle.minkowski_work.proofs.Faults.{operands_none, past_operands}

@@ -1,9 +1,7 @@
 -- `pairs_work::begin_shaped` meets its contract: the fronts of the places hold the job's operands.
 -- Assumes nothing.
 use mathlib.Core.Path.{◌∙◌, ap}
-use Prim.Native.Nat.{◌+◌, ◌*◌}
 use native.Mathlib.Omega.{arith}
-use borrow.Author.Rules.{rules}
 use lib.Dec.{eqb}
 use Rattle.corners.proofs.Corners.{whole_corners}
 use Rattle.pairs_work.proofs.Reading.{long_enough, left_in, left_table, right_after, right_in, right_table, front, front_fits, front_length, starts_count, numbers_count, left_read, right_read, begun_job}
@@ -33,18 +31,18 @@ read_operand-requires c = left_table _ c.requires.shape c.requires.left_starts c
 pub read_operand-requires-2 : goal.read_operand-requires-2
 read_operand-requires-2 c = right_table _ c.requires.shape c.right_place-place.ensures.place c.requires.right_starts c.requires.right_corners
 
-pub word_at-reflected-requires : goal.word_at-reflected-requires
-word_at-reflected-requires c = omega (arith, long_enough _ c.requires.shape)
+pub word_at-requires : goal.word_at-requires
+word_at-requires c = omega (arith, long_enough _ c.requires.shape)
 
-pub bounds_at-left_bounds-requires : goal.bounds_at-left_bounds-requires
-bounds_at-left_bounds-requires c = omega (arith, long_enough _ c.requires.shape)
+pub bounds_at-requires : goal.bounds_at-requires
+bounds_at-requires c = omega (arith, long_enough _ c.requires.shape)
 
 pub overflow_sub-place : goal.overflow_sub-place
 overflow_sub-place c = let a = right_after _ c.requires.shape c.right_place-place.ensures.place in
     omega (arith, a.0, a.1)
 
-pub bounds_at-right_bounds-requires : goal.bounds_at-right_bounds-requires
-bounds_at-right_bounds-requires c = let a = right_after _ c.requires.shape c.right_place-place.ensures.place in
+pub bounds_at-requires-2 : goal.bounds_at-requires-2
+bounds_at-requires-2 c = let a = right_after _ c.requires.shape c.right_place-place.ensures.place in
     omega (arith, a.0, a.1)
 
 pub slice_bounds-begin_operands-end : goal.slice_bounds-begin_operands-end
@@ -88,10 +86,10 @@ returns c = let B = c.args.bytes.now in
     let l =
     left_read B
     (front (starts_at B 5) c.args.left_starts.now c.read_operand.ensures.starts (starts_count B 5 h c.word_at-l.ensures))
-    (c.front.ensures.numbers ∙ front (corners_at B 5) c.args.left_corners.now c.read_operand.ensures.corners (numbers_count B 5 h c.word_at-m.ensures)) c.bounds_at-left_bounds.ensures in
+    (c.front.ensures.numbers ∙ front (corners_at B 5) c.args.left_corners.now c.read_operand.ensures.corners (numbers_count B 5 h c.word_at-m.ensures)) c.bounds_at.ensures in
     let h = right_in B c.requires.shape q in
     let r =
     right_read B q
     (front (starts_at B k) c.args.right_starts.now c.read_operand-2.ensures.starts (starts_count B k h c.word_at-r.ensures))
-    (c.front-2.ensures.numbers ∙ front (corners_at B k) c.args.right_corners.now c.read_operand-2.ensures.corners (numbers_count B k h c.word_at-n.ensures)) c.bounds_at-right_bounds.ensures in
-    begun_job B c.requires.shape (ap (λ w. eqb w 1) c.word_at-reflected.ensures) l r c.begin_operands.ensures
+    (c.front-2.ensures.numbers ∙ front (corners_at B k) c.args.right_corners.now c.read_operand-2.ensures.corners (numbers_count B k h c.word_at-n.ensures)) c.bounds_at-2.ensures in
+    begun_job B c.requires.shape (ap (λ w. eqb w 1) c.word_at.ensures) l r c.begin_operands.ensures

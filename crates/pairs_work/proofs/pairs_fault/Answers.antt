@@ -2,7 +2,6 @@
 -- walks decide. Assumes nothing.
 use mathlib.Core.Path.{sym, ◌∙◌}
 use mathlib.Core.List.{[]}
-use borrow.Author.Rules.{rules}
 use Rattle.minkowski_work.specs.Scratch.{call_of}
 use Rattle.minkowski_work.proofs.Faults.{operands_first, past_operands}
 use Rattle.minkowski_work.proofs.Walked.{large}
