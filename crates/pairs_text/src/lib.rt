@@ -47,13 +47,15 @@ fn put_first(
     requires { JobStarted begun firsts.now points.now numbers.now × (first_room ≤ length out.old) }
     ensures { PutText (first_in begun firsts.now points.now) 0 out.old out.new result }
 {
-    let fault = begun.fault;
+    let Begun {
+        fault,
+        left,
+        right,
+        bounds,
+    } = begun;
     if fault != 0 {
         return text::put_refusal(fault, out, 0);
     }
-    let left = begun.left;
-    let right = begun.right;
-    let bounds = begun.bounds;
     let corners = minkowski_counted::count_keyed(firsts, points, numbers, left, right);
     pair_lines::put_head((left * right) as u64, corners as u64, bounds, out)
 }
@@ -74,8 +76,7 @@ fn put_piece(
     if k == 0 {
         return put_first(begun, firsts, points, numbers, out);
     }
-    let left = begun.left;
-    let right = begun.right;
+    let Begun { left, right, .. } = begun;
     let p = (k - 1) / right;
     let q = (k - 1) % right;
     pair_lines::put_line(firsts, points, numbers, left, right, p, q, work, out)
@@ -95,25 +96,21 @@ fn put_pieces(
     requires { Workable begun firsts.now points.now numbers.now work.old }
     ensures { Handed (pieces_in begun firsts.now points.now) from out.old out.new result }
 {
-    let left = begun.left;
-    let right = begun.right;
-    let pieces = 1 + left * right;
-    let mut k = from;
+    let pieces = 1 + begun.left * begun.right;
     let mut size: usize = 0;
-    while k < pieces {
+    for k in from..pieces {
         if out.len() - size < LINE {
             return Chunk {
-                size: size,
+                size,
                 next: k,
                 more: true,
             };
         }
         size += put_piece(begun, firsts, points, numbers, k, work, &mut out[size..]);
-        k += 1;
     }
     Chunk {
-        size: size,
-        next: k,
+        size,
+        next: from.max(pieces),
         more: false,
     }
 }

@@ -3,7 +3,6 @@
 use mathlib.Core.Path.{◌≡◌}
 use native.Mathlib.Omega.{arith}
 use lib.ListN.{length}
-use borrow.Author.Rules.{rules}
 use Rattle.pairs_text.specs.Pieces.{chunk_room}
 use Rattle.pairs_text.proofs.Started.{started, pieces_in_lem}
 use Rattle.pairs_text.proofs.Putting.{handed_chunk}

@@ -2,7 +2,6 @@
 -- counted. Assumes nothing.
 use Prim.Native.Nat.{◌*◌}
 use native.Mathlib.Omega.{arith}
-use borrow.Author.Rules.{rules}
 use Rattle.text.proofs.Puts.{put_as}
 use Rattle.pairs_text.proofs.Fitting.{first_refused, first_head}
 use Rattle.pairs_text.proofs.Sizes.{refusal_any, head_any}

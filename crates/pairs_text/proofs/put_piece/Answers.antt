@@ -1,9 +1,7 @@
 -- `pairs_text::put_piece` meets its contract: the first piece, or the line of the pair that has its
 -- number. Assumes nothing.
-use native.Mathlib.Omega.{arith}
-use borrow.Author.Rules.{rules}
 use Rattle.text.proofs.Puts.{put_as}
-use Rattle.pairs_text.proofs.Fitting.{piece_first, piece_line, some_right, puttable}
+use Rattle.pairs_text.proofs.Fitting.{piece_first, piece_line, puttable}
 use Rattle.pairs_text.proofs.put_piece.Goals as goal
 
 pub returns-then-k-eq0 : goal.returns-then-k-eq0

@@ -1,17 +1,16 @@
 -- `pairs_text::put_pieces` meets its contract: a piece a turn, each put into what is left of the
--- lent bytes. The measure is how many pieces are left. Assumes nothing.
-use mathlib.Core.Path.{◌≡◌, refl, ◌∙◌}
-use Prim.Native.Nat.{◌-◌}
+-- lent bytes. Assumes nothing.
+use mathlib.Core.Path.{◌≡◌, subst}
+use mathlib.Core.Bool.{false}
 use native.Mathlib.Omega.{arith}
-use lib.ListN.{length}
-use Rattle.pairs_text.specs.Walks.{pieces_in}
+use Rattle.pairs_text.specs.Walks.{pieces_in, Handed}
 use Rattle.pairs_text.proofs.Fitting.{count_pieces}
-use Rattle.pairs_text.proofs.Putting.{Putting, putting_none, rest_length, putting_length, putting_inside, putting_turn, handed_full, handed_all}
+use Rattle.pairs_text.proofs.Putting.{putting_none, putting_length, putting_inside, putting_turn, handed_full, handed_all}
 use Rattle.pairs_text.proofs.put_pieces.Goals as goal
 
 pub loop-k-init : goal.loop-k-init
 loop-k-init c = let g = c.args in
-    (refl, putting_none (pieces_in g.begun g.firsts.now g.points.now) g.from g.out.now)
+    (omega arith, putting_none (pieces_in g.begun g.firsts.now g.points.now) g.from g.out.now)
 
 pub returns-then-out-size-lt-LINE : goal.returns-then-out-size-lt-LINE
 returns-then-out-size-lt-LINE c = let g = c.args in
@@ -24,10 +23,13 @@ overflow_add-size c = omega (arith, putting_inside c.loop-k.invariant.1 c.put_pi
 pub loop-k-preserved : goal.loop-k-preserved
 loop-k-preserved c = let l = c.loop-k in
     let g = c.args in (
-      c.work-1.given ∙ l.invariant.0,
+      omega (arith, c.loop-k-test.true),
       putting_turn l.invariant.1 (omega (arith, c.loop-k-test.true, count_pieces g.begun g.firsts.now g.points.now)) c.if-out-size-lt-LINE.false c.put_piece-size.ensures c.out-1.given.0,
     )
 
+-- with no piece left, the next is the end, or `from` where that is past it
 pub returns : goal.returns
 returns c = let g = c.args in
-    handed_all c.loop-k.invariant.1 (omega (arith, c.loop-k-test.false, count_pieces g.begun g.firsts.now g.points.now))
+    let e : c.loop-k.k ≡ c.max.result = omega (arith, c.max.ensures, c.loop-k.invariant.0, c.loop-k-test.false, c.loop-k.auto.k) in
+    subst (λ n. Handed (pieces_in g.begun g.firsts.now g.points.now) g.from g.out.now c.loop-k.out (record { size = c.loop-k.size; next = n; more = false })) e
+    (handed_all c.loop-k.invariant.1 (omega (arith, c.loop-k-test.false, count_pieces g.begun g.firsts.now g.points.now)))
