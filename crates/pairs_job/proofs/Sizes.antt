@@ -7,8 +7,8 @@ use mathlib.Core.Bool.{true, false, not}
 use mathlib.Core.List.{List}
 use Prim.Native.Nat.{ℕ, ◌+◌, ◌*◌, ◌<◌, ◌≤◌}
 use native.Mathlib.Omega.{arith}
-use borrow.Author.Tests.{ltb-true, eqb-true, lt-ltb, le-ltb, ne_eqb, not-false}
-use lib.Dec.{eqb, ltb}
+use borrow.Author.Tests.{ltb-true, eqb-true, le-ltb, ne_eqb, not-false}
+use lib.Dec.{eqb}
 use lib.ListN.{length, take, drop, length-drop, length-map}
 use lib.Seq.{length-take-le}
 use Rattle.integers.proofs.Order.{by_test}
@@ -66,12 +66,3 @@ module _ (bytes : List ℕ) where
       where
         either_over : counts_broken bytes k ≡ true → (word_at bytes k ≤ max_parts) × (word_at bytes (k + 1) ≤ max_corners) → ⊥
         either_over e l = omega (arith, ltb-true max_corners (word_at bytes (k + 1)) (rw (le-ltb max_parts (word_at bytes k) l.0) at e), l.1)
-
-  -- ---- the counts, as code tests them
-
-  module _ (k : ℕ) where
-    pub many_parts : {w : ℕ} → w ≡ word_at bytes k → max_parts < w → true ≡ counts_broken bytes k
-    many_parts e h = rw (lt-ltb max_parts (word_at bytes k) (omega (arith, e, h)))
-
-    pub many_corners : {w n : ℕ} → w ≡ word_at bytes k → w ≤ max_parts → n ≡ word_at bytes (k + 1) → ltb max_corners n ≡ counts_broken bytes k
-    many_corners e h d = rw (le-ltb max_parts (word_at bytes k) (omega (arith, e, h))) (ap (ltb max_corners) d)

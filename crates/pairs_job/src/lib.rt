@@ -1,8 +1,9 @@
 // A pair job's bytes, which the pairs program reads: an operation, and for either operand four
 // bounds and a stored table. `shape_fault` tells what is wrong with their shape (13, and 7 for
 // their length and counts); of a job without such a fault `bounds_at` and `read_operand` read an
-// operand, whose table begins at word LEFT or at word `right_place`. What they answer are equations
-// with specs/Job.antt. Leans on table_words and table.
+// operand, whose table begins at word LEFT or at word `right_place`. How long a table is by its
+// counts (`table_size`), and whether these are past the limits (`counts_broken`), serves tables_job
+// too. What they answer are equations with specs/Job.antt. Leans on table_words and table.
 #![tactic(auto)]
 
 ghost use Rattle.std.specs.Prelude.{◌≡◌, false, ◌+◌, ◌*◌, ◌<◌, ◌≤◌, length};

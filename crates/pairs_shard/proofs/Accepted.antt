@@ -9,8 +9,8 @@ use Prim.Native.Nat.{ℕ, zero, suc, ◌+◌, ◌*◌, ◌-◌, ◌<◌, ◌≤�
 use native.Mathlib.Omega.{arith}
 use borrow.Author.Tests.{le-ltb, eq-eqb, ne_eqb, eqb-true, ltb-true, ltb-false}
 use lib.Dec.{eqb, ltb}
-use lib.ListN.{length, take, drop, get_or, length-append, length-drop, length-map}
-use lib.Seq.{slice, drop-cons, length-slice, get_or-drop}
+use lib.ListN.{length, take, drop, get_or, length-drop, length-map}
+use lib.Seq.{slice, drop-cons, get_or-drop}
 use lib.IntN.{ℤ}
 use lib.Signed.{lt_z}
 use Rattle.integers.specs.Faults.{first_fault}
@@ -21,20 +21,20 @@ use Rattle.plane.specs.Plane.{Pt}
 use Rattle.table.specs.declared.IntRect.{IntRect}
 use Rattle.corners.specs.Corners.{points_of, off_range}
 use Rattle.table.specs.Table.{max_contour, part_count, steps_broken, starts_broken, table_broken, within_bounds, bounds_list, some_outside, bounds_broken}
-use Rattle.table.specs.Stored.{words_of, word_bytes, word_at, signed}
+use Rattle.table.specs.Stored.{words_of, word_at, signed}
 use Rattle.table.specs.Shown.{part_numbers}
 use Rattle.corners.proofs.Range.{was_taken}
 use Rattle.table.proofs.Rules.{step, tests}
 use Rattle.table.proofs.Shown.{part_ranged}
 use Rattle.corners.proofs.Corners.{points_slice}
 use Rattle.pair.specs.Walk.{winding_leaves}
-use Rattle.minkowski.specs.Pairs.{Operand, operand_parts, operand_off, result_bounds, some_winding_leaves, pair_kinds}
+use Rattle.minkowski.specs.Pairs.{Operand, operand_parts, result_bounds, some_winding_leaves, pair_kinds}
 use Rattle.minkowski_faults.proofs.Range.{off_append_out, off_append_in}
 use Rattle.pairs_job.specs.Job.{starts_at, corners_at, table_words, operation, reflected_of, right_place, left_of, right_of, job_length_broken, job_fault, shape_fault}
 use Rattle.pairs_job.proofs.Sizes.{sized, place}
 use Rattle.pairs_job.proofs.Shape.{shaped, shape_told, shape_passed, to_operands}
 use Rattle.pairs_rules.proofs.ByStarts.{rules}
-use Rattle.pairs_shard.specs.Shard.{least_of, past_part, first_part, start_at, corner_place, shard_starts, shard_counts, shard_bytes, shard_of, Cuts}
+use Rattle.pairs_shard.specs.Shard.{least_of, past_part, first_part, start_at, corner_place, shard_starts, shard_bytes, shard_of, Cuts}
 use Rattle.pairs_shard.specs.Whole.{AcceptedCut, AcceptedShards}
 use Rattle.pairs_shard.proofs.Faults.{none_refused}
 use Rattle.pairs_shard.proofs.Known.{least_left, least_right, known, start_word, many, asked}

@@ -2,7 +2,7 @@
 -- its starts (`known`). Assumes nothing.
 use mathlib.Core.Path.{◌≡◌, ◌∙◌, ap, subst}
 use mathlib.Core.List.{List}
-use Prim.Native.Nat.{ℕ, zero, suc, ◌+◌, ◌*◌, ◌-◌, ◌<◌, ◌≤◌}
+use Prim.Native.Nat.{ℕ, zero, suc, ◌+◌, ◌*◌, ◌-◌, ◌<◌, ◌≤◌, min}
 use native.Mathlib.Omega.{arith}
 use borrow.Author.Tests.{lt-ltb, le-ltb, ltb-true, ltb-false}
 use lib.Dec.{ltb}
@@ -24,6 +24,9 @@ least_right {a} {b} h = rw (lt-ltb b a h)
 
 pub least_left : {a b : ℕ} → a ≤ b → a ≡ least_of a b
 least_left {a} {b} h = rw (le-ltb b a h)
+
+pub least_is : (a b : ℕ) {m : ℕ} → m ≡ min a b → m ≡ least_of a b
+least_is a b e = by_test (ltb b a) (λ t. omega (arith, e, ltb-true b a t) ∙ least_right (ltb-true b a t)) (λ t. omega (arith, e, ltb-false b a t) ∙ least_left (ltb-false b a t))
 
 pub least_of_lem : (a b : ℕ) → (least_of a b ≤ a) × (least_of a b ≤ b)
 least_of_lem a b =

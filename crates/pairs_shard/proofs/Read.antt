@@ -15,7 +15,7 @@ use Rattle.table.specs.Table.{parts_of, table_parts}
 use Rattle.table.specs.Stored.{words_of, word_at, signed}
 use Rattle.corners.proofs.Corners.{points_slice}
 use Rattle.table.proofs.Rules.{count_parts}
-use Rattle.pairs_job.specs.Job.{bounds_at, starts_at, corners_at, table_words, operation, left_of, right_of}
+use Rattle.pairs_job.specs.Job.{bounds_at, starts_at, corners_at, table_words, left_of, right_of}
 use Rattle.pairs_shard.specs.Shard.{past_part, first_part, start_at, corner_place, shard_starts, shard_bytes, shard_of, shard_fault, Cuts}
 use Rattle.pairs_shard.specs.Whole.{ShardOperands}
 use Rattle.pairs_shard.proofs.Faults.{cuttable}

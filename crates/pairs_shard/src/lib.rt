@@ -13,7 +13,7 @@ ghost use Rattle.table.specs.Stored.{words_of, word_bytes};
 ghost use Rattle.table_words.specs.Place.{put_words};
 ghost use Rattle.text.specs.Put.{PutText};
 ghost use Rattle.pairs_job.specs.Job.{table_words};
-ghost use Rattle.pairs_shard.specs.Shard.{least_of, corner_place, shard_counts, shard_fault, cut_of, bytes_cut, Cuts, AtLeast};
+ghost use Rattle.pairs_shard.specs.Shard.{corner_place, shard_counts, shard_fault, cut_of, bytes_cut, Cuts, AtLeast};
 
 use pairs_job::{LEFT, LONGEST};
 use table_words::{put_word, word_at};
@@ -24,16 +24,6 @@ use table_words::{put_word, word_at};
 pub struct Shard {
     pub fault: u32,
     pub size: usize,
-}
-
-// The lesser of two numbers.
-fn least_of(a: usize, b: usize) -> usize
-    ensures { result ≡ least_of a b }
-{
-    if b < a {
-        return b;
-    }
-    a
 }
 
 // The fault of cutting a job; 0 for none.
@@ -55,10 +45,8 @@ fn put_less(bytes: &[u8], from: usize, count: usize, base: u32, out: &mut [u8], 
     requires { (4 * (from + count) ≤ length bytes.now) × (4 * (at + count) ≤ length out.old) × AtLeast base from count bytes.now }
     ensures { out.new ≡ put_words at (map (λ s. s - base) (take count (drop from (words_of bytes.now)))) out.old }
 {
-    let mut i = 0;
-    while i < count {
+    for i in 0..count {
         put_word(out, at + i, word_at(bytes, from + i) - base);
-        i += 1;
     }
 }
 
@@ -113,17 +101,11 @@ pub fn cut(bytes: &[u8], from: usize, to: usize, out: &mut [u8; LONGEST]) -> Sha
 {
     let fault = shard_fault(bytes);
     if fault != 0 {
-        return Shard {
-            fault: fault,
-            size: 0,
-        };
+        return Shard { fault, size: 0 };
     }
-    let past = least_of(to, word_at(bytes, LEFT) as usize);
-    let first = least_of(from, past);
+    let past = to.min(word_at(bytes, LEFT) as usize);
+    let first = from.min(past);
     let at = put_counts(bytes, first, past, out);
     let size = put_rest(bytes, first, past, out, at);
-    Shard {
-        fault: 0,
-        size: size,
-    }
+    Shard { fault: 0, size }
 }

@@ -1,26 +1,19 @@
--- An operand as code puts it: four bounds, and the table behind them (`operand_put`); a table's
--- fault by the tests that code makes. Assumes nothing.
-use mathlib.Core.Path.{◌≡◌, sym, ◌∙◌, ap}
-use mathlib.Core.Bool.{true, false, cond}
-use mathlib.Core.List.{List, [], ◌∷◌}
-use Prim.Native.Nat.{ℕ, ◌+◌, ◌*◌, ◌-◌, ◌<◌, ◌≤◌}
+-- An operand as code puts it: four bounds, and the table behind them (`operand_put`). Assumes
+-- nothing.
+use mathlib.Core.Path.{◌≡◌, ◌∙◌, ap}
+use mathlib.Core.List.{List}
+use Prim.Native.Nat.{ℕ, ◌+◌, ◌*◌, ◌-◌, ◌≤◌}
 use native.Mathlib.Omega.{arith}
-use borrow.Author.Tests.{lt-ltb, le-ltb}
 use lib.ListN.{length, take, drop, length-append, length-drop}
 use lib.Seq.{length-take-le}
-use Rattle.table.specs.Table.{max_parts, max_corners, table_broken}
 use Rattle.table.specs.Stored.{word_bytes, word_at}
 use Rattle.table.proofs.Words.{length-word_bytes}
 use Rattle.table_words.specs.Place.{put_words}
 use Rattle.text.specs.Put.{PutText}
 use Rattle.text.proofs.Puts.{put_after_lem, put_as}
-use Rattle.pairs_job.specs.Job.{starts_at, corners_at, table_words, table_bytes, counts_broken}
-use Rattle.pairs_job.proofs.Sizes.{many_parts, many_corners}
+use Rattle.pairs_job.specs.Job.{table_words, table_bytes}
 use Rattle.pairs_shard.proofs.Putting.{words_put}
-use Rattle.tables_job.specs.Tables.{bounds_words, operand_bytes, broken_at, Writable}
-
-pub four_put : (k : ℕ) {a b c d p q r s : ℕ} (old : List ℕ) {buf : List ℕ} → a ≡ p → b ≡ q → c ≡ r → d ≡ s → buf ≡ put_words k (a ∷ b ∷ c ∷ d ∷ []) old → buf ≡ put_words k (p ∷ q ∷ r ∷ s ∷ []) old
-four_put k old e f g h t = t ∙ (λ i. put_words k (e i ∷ f i ∷ g i ∷ h i ∷ []) old)
+use Rattle.tables_job.specs.Tables.{bounds_words, operand_bytes, Writable}
 
 module _ {bytes : List ℕ} {k at : ℕ} {out o₁ o₂ : List ℕ} {p n r : ℕ} (w : Writable bytes k out at) (e : p ≡ word_at bytes k) (d : n ≡ word_at bytes (k + 1)) where
   pub operand_put : o₁ ≡ put_words at (bounds_words bytes (k + 3 + p) n) out
@@ -37,18 +30,3 @@ unfolding operand_bytes
 length_operand bytes k h =
     let ws = bounds_words bytes (k + 3 + word_at bytes k) (word_at bytes (k + 1)) in
     omega (arith, length-append (word_bytes ws) (table_bytes bytes k), length-word_bytes ws, length-take-le (4 * table_words bytes k) (drop (4 * k) bytes) (omega (arith, length-drop (4 * k) bytes)))
-
--- ---- a table's fault
-
-module _ (bytes : List ℕ) (k : ℕ) where
-  pub parts_over : {p : ℕ} → p ≡ word_at bytes k → max_parts < p → true ≡ broken_at bytes k
-  parts_over e h = ap (λ t. cond t true (table_broken (starts_at bytes k) (corners_at bytes k))) (many_parts bytes k e h)
-
-  pub corners_over : {p n : ℕ} → p ≡ word_at bytes k → p ≤ max_parts → n ≡ word_at bytes (k + 1) → max_corners < n → true ≡ broken_at bytes k
-  corners_over {p} {n} e h d g = ap (λ t. cond t true (table_broken (starts_at bytes k) (corners_at bytes k))) (sym (lt-ltb max_corners n g) ∙ many_corners bytes k e h d)
-
-  pub counted_in : {p n : ℕ} → p ≡ word_at bytes k → p ≤ max_parts → n ≡ word_at bytes (k + 1) → n ≤ max_corners → counts_broken bytes k ≡ false
-  counted_in {p} {n} e h d g = sym (many_corners bytes k e h d) ∙ le-ltb max_corners n g
-
-  pub by_rules : counts_broken bytes k ≡ false → table_broken (starts_at bytes k) (corners_at bytes k) ≡ broken_at bytes k
-  by_rules z = sym (ap (λ t. cond t true (table_broken (starts_at bytes k) (corners_at bytes k))) z)

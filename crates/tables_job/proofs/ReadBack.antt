@@ -4,30 +4,27 @@
 use mathlib.Core.Path.{◌≡◌, refl, sym, ◌∙◌, ap, ap₂}
 use mathlib.Core.Bool.{Bool, true, false, cond}
 use mathlib.Core.List.{List, [], ◌∷◌, ◌++◌, append_assoc, append-nil}
-use Prim.Native.Nat.{ℕ, zero, suc, ◌+◌, ◌*◌, ◌/◌, ◌%◌, ◌<◌, ◌≤◌}
+use Prim.Native.Nat.{ℕ, zero, suc, ◌+◌, ◌*◌, ◌<◌, ◌≤◌}
 use native.Mathlib.Omega.{arith}
-use borrow.Author.Tests.{eq-eqb, eqb-true, le-ltb, ltb-false, not-false}
+use borrow.Author.Tests.{eq-eqb, le-ltb, ltb-false}
 use lib.Dec.{eqb, ltb}
 use lib.ListN.{length, take, drop, get_or, length-append, length-drop, get_or-append}
 use lib.Seq.{take_at, drop_at, get_or-append-add, get_or-take, get_or-drop, length-take-le}
 use lib.Signed.{lt_z}
 use Rattle.integers.specs.Lists.{All}
 use Rattle.integers.specs.Faults.{first_fault}
-use Rattle.integers.proofs.Order.{by_test}
 use Rattle.integers.proofs.Tests.{either_false}
-use Rattle.integers.proofs.Faults.{first_none, first_next}
-use Rattle.table.specs.Table.{table_broken, bounds_list, bounds_broken, part_count}
-use Rattle.corners.specs.Corners.{points_of, off_range}
+use Rattle.integers.proofs.Faults.{first_none}
+use Rattle.table.specs.Table.{table_broken}
 use Rattle.table.specs.Stored.{words_of, word_bytes, word_at, signed, stored_starts, stored_corners}
 use Rattle.table.proofs.Words.{Word, length_words, length-word_bytes, words_word_bytes, words_small}
-use Rattle.minkowski.specs.Pairs.{operand_off, operand_parts, some_winding_leaves, result_bounds, pair_kinds}
+use Rattle.minkowski.specs.Pairs.{pair_kinds}
 use Rattle.pairs_job.specs.Job.{bounds_at, starts_at, corners_at, table_words, table_bytes, operation, reflected_of, right_place, operand_at, left_of, right_of, job_length_broken, job_fault, counts_broken}
-use Rattle.pairs_job.proofs.Sizes.{place}
 use Rattle.pairs_job.proofs.Shape.{to_operands}
 use Rattle.pairs_job.proofs.Stored.{words_drop, words_take, table_stored}
 use Rattle.pairs_shard.proofs.Words.{words_append}
 use Rattle.tables_job.specs.Tables.{picked_of, extreme_of, bounds_words, right_table, operand_bytes, job_of, tables_length_broken, broken_at, tables_fault}
-use Rattle.tables_job.specs.ReadBack.{bounds_in, operand_in, left_in, right_in, left_kinds, ReadBack, JobReadBack}
+use Rattle.tables_job.specs.ReadBack.{bounds_in, operand_in, left_in, right_in, left_kinds, JobReadBack}
 use Rattle.tables_job.proofs.Operands.{length_operand}
 use Rattle.tables_job.proofs.Making.{sized_tables}
 use Rattle.tables_job.proofs.Bounds.{bounds_hold}

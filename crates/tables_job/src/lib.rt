@@ -12,7 +12,7 @@ ghost use Rattle.text.specs.Put.{PutText};
 ghost use Rattle.pairs_job.specs.Job.{table_words};
 ghost use Rattle.tables_job.specs.Tables.{picked_of, extreme_of, bounds_words, operand_bytes, broken_at, tables_length_broken, tables_fault, made_of, bytes_made, Writable};
 
-use pairs_job::LONGEST;
+use pairs_job::{LONGEST, table_size};
 use table_words::{WORD, signed_word, word_at};
 
 // The word that the left table begins at.
@@ -32,16 +32,8 @@ fn picked(greatest: bool, a: u32, b: u32) -> u32
 {
     let x = signed_word(a);
     let y = signed_word(b);
-    if greatest {
-        if x < y {
-            return b;
-        }
-        return a;
-    }
-    if y < x {
-        return b;
-    }
-    a
+    let other = if greatest { x < y } else { y < x };
+    if other { b } else { a }
 }
 
 // The greatest, or the least, of `count` words, every other one from word `from` on; 0 of none.
@@ -53,10 +45,8 @@ fn extreme(bytes: &[u8], greatest: bool, from: usize, count: usize) -> u32
         return 0;
     }
     let mut word = word_at(bytes, from);
-    let mut k = 1;
-    while k < count {
+    for k in 1..count {
         word = picked(greatest, word, word_at(bytes, from + corners::WIDTH * k));
-        k += 1;
     }
     word
 }
@@ -98,24 +88,7 @@ fn broken_at(bytes: &[u8], k: usize) -> bool
     requires { 4 * (k + table_words bytes.now k) ≤ length bytes.now }
     ensures { result ≡ broken_at bytes.now k }
 {
-    if word_at(bytes, k) as usize > table::MAX_PARTS {
-        return true;
-    }
-    if word_at(bytes, k + 1) as usize > table::MAX_CORNERS {
-        return true;
-    }
-    pairs_rules::table_broken(bytes, k)
-}
-
-// How many words the table at word k has, as its counts say.
-fn table_size(bytes: &[u8], k: usize) -> usize
-    requires { 4 * (k + 2) ≤ length bytes.now }
-    ensures size { result ≡ table_words bytes.now k }
-    ensures small { result ≤ 12884901888 }
-{
-    let parts = word_at(bytes, k) as usize;
-    let count = word_at(bytes, k + 1) as usize;
-    3 + parts + corners::WIDTH * count
+    pairs_job::counts_broken(bytes, k) || pairs_rules::table_broken(bytes, k)
 }
 
 // Whether the bytes are not as many as the counts of both tables say, or end before a count.
@@ -126,10 +99,7 @@ fn length_broken(bytes: &[u8]) -> bool
         return true;
     }
     let right = LEFT + table_size(bytes, LEFT);
-    if bytes.len() < WORD * (right + 2) {
-        return true;
-    }
-    bytes.len() != WORD * (right + table_size(bytes, right))
+    bytes.len() < WORD * (right + 2) || bytes.len() != WORD * (right + table_size(bytes, right))
 }
 
 // The fault of an operation and two stored tables; 0 for none.
@@ -164,17 +134,11 @@ pub fn make_job(bytes: &[u8], out: &mut [u8; LONGEST]) -> Made
 {
     let fault = tables_fault(bytes);
     if fault != 0 {
-        return Made {
-            fault: fault,
-            size: 0,
-        };
+        return Made { fault, size: 0 };
     }
     let right = LEFT + table_size(bytes, LEFT);
     text::put_bytes(&bytes[..WORD], out, 0);
     put_operand(bytes, LEFT, out, LEFT);
     let size = put_operand(bytes, right, out, right + 4);
-    Made {
-        fault: 0,
-        size: size,
-    }
+    Made { fault: 0, size }
 }

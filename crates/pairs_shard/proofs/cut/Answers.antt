@@ -1,14 +1,13 @@
 -- `pairs_shard::cut` meets its contract: the fault first, then the two halves of the shard, one
 -- after another. Assumes nothing.
-use mathlib.Core.Path.{◌≡◌, refl, sym, ◌∙◌, ap}
-use Prim.Native.Nat.{◌+◌, ◌*◌, ◌-◌, ◌≤◌}
+use mathlib.Core.Path.{◌≡◌, sym, ◌∙◌, ap}
 use native.Mathlib.Omega.{arith}
 use borrow.Author.Rules.{rules}
 use lib.ListN.{length}
 use Rattle.integers.proofs.Overlay.{length_overlay}
-use Rattle.pairs_shard.proofs.Faults.{refused_cut, accepted_cut, counted}
+use Rattle.pairs_shard.proofs.Faults.{accepted_cut, counted}
 use Rattle.pairs_shard.specs.Shard.{least_of, shard_of}
-use Rattle.pairs_shard.proofs.Known.{known, asked, asked_as}
+use Rattle.pairs_shard.proofs.Known.{known, asked, asked_as, least_is}
 use Rattle.pairs_shard.proofs.Putting.{length_counts, shard_fits, shard_put}
 use Rattle.pairs_shard.proofs.cut.Goals as goal
 
@@ -17,8 +16,8 @@ word_at-requires c = omega (arith, (known _ _ _ (asked 0 0 (sym c.shard_fault-fa
 
 pub put_rest-size-requires : goal.put_rest-size-requires
 put_rest-size-requires c = let B = c.args.bytes.now in
-    let p = c.least_of-past.ensures ∙ ap (least_of c.args.to) c.word_at.ensures in
-    let q = c.least_of-first.ensures ∙ ap (least_of c.args.from) p in
+    let p = least_is _ _ c.min-past.ensures ∙ ap (least_of c.args.to) c.word_at.ensures in
+    let q = least_is _ _ c.min-first.ensures ∙ ap (least_of c.args.from) p in
     let u = asked_as c.args.from c.args.to {bytes = B} (sym c.shard_fault-fault.ensures ∙ c.if-fault-ne0.false) q p in
     let k = known _ _ _ u in
     let n = length_counts k in
@@ -26,8 +25,8 @@ put_rest-size-requires c = let B = c.args.bytes.now in
 
 pub returns : goal.returns
 returns c = let B = c.args.bytes.now in
-    let p = c.least_of-past.ensures ∙ ap (least_of c.args.to) c.word_at.ensures in
-    let q = c.least_of-first.ensures ∙ ap (least_of c.args.from) p in
+    let p = least_is _ _ c.min-past.ensures ∙ ap (least_of c.args.to) c.word_at.ensures in
+    let q = least_is _ _ c.min-first.ensures ∙ ap (least_of c.args.from) p in
     let w = shard_put c.args.from c.args.to B q p c.put_counts-at.ensures c.put_rest-size.ensures in
     let z = sym c.shard_fault-fault.ensures ∙ c.if-fault-ne0.false in
     let a = accepted_cut c.args.from c.args.to B c.args.out.now z w.0 w.1 in

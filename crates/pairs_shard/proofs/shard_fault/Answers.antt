@@ -1,7 +1,6 @@
 -- `pairs_shard::shard_fault` meets its contract: the shape first, then the rules of the left table.
 -- Assumes nothing.
 use mathlib.Core.Path.{sym, ◌∙◌}
-use borrow.Author.Rules.{rules}
 use Rattle.pairs_job.proofs.Shape.{shaped, left_inside}
 use Rattle.pairs_shard.proofs.Faults.{shape_refused, left_counted, rules_refused, none_refused}
 use Rattle.pairs_shard.proofs.shard_fault.Goals as goal

@@ -1,6 +1,5 @@
 -- `tables_job::put_operand` meets its contract: the bounds, and the table behind them. Assumes
 -- nothing.
-use borrow.Author.Rules.{rules}
 use Rattle.tables_job.proofs.Operands.{operand_put}
 use Rattle.tables_job.proofs.put_operand.Goals as goal
 

@@ -1,7 +1,6 @@
 -- `tables_job::tables_fault` meets its contract: the kinds in their order. Assumes nothing.
 use mathlib.Core.Path.{sym, ◌∙◌}
 use native.Mathlib.Omega.{arith}
-use borrow.Author.Rules.{rules}
 use Rattle.tables_job.proofs.Making.{left_in, right_in, too_short, other_operation, other_length, left_broken, right_broken, good_tables}
 use Rattle.tables_job.proofs.tables_fault.Goals as goal
 
