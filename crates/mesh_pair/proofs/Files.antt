@@ -1,9 +1,11 @@
 -- Where two files are cut, and what is told of both. Assumes nothing.
 use mathlib.Core.Path.{◌≡◌, refl, sym, ◌∙◌, ap, subst}
+use mathlib.Core.Bool.{Bool, true, false}
 use mathlib.Core.List.{List, [], ◌∷◌}
-use Prim.Native.Nat.{ℕ, ◌-◌, ◌<◌, ◌≤◌}
+use Prim.Native.Nat.{ℕ, ◌-◌, ◌<◌, ◌≤◌, min}
 use native.Mathlib.Omega.{arith}
-use borrow.Author.Tests.{eq-eqb, ne_eqb}
+use borrow.Author.Tests.{eq-eqb, ne_eqb, ltb-true, ltb-false}
+use lib.Dec.{ltb}
 use lib.ListN.{length, take, drop, get_or, length-drop, drop_of_length-le}
 use lib.Seq.{take-length, take_all}
 use lib.IntN.{ℤ}
@@ -11,8 +13,7 @@ use Rattle.table.specs.Stored.{words_of, word_at}
 use Rattle.table.proofs.Words.{length_words}
 use Rattle.listing.specs.File.{file_fault}
 use Rattle.mesh_operand.specs.declared.Taken.{Taken}
-use Rattle.mesh_operand.specs.Operand.{Held, TakenFrom}
-use Rattle.mesh_pair.specs.declared.Two.{Two}
+use Rattle.mesh_operand.specs.Operand.{TakenFrom}
 use Rattle.mesh_pair.specs.Files.{left_file, right_file, files_fault, Cut, TwoTaken}
 
 -- no word where there are fewer than four bytes
@@ -26,7 +27,7 @@ cut_none {bytes} h =
     let z : word_at bytes 0 ≡ 0 = no_word (words_of bytes) (omega (arith, length_words bytes)) in
     record { inside = omega arith; left = ap (λ n. take n bytes) (sym z); right = ap (λ n. drop n bytes) (sym z) }
 
-pub cut_past : {bytes : List ℕ} {total : ℕ} → total ≡ word_at bytes 0 → length bytes < total → Cut bytes (length bytes)
+cut_past : {bytes : List ℕ} {total : ℕ} → total ≡ word_at bytes 0 → length bytes < total → Cut bytes (length bytes)
 unfolding left_file right_file
 cut_past {bytes} {total} e h = record {
   inside = omega arith;
@@ -34,9 +35,17 @@ cut_past {bytes} {total} e h = record {
   right = drop_of_length-le bytes {i = length bytes} (omega arith) ∙ sym (drop_of_length-le bytes {i = word_at bytes 0} (omega (arith, e)));
 }
 
-pub cut_at : {bytes : List ℕ} {total : ℕ} → total ≡ word_at bytes 0 → total ≤ length bytes → Cut bytes total
+cut_at : {bytes : List ℕ} {total : ℕ} → total ≡ word_at bytes 0 → total ≤ length bytes → Cut bytes total
 unfolding left_file right_file
 cut_at {bytes} e h = record { inside = h; left = ap (λ n. take n bytes) e; right = ap (λ n. drop n bytes) e }
+
+-- at a total, or at the end where there are fewer bytes
+pub cut_least : {bytes : List ℕ} {total n : ℕ} → total ≡ word_at bytes 0 → n ≡ min total (length bytes) → Cut bytes n
+cut_least {bytes} {total} {n} e h = of (ltb (length bytes) total) refl
+  where
+    of : (t : Bool) → ltb (length bytes) total ≡ t → Cut bytes n
+    of true t = let m : length bytes ≡ n = omega (arith, h, ltb-true (length bytes) total t) in subst (Cut bytes) m (cut_past e (ltb-true (length bytes) total t))
+    of false t = let m : total ≡ n = omega (arith, h, ltb-false (length bytes) total t) in subst (Cut bytes) m (cut_at e (ltb-false (length bytes) total t))
 
 -- ---- both
 

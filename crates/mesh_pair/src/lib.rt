@@ -26,11 +26,7 @@ fn left_end(bytes: &[u8]) -> usize
     if bytes.len() < WORD {
         return 0;
     }
-    let total = word_at(bytes, 0) as usize;
-    if total > bytes.len() {
-        return bytes.len();
-    }
-    total
+    (word_at(bytes, 0) as usize).min(bytes.len())
 }
 
 // Both files' operands, each on the front of its lent starts and corners, or the fault of the first
@@ -51,14 +47,14 @@ pub fn take_two(
     if left.fault != 0 {
         return Two {
             fault: left.fault,
-            left: left,
+            left,
             right: left,
         };
     }
     let right = mesh_operand::take_operand(&bytes[at..], right_starts, right_corners);
     Two {
         fault: right.fault,
-        left: left,
-        right: right,
+        left,
+        right,
     }
 }

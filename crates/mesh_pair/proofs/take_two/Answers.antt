@@ -1,9 +1,7 @@
 -- `mesh_pair::take_two` meets its contract: the left file's refusal, or what is told of both.
 -- Assumes nothing.
-use mathlib.Core.Path.{sym, ◌∙◌}
-use lib.Seq.{length-take-le}
+use mathlib.Core.Path.{◌∙◌}
 use Rattle.mesh_pair.proofs.Files.{taken_as, left_refused, both_taken, rest_of}
-use borrow.Author.Rules.{rules}
 use Rattle.mesh_pair.proofs.take_two.Goals as goal
 
 pub returns-then-left-ne0 : goal.returns-then-left-ne0
