@@ -25,13 +25,8 @@ put_kept k ws old h e = ap length e ∙ length_put k ws old (omega arith)
 pub put_on : (k : ℕ) (a b old : List ℕ) {n : ℕ} {mid new : List ℕ} → 4 * (k + length a) ≤ length old → n ≡ k + length a → mid ≡ put_words k a old → new ≡ put_words n b mid → new ≡ put_words k (a ++ b) old
 put_on k a b old h en em e = e ∙ (λ i. put_words (en i) b (em i)) ∙ put_put k a old (omega arith) b
 
-module _ (k : ℕ) (old : List ℕ) (h : 4 * (k + 4) ≤ length old) where
-  pub four_words : {a b c d : ℕ} {w x y z : ℕ} {o₁ o₂ o₃ o₄ : List ℕ} → a ≡ w → b ≡ x → c ≡ y → d ≡ z
-      → o₁ ≡ put_words k (a ∷ []) old → o₂ ≡ put_words (k + 1) (b ∷ []) o₁ → o₃ ≡ put_words (k + 2) (c ∷ []) o₂ → o₄ ≡ put_words (k + 3) (d ∷ []) o₃ → o₄ ≡ put_words k (w ∷ x ∷ y ∷ z ∷ []) old
-  four_words {a} {b} {c} {d} ea eb ec ed e₁ e₂ e₃ e₄ =
-      let t₂ = put_on k (a ∷ []) (b ∷ []) old (omega arith) (omega arith) e₁ e₂ in
-      let t₃ = put_on k (a ∷ b ∷ []) (c ∷ []) old (omega arith) (omega arith) t₂ e₃ in
-      put_on k (a ∷ b ∷ c ∷ []) (d ∷ []) old (omega arith) (omega arith) t₃ e₄ ∙ (λ i. put_words k (ea i ∷ eb i ∷ ec i ∷ ed i ∷ []) old)
+pub four_words : (k : ℕ) (old : List ℕ) {a b c d w x y z : ℕ} {new : List ℕ} → a ≡ w → b ≡ x → c ≡ y → d ≡ z → new ≡ put_words k (a ∷ b ∷ c ∷ d ∷ []) old → new ≡ put_words k (w ∷ x ∷ y ∷ z ∷ []) old
+four_words k old ea eb ec ed e = e ∙ (λ i. put_words k (ea i ∷ eb i ∷ ec i ∷ ed i ∷ []) old)
 
 pub operand_length : (b : IntRect) (s : List ℕ) (c : List ℤ) → length (operand_words (operand_from b s c)) ≡ 6 + length s + length c
 unfolding operand_words

@@ -27,10 +27,13 @@ fn put_bounds(b: IntRect, k: usize, out: &mut [u8])
     requires { 4 * (k + 4) ≤ length out.old }
     ensures { out.new ≡ put_words k (map unsigned (bounds_list b)) out.old }
 {
-    put_word(out, k, integers::unsigned(b.min_x));
-    put_word(out, k + 1, integers::unsigned(b.max_x));
-    put_word(out, k + 2, integers::unsigned(b.min_y));
-    put_word(out, k + 3, integers::unsigned(b.max_y));
+    let words = [
+        integers::unsigned(b.min_x),
+        integers::unsigned(b.max_x),
+        integers::unsigned(b.min_y),
+        integers::unsigned(b.max_y),
+    ];
+    table_write::write_words(&words, k, out);
 }
 
 // Puts an operand from word k on, bounds and a stored table, and answers the word after it.
@@ -94,10 +97,7 @@ pub fn make_job(bytes: &[u8], out: &mut [u8; JOB]) -> Stored
 {
     let fault = operation_fault(bytes);
     if fault != 0 {
-        return Stored {
-            fault: fault,
-            length: 0,
-        };
+        return Stored { fault, length: 0 };
     }
     let mut left_starts = [0u32; STARTS];
     let mut left_corners = [0i32; NUMBERS];

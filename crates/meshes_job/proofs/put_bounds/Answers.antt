@@ -1,4 +1,4 @@
--- `meshes_job::put_bounds` meets its contract: word by word. Assumes nothing.
+-- `meshes_job::put_bounds` meets its contract: four words. Assumes nothing.
 use mathlib.Core.Path.{◌∙◌, ap}
 use mir.Syntax.{w32}
 use mir.Val.{SFits}
@@ -13,6 +13,6 @@ returns c = let a : SFits w32 c.args.b.min_x = search rules in
     let b : SFits w32 c.args.b.max_x = search rules in
     let d : SFits w32 c.args.b.min_y = search rules in
     let e : SFits w32 c.args.b.max_y = search rules in
-    four_words c.args.k c.args.out.now c.requires
+    four_words c.args.k c.args.out.now
     (c.unsigned.ensures ∙ ap unsigned (kept a)) (c.unsigned-2.ensures ∙ ap unsigned (kept b)) (c.unsigned-3.ensures ∙ ap unsigned (kept d)) (c.unsigned-4.ensures ∙ ap unsigned (kept e))
-    c.put_word.ensures c.put_word-2.ensures c.put_word-3.ensures c.put_word-4.ensures
+    c.write_words.ensures
