@@ -3,12 +3,12 @@
 use mathlib.Core.Path.{◌≡◌, refl, sym, ◌∙◌, ap, subst}
 use mathlib.Core.Bool.{Bool, true, false, cond}
 use mathlib.Core.List.{List, [], ◌∷◌, ◌++◌, append_assoc, append-nil}
-use Prim.Native.Nat.{ℕ, suc, ◌+◌, ◌≤◌}
+use Prim.Native.Nat.{ℕ, ◌+◌, ◌≤◌}
 use native.Mathlib.Numerals.{add-one}
 use native.Mathlib.Omega.{arith}
 use lib.ListN.{length, take, set, length-append, length-set}
 use lib.Seq.{take-suc-set}
-use Rattle.field_numbers.specs.declared.Reading.{Reading}
+use Rattle.std.specs.Prelude.{Option, is_some, option_to_list}
 use Rattle.field_numbers.specs.Numbers.{told}
 use Rattle.mesh_fields.specs.Put.{Put}
 
@@ -30,6 +30,10 @@ put_word {at} w {old} h e =
 pub put_wrong : {t : Bool} {ws : List ℕ} {at : ℕ} {old : List ℕ} → t ≡ false → Put t ws at old old false
 put_wrong e = record { answer = sym e; front = λ q. absurd (true_false (sym q ∙ e)); as_many = refl }
 
+-- as it is told
+pub put_not : {t r : Bool} {ws : List ℕ} {at : ℕ} {old : List ℕ} → r ≡ false → t ≡ false → Put t ws at old old r
+put_not {t} {r} {ws} {at} {old} q e = subst (Put t ws at old old) (sym q) (put_wrong e)
+
 -- a test that puts nothing
 pub put_none : {t r : Bool} {at : ℕ} {old : List ℕ} → r ≡ t → Put t [] at old old r
 put_none {at} {old} e =
@@ -40,11 +44,12 @@ put_none {at} {old} e =
 
 module _ {t : Bool} {ws : List ℕ} {at : ℕ} {a b : List ℕ} {r : Bool} (p : Put t ws at a b r) where
   -- the first is wrong
-  pub put_stops : (u : Bool) (vs : List ℕ) → r ≡ false → Put (cond t u false) (ws ++ vs) at a b false
+  pub put_stops : (u : Bool) (vs : List ℕ) → r ≡ false → Put (cond t u false) (ws ++ vs) at a b r
   put_stops u vs e =
       let f : t ≡ false = sym p.answer ∙ e in
+      let g : false ≡ cond t u false = rw f in
       record {
-        answer = rw f;
+        answer = e ∙ g;
         front = λ q. absurd (true_false (sym q ∙ ap (λ s. cond s u false) f));
         as_many = p.as_many;
       }
@@ -63,11 +68,11 @@ module _ {t : Bool} {ws : List ℕ} {at : ℕ} {a b : List ℕ} {r : Bool} (p : 
 
 -- ---- a reading
 
-pub put_told : (t : Bool) (v : ℕ) {n : Reading} {at : ℕ} {a b : List ℕ} {r : Bool} → n ≡ told t v → Put n.right (n.bits ∷ []) at a b r → Put t (v ∷ []) at a b r
+pub put_told : (t : Bool) (v : ℕ) {n : Option ℕ} {at : ℕ} {a b : List ℕ} {r : Bool} → n ≡ told t v → Put (is_some n) (option_to_list n) at a b r → Put t (v ∷ []) at a b r
 put_told t v {n} {at} {a} {b} {r} e p = by t v e
   where
     by : (t : Bool) (v : ℕ) → n ≡ told t v → Put t (v ∷ []) at a b r
-    by true v e = subst (λ m. Put m.right (m.bits ∷ []) at a b r) e p
+    by true v e = subst (λ m. Put (is_some m) (option_to_list m) at a b r) e p
     by false v e =
-        let q : Put false (0 ∷ []) at a b r = subst (λ m. Put m.right (m.bits ∷ []) at a b r) e p in
+        let q : Put false [] at a b r = subst (λ m. Put (is_some m) (option_to_list m) at a b r) e p in
         record { answer = q.answer; front = λ h. absurd (true_false (sym h)); as_many = q.as_many }

@@ -1,6 +1,6 @@
 -- The fields of a mesh written by hand ("a first line `limit 0 ear` and then one line a triangle
 -- (three points, three neighbours or `none`)"). Assumes nothing.
-use Rattle.std.specs.Prelude.{Bool, true, false, not, cond, List, [], ◌∷◌, ℕ, ◌+◌, ◌-◌, eqb, ltb, length, get_or, take, drop}
+use Rattle.std.specs.Prelude.{Bool, true, false, cond, List, [], ◌∷◌, ℕ, ◌+◌, ◌-◌, eqb, ltb, length, get_or, take, drop}
 use Rattle.integers.specs.Word.{unsigned}
 use Rattle.plane.specs.Plane.{Pt}
 use Rattle.fields.specs.Fields.{run_length, in_run}

@@ -1,10 +1,10 @@
 -- The lines of a mesh written by hand, by the tests and the puts that the code makes. In order: a
 -- line's end; lines passed over; a field's put; the first line; three puts in turn. Assumes
 -- nothing.
-use mathlib.Core.Path.{◌≡◌, refl, sym, ◌∙◌, ap, subst}
-use mathlib.Core.Bool.{Bool, true, false, cond}
-use mathlib.Core.List.{List, [], ◌∷◌, ◌++◌}
-use Prim.Native.Nat.{ℕ, ◌+◌, ◌-◌, ◌≤◌, ◌<◌}
+use mathlib.Core.Path.{◌≡◌, sym, ◌∙◌, ap, subst}
+use mathlib.Core.Bool.{Bool, true, false}
+use mathlib.Core.List.{List, [], ◌∷◌}
+use Prim.Native.Nat.{ℕ, ◌+◌, ◌-◌, ◌≤◌}
 use native.Mathlib.Omega.{arith}
 use borrow.Author.Tests.{eq-eqb, ne_eqb, eqb-true, eqb-false}
 use lib.Dec.{eqb}
@@ -12,11 +12,11 @@ use lib.ListN.{length, get_or, drop, length-drop}
 use lib.Seq.{get_or-drop}
 use Rattle.integers.proofs.Order.{by_test}
 use Rattle.fields.specs.Fields.{fields_from, field_of}
-use Rattle.field_numbers.specs.declared.Reading.{Reading}
+use Rattle.std.specs.Prelude.{Option, is_some, option_to_list}
 use Rattle.field_numbers.specs.Numbers.{told}
 use Rattle.mesh_fields.specs.Entries.{same_bytes, is_point, point_read, point_words, is_number_or_none, number_or_none, is_split, split_of}
 use Rattle.mesh_fields.specs.Put.{Put}
-use Rattle.mesh_fields.proofs.Puts.{put_told, put_wrong, put_then, put_stops, put_none}
+use Rattle.mesh_fields.proofs.Puts.{put_told}
 use Rattle.mesh_lines.specs.Lines.{ends_at, is_passed_over, is_limit}
 
 -- ---- a line's end
@@ -57,7 +57,7 @@ module _ {l m : List ℕ} (e : l ≡ m) {at : ℕ} {a b : List ℕ} {r : Bool} w
   pub put_point_of : Put (is_point l) (point_words (point_read l)) at a b r → Put (is_point m) (point_words (point_read m)) at a b r
   put_point_of p = subst (λ f. Put (is_point f) (point_words (point_read f)) at a b r) e p
 
-  module _ {n : Reading} (p : Put n.right (n.bits ∷ []) at a b r) where
+  module _ {n : Option ℕ} (p : Put (is_some n) (option_to_list n) at a b r) where
     pub put_number_of : n ≡ told (is_number_or_none l) (number_or_none l) → Put (is_number_or_none m) (number_or_none m ∷ []) at a b r
     put_number_of q = put_told (is_number_or_none m) (number_or_none m) (q ∙ ap (λ f. told (is_number_or_none f) (number_or_none f)) e) p
 

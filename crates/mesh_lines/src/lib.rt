@@ -25,10 +25,7 @@ pub fn passed_over(line: &[u8]) -> bool
     ensures { result ≡ is_passed_over line.now }
 {
     let start = fields::field_start(line, 0);
-    if start == line.len() {
-        return true;
-    }
-    line[start] == b'#'
+    start == line.len() || line[start] == b'#'
 }
 
 // Puts the point that is field k.
@@ -56,12 +53,8 @@ fn put_points(line: &[u8], at: usize, words: &mut [u32]) -> bool
     requires { at + 6 ≤ length words.old }
     ensures { Put (are_points line.now) (corners_of (triangle_of line.now)) at words.old words.new result }
 {
-    if put_point_at(line, 0, at, words) {
-        if put_point_at(line, 1, at + 2, words) {
-            return put_point_at(line, 2, at + 4, words);
-        }
-    }
-    false
+    put_point_at(line, 0, at, words)
+        && (put_point_at(line, 1, at + 2, words) && put_point_at(line, 2, at + 4, words))
 }
 
 // Puts the neighbours that are the next three.
@@ -69,12 +62,8 @@ fn put_neighbours(line: &[u8], at: usize, words: &mut [u32]) -> bool
     requires { at + 3 ≤ length words.old }
     ensures { Put (are_neighbours line.now) (sides_of (triangle_of line.now)) at words.old words.new result }
 {
-    if put_neighbour_at(line, 3, at, words) {
-        if put_neighbour_at(line, 4, at + 1, words) {
-            return put_neighbour_at(line, 5, at + 2, words);
-        }
-    }
-    false
+    put_neighbour_at(line, 3, at, words)
+        && (put_neighbour_at(line, 4, at + 1, words) && put_neighbour_at(line, 5, at + 2, words))
 }
 
 // Puts a triangle's nine words.
@@ -82,12 +71,7 @@ pub fn put_triangle(line: &[u8], at: usize, words: &mut [u32]) -> bool
     requires { at + row_width ≤ length words.old }
     ensures { Put (is_triangle line.now) (triangle_words (triangle_of line.now)) at words.old words.new result }
 {
-    if put_points(line, at, words) {
-        if put_neighbours(line, at + 6, words) {
-            return ends(line, 6);
-        }
-    }
-    false
+    put_points(line, at, words) && (put_neighbours(line, at + 6, words) && ends(line, 6))
 }
 
 // Puts the corner limit, where the line begins `limit N` or `limit none`.
@@ -96,11 +80,9 @@ fn put_limit(line: &[u8], words: &mut [u32]) -> bool
     ensures { Put (is_limit line.now) (number_or_none (field_of 1 line.now) ∷ []) 0 words.old words.new result }
 {
     let name = fields::field(line, 0);
-    if mesh_fields::is_word(name, b"limit") {
-        let entry = fields::field(line, 1);
-        return mesh_fields::put_reading(mesh_fields::number_or_none(entry), 0, words);
-    }
-    false
+    let entry = fields::field(line, 1);
+    mesh_fields::is_word(name, b"limit")
+        && mesh_fields::put_reading(mesh_fields::number_or_none(entry), 0, words)
 }
 
 // Puts the split that is field 2.
@@ -118,10 +100,5 @@ pub fn put_head(line: &[u8], words: &mut [u32]) -> bool
     requires { 2 ≤ length words.old }
     ensures { Put (is_head line.now) (head_words line.now) 0 words.old words.new result }
 {
-    if put_limit(line, words) {
-        if put_split(line, words) {
-            return ends(line, 3);
-        }
-    }
-    false
+    put_limit(line, words) && (put_split(line, words) && ends(line, 3))
 }

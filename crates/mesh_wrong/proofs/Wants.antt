@@ -1,14 +1,12 @@
 -- What a field should be, by the tests that the code makes. In order: of the first line; of a
--- triangle's; a reading's answer; one field after another. Assumes nothing.
-use mathlib.Core.Path.{◌≡◌, refl, sym, ◌∙◌, ap}
+-- triangle's; one field after another. Assumes nothing.
+use mathlib.Core.Path.{◌≡◌, sym, ◌∙◌, ap}
 use mathlib.Core.Bool.{Bool, true, false, cond}
 use mathlib.Core.List.{List}
-use Prim.Native.Nat.{ℕ, zero, suc, ◌+◌, ◌-◌, ◌≤◌, ◌<◌}
+use Prim.Native.Nat.{ℕ, suc, ◌+◌, ◌-◌, ◌≤◌, ◌<◌}
 use native.Mathlib.Omega.{arith}
 use borrow.Author.Tests.{eq-eqb, ne_eqb, lt-ltb, le-ltb}
-use lib.Dec.{eqb, ltb}
 use Rattle.fields.specs.Fields.{field_of}
-use Rattle.field_numbers.specs.Numbers.{told}
 use Rattle.mesh_wrong.specs.declared.Wanted.{Wanted}
 use Rattle.mesh_wrong.specs.declared.Wanted.TheVariants as wanted
 use Rattle.mesh_wrong.specs.Wanted.{wanted_at, is_wanted, wrong_field_from}
@@ -49,12 +47,6 @@ module _ {k j : ℕ} (e : k ≡ 0 → ⊥) where
     pub triangle_ends : 6 ≤ j → wanted.End ≡ wanted_at k j
     unfolding wanted_at
     triangle_ends g = rw (ne_eqb k 0 e, le-ltb j 3 f, le-ltb j 6 g)
-
--- ---- a reading's answer
-
-pub right_told : (b : Bool) (v : ℕ) → (told b v).right ≡ b
-right_told true v = refl
-right_told false v = refl
 
 -- ---- one field after another
 

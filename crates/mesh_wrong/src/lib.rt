@@ -26,25 +26,15 @@ const FIELDS: usize = 7;
 pub fn wanted_at(count: usize, j: usize) -> Wanted
     ensures { result ≡ wanted_at count j }
 {
-    if count == 0 {
-        if j == 0 {
-            return Wanted::Name;
-        }
-        if j == 1 {
-            return Wanted::Limit;
-        }
-        if j == 2 {
-            return Wanted::Split;
-        }
-        return Wanted::End;
+    match (count, j) {
+        (0, 0) => Wanted::Name,
+        (0, 1) => Wanted::Limit,
+        (0, 2) => Wanted::Split,
+        (0, _) => Wanted::End,
+        (_, 0..=2) => Wanted::Point,
+        (_, 3..=5) => Wanted::Neighbour,
+        _ => Wanted::End,
     }
-    if j < 3 {
-        return Wanted::Point;
-    }
-    if j < 6 {
-        return Wanted::Neighbour;
-    }
-    Wanted::End
 }
 
 // Whether the field is a point.
@@ -61,11 +51,10 @@ fn is_wanted(wanted: Wanted, entry: &[u8]) -> bool
 {
     match wanted {
         Wanted::Name => mesh_fields::is_word(entry, b"limit"),
-        Wanted::Limit => mesh_fields::number_or_none(entry).right,
-        Wanted::Split => mesh_fields::split(entry).right,
+        Wanted::Limit | Wanted::Neighbour => mesh_fields::number_or_none(entry).is_some(),
+        Wanted::Split => mesh_fields::split(entry).is_some(),
         Wanted::Point => is_point(entry),
-        Wanted::Neighbour => mesh_fields::number_or_none(entry).right,
-        Wanted::End => entry.len() == 0,
+        Wanted::End => entry.is_empty(),
     }
 }
 
@@ -73,15 +62,12 @@ fn is_wanted(wanted: Wanted, entry: &[u8]) -> bool
 pub fn wrong_field(line: &[u8], count: usize) -> usize
     ensures { result ≡ wrong_field count line.now }
 {
-    let mut j: usize = 0;
-    while j < FIELDS {
+    for j in 0..FIELDS {
         let wanted = wanted_at(count, j);
         let entry = fields::field(line, j);
-        if is_wanted(wanted, entry) {
-            j += 1;
-        } else {
+        if !is_wanted(wanted, entry) {
             return j;
         }
     }
-    j
+    FIELDS
 }

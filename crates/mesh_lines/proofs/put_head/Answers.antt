@@ -1,7 +1,6 @@
 -- `mesh_lines::put_head` meets its contract: one put after another. Assumes nothing.
 use mathlib.Core.Path.{refl}
 use mathlib.Core.List.{[]}
-use borrow.Author.Rules.{rules}
 use Rattle.mesh_fields.proofs.Puts.{put_then, put_stops, put_none}
 use Rattle.mesh_lines.specs.Lines.{is_head}
 use Rattle.mesh_lines.proofs.put_head.Goals as goal

@@ -1,7 +1,6 @@
 -- `mesh_lines::put_points` meets its contract: one put after another. Assumes nothing.
 use mathlib.Core.Path.{refl}
 use native.Mathlib.Omega.{arith}
-use borrow.Author.Rules.{rules}
 use Rattle.mesh_fields.proofs.Puts.{put_then, put_stops}
 use Rattle.mesh_lines.specs.Lines.{are_points}
 use Rattle.mesh_lines.proofs.put_points.Goals as goal
