@@ -36,14 +36,14 @@ pub fn print(name: &[u8], n: u64, end: &[u8]) {
     io::write_all(1, &text[..size]);
 }
 
-// Writes a signed number. Below 0 its bits, read unsigned, are as far below 2^32.
+// Writes a signed number.
 pub fn print_number(n: i32) {
-    let bits = integers::unsigned(n) as u64;
+    let size = n.unsigned_abs() as u64;
     if n < 0 {
-        print(b"-", 4294967296 - bits, b"");
-        return;
+        print(b"-", size, b"");
+    } else {
+        print(b"", size, b"");
     }
-    print(b"", bits, b"");
 }
 
 // Writes a coordinate after a space.
@@ -60,19 +60,15 @@ fn print_word(n: u32) {
 // Writes a name, and each of the words.
 pub fn print_words(name: &[u8], list: &[u32]) {
     io::write_all(1, name);
-    let mut i = 0;
-    while i < list.len() {
-        print_word(list[i]);
-        i += 1;
+    for n in list {
+        print_word(*n);
     }
 }
 
 // Writes a name, and each of the coordinates.
 pub fn print_coordinates(name: &[u8], list: &[i32]) {
     io::write_all(1, name);
-    let mut i = 0;
-    while i < list.len() {
-        print_coordinate(list[i]);
-        i += 1;
+    for n in list {
+        print_coordinate(*n);
     }
 }

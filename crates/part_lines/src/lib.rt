@@ -24,10 +24,8 @@ fn print_corner(corners: &[i32], j: u32) {
 
 // Writes the corners from one number to before another.
 fn print_corners(corners: &[i32], from: u32, to: u32) {
-    let mut j = from;
-    while j < to {
+    for j in from..to {
         print_corner(corners, j);
-        j += 1;
     }
 }
 
@@ -37,20 +35,14 @@ fn print_part(starts: &[u32], corners: &[i32], k: u32) {
     if starts.len() <= at + 1 {
         return;
     }
-    if k == 0 {
-        io::write_all(1, b":");
-    } else {
-        io::write_all(1, b";");
-    }
+    io::write_all(1, if k == 0 { b":" } else { b";" });
     print_corners(corners, starts[at], starts[at + 1]);
 }
 
 // Writes the first parts of a table.
 fn print_parts(starts: &[u32], corners: &[i32], parts: u32) {
-    let mut k = 0;
-    while k < parts {
+    for k in 0..parts {
         print_part(starts, corners, k);
-        k += 1;
     }
 }
 

@@ -30,10 +30,7 @@ pub fn read_record(buf: &mut [u8]) -> usize
         return 0;
     }
     let size = table_words::word_at(buf, 0) as usize;
-    if size < HEAD {
-        return 0;
-    }
-    if size > buf.len() {
+    if size < HEAD || size > buf.len() {
         return 0;
     }
     if io::read_full(0, &mut buf[HEAD..size]) < size - HEAD {
@@ -47,18 +44,10 @@ pub fn word(bytes: &[u8], k: usize) -> u32
     ensures { result ≡ word_at bytes.now k }
 {
     if bytes.len() / WORD <= k {
-        return 0;
+        0
+    } else {
+        table_words::word_at(bytes, k)
     }
-    table_words::word_at(bytes, k)
-}
-
-fn least(a: usize, b: usize) -> usize
-    ensures { result ≡ min a b }
-{
-    if a < b {
-        return a;
-    }
-    b
 }
 
 // How many words from word k on can be read, n or fewer, into so many places.
@@ -67,9 +56,10 @@ fn readable(bytes: &[u8], k: usize, n: u32, room: usize) -> usize
 {
     let all = bytes.len() / WORD;
     if all < k {
-        return 0;
+        0
+    } else {
+        (n as usize).min(room).min(all - k)
     }
-    least(least(n as usize, room), all - k)
 }
 
 // Reads n words from word k on, as many as the record has and `to` has places, and answers how
@@ -111,11 +101,9 @@ fn row(bytes: &[u8], k: usize) -> mesh::Row
 pub fn rows(bytes: &[u8], n: u32, to: &mut [mesh::Row]) -> usize
     ensures { Listed (rows_in bytes.now (min n (length to.old))) to.old result to.new }
 {
-    let count = least(n as usize, to.len());
-    let mut k = 0;
-    while k < count {
+    let count = (n as usize).min(to.len());
+    for k in 0..count {
         to[k] = row(bytes, k);
-        k += 1;
     }
     count
 }

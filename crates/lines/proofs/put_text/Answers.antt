@@ -2,7 +2,6 @@
 use native.Mathlib.Omega.{arith}
 use Rattle.text.proofs.Fewest.{decimal_put}
 use Rattle.lines.proofs.Texts.{refused, answered}
-use borrow.Author.Rules.{rules}
 use Rattle.lines.proofs.put_text.Goals as goal
 
 pub returns-then-out-name-2 : goal.returns-then-out-name-2

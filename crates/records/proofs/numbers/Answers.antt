@@ -7,7 +7,6 @@ use Rattle.integers.specs.Lists.{overlay}
 use Rattle.table.specs.Stored.{signed}
 use Rattle.records.specs.Record.{numbers_in}
 use Rattle.records.proofs.Lists.{listed, none_listed, taken_words, length_numbers}
-use borrow.Author.Rules.{rules}
 use Rattle.records.proofs.numbers.Goals as goal
 
 pub returns-then-count-eq0 : goal.returns-then-count-eq0

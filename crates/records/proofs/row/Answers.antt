@@ -1,6 +1,5 @@
 -- `records::row` meets its contract: nine numbers over zeros. Assumes nothing.
 use Rattle.records.specs.Record.{row_in}
-use borrow.Author.Rules.{rules}
 use Rattle.records.proofs.row.Goals as goal
 
 pub returns : goal.returns

@@ -4,7 +4,6 @@ use native.Mathlib.Omega.{arith}
 use lib.ListN.{get_or-eq_default}
 use Rattle.table.specs.Stored.{words_of}
 use Rattle.table.proofs.Words.{length_words}
-use borrow.Author.Rules.{rules}
 use Rattle.records.proofs.word.Goals as goal
 
 pub returns-then-bytes-k : goal.returns-then-bytes-k

@@ -4,7 +4,6 @@ use mathlib.Core.Path.{sym, ◌∙◌, ap}
 use native.Mathlib.Omega.{arith}
 use Rattle.integers.specs.Lists.{overlay}
 use Rattle.records.proofs.Lists.{listed, none_listed, taken_words}
-use borrow.Author.Rules.{rules}
 use Rattle.records.proofs.words.Goals as goal
 
 pub returns-then-count-eq0 : goal.returns-then-count-eq0
