@@ -1,19 +1,19 @@
 -- A text that is accepted: how many of its lines say something, and what they are; that its file
 -- fits. Assumes nothing.
-use mathlib.Core.Path.{◌≡◌, refl, sym, ◌∙◌, ap}
+use mathlib.Core.Path.{◌≡◌, sym, ◌∙◌, ap}
 use mathlib.Core.Bool.{Bool, true, false, cond}
 use mathlib.Core.List.{List, [], ◌∷◌}
-use Prim.Native.Nat.{ℕ, zero, suc, ◌+◌, ◌*◌, ◌-◌, ◌≤◌, ◌<◌}
+use Prim.Native.Nat.{ℕ, ◌+◌, ◌≤◌}
 use native.Mathlib.Omega.{arith}
-use borrow.Author.Tests.{eqb-true, ne_eqb, eq-eqb}
-use lib.Dec.{eqb, ltb}
+use borrow.Author.Tests.{eqb-true, eq-eqb}
+use lib.Dec.{eqb}
 use lib.ListN.{length, get_or, drop}
 use Rattle.integers.specs.Lists.{All}
 use Rattle.integers.proofs.Order.{by_test}
 use Rattle.integers.proofs.Overlay.{length_overlay}
 use Rattle.mesh_lines.specs.Lines.{is_passed_over, is_head, is_triangle}
-use Rattle.mesh_text.specs.declared.Converted.{Converted}
-use Rattle.mesh_text.specs.declared.Converted.TheVariants as converted
+use Rattle.mesh_text.specs.declared.NotConverted.{NotConverted}
+use Rattle.std.specs.Prelude.{Result, Ok, Err}
 use Rattle.mesh_text.specs.Text.{max_written, max_telling, lines_in, file_room, fits, wrong_from, wrong_line, telling, limit_of, split_number_of, triangles_of, file_of_text}
 use Rattle.mesh_text.specs.Conversion.{too_long, conversion, bytes_converted}
 use Rattle.mesh_text.proofs.Gatherings.{telling_passed, telling_more, wrong_passed, wrong_more, fits_few, fits_head, fits_triangle, true_false}
@@ -79,17 +79,15 @@ right_text text e = right_lines 0 (lines_in text) e
 
 -- ---- the file fits
 
-is_written : Converted → Bool
-is_written (converted.Written n) = true
-is_written (converted.Wrong n) = false
-is_written converted.TooLong = false
+is_written : Result ℕ NotConverted → Bool
+is_written (Ok n) = true
+is_written (Err e) = false
 
-length_told : Converted → ℕ
-length_told (converted.Written n) = n
-length_told (converted.Wrong n) = 0
-length_told converted.TooLong = 0
+length_told : Result ℕ NotConverted → ℕ
+length_told (Ok n) = n
+length_told (Err e) = 0
 
-pub file_fits : (text : List ℕ) {m : ℕ} → conversion text ≡ converted.Written m → m ≤ file_room
+pub file_fits : (text : List ℕ) {m : ℕ} → conversion text ≡ Ok m → m ≤ file_room
 unfolding conversion is_written length_told
 file_fits text e =
     by_test (too_long text)
@@ -113,5 +111,5 @@ length_converted text old h =
     (λ w. rw (t, w)))
 
 -- what was written stands in the lent bytes
-pub written_within : (text old : List ℕ) {m : ℕ} {out : List ℕ} {r : Converted} → length old ≡ file_room → r ≡ conversion text → out ≡ bytes_converted text old → r ≡ converted.Written m → m ≤ length out
+pub written_within : (text old : List ℕ) {m : ℕ} {out : List ℕ} {r : Result ℕ NotConverted} → length old ≡ file_room → r ≡ conversion text → out ≡ bytes_converted text old → r ≡ Ok m → m ≤ length out
 written_within text old h e q w = omega (arith, file_fits text (sym e ∙ w), ap length q, length_converted text old (omega arith))

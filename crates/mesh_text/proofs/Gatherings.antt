@@ -4,8 +4,7 @@
 use mathlib.Core.Path.{◌≡◌, refl, sym, ◌∙◌, ap, subst}
 use mathlib.Core.Bool.{Bool, true, false, cond}
 use mathlib.Core.List.{List, [], ◌∷◌, ◌++◌, append_assoc, append-nil}
-use Prim.Native.Nat.{ℕ, zero, suc, ◌+◌, ◌*◌, ◌-◌, ◌≤◌, ◌<◌}
-use native.Mathlib.Numerals.{add-one}
+use Prim.Native.Nat.{ℕ, suc, ◌+◌, ◌*◌, ◌-◌, ◌≤◌, ◌<◌}
 use native.Mathlib.Omega.{arith}
 use borrow.Author.Tests.{eq-eqb, ne_eqb, eqb-true, eqb-false, ltb-false, ltb-true, lt-ltb, le-ltb}
 use lib.Dec.{eqb, ltb}
@@ -19,7 +18,6 @@ use Rattle.fields.proofs.Lines.{lines_none, lines_first}
 use Rattle.mesh_fields.specs.Put.{Put}
 use Rattle.mesh_lines.specs.Lines.{is_passed_over, is_head, head_words, is_triangle, triangle_of, triangle_words}
 use Rattle.mesh_text.specs.declared.Step.{Step}
-use Rattle.mesh_text.specs.declared.Reading.{Reading}
 use Rattle.mesh_text.specs.Text.{max_written, max_telling, mark_end, lines_in, fits, wrong_from, wrong_line, telling, line_words}
 use Rattle.mesh_text.specs.Gathering.{words_from, Taken, Gathered, fewer}
 

@@ -1,12 +1,10 @@
 -- The file of a text as the code writes it. In order: the words one after another; the words that
 -- were gathered are the file's (`file_words`); the answer. Assumes nothing.
 use mathlib.Core.Path.{◌≡◌, refl, sym, ◌∙◌, ap}
-use mathlib.Core.Bool.{Bool, true, false, cond}
 use mathlib.Core.List.{List, [], ◌∷◌, ◌++◌, map, flatten}
-use Prim.Native.Nat.{ℕ, zero, suc, ◌+◌, ◌*◌, ◌-◌, ◌≤◌, ◌<◌}
+use Prim.Native.Nat.{ℕ, ◌+◌, ◌*◌, ◌-◌, ◌≤◌, ◌<◌}
 use native.Mathlib.Omega.{arith}
 use borrow.Author.Tests.{eq-eqb, ne_eqb, lt-ltb, le-ltb}
-use lib.Dec.{eqb, ltb}
 use lib.ListN.{length, get_or, take, drop, length-map, length-drop}
 use lib.Seq.{length-take-le}
 use Rattle.integers.specs.Lists.{overlay}
@@ -19,10 +17,11 @@ use Rattle.mesh.specs.Mesh.{Mesh}
 use Rattle.mesh.specs.Rows.{row_width, row_bytes}
 use Rattle.mesh_lines.specs.Lines.{is_passed_over, head_words, triangle_of, triangle_words}
 use Rattle.mesh_text.specs.declared.Reading.{Reading}
-use Rattle.mesh_text.specs.declared.Converted.TheVariants as converted
+use Rattle.std.specs.Prelude.{Ok, Err}
+use Rattle.mesh_text.specs.declared.NotConverted.TheVariants as not_converted
 use Rattle.mesh_text.specs.Text.{lines_in, wrong_line, telling, line_words, triangles_of, file_of, file_of_text}
 use Rattle.mesh_text.specs.Gathering.{gather_room, words_from, Gathered, fewer}
-use Rattle.mesh_text.specs.Conversion.{max_text, too_long, conversion, bytes_converted}
+use Rattle.mesh_text.specs.Conversion.{max_text, conversion, bytes_converted}
 use Rattle.mesh_text.proofs.Gatherings.{telling_passed, telling_more, words_passed, words_more}
 
 -- ---- one after another
@@ -123,26 +122,26 @@ module _ {text old words : List ℕ} {r : Reading} (g : Gathered text old words 
 -- ---- the answer
 
 module _ (text out : List ℕ) where
-  pub refused_length : max_text < length text → (converted.TooLong ≡ conversion text) × (out ≡ bytes_converted text out)
+  pub refused_length : max_text < length text → (Err not_converted.TooLong ≡ conversion text) × (out ≡ bytes_converted text out)
   unfolding conversion bytes_converted
   refused_length h = (rw (lt-ltb max_text (length text) h), rw (lt-ltb max_text (length text) h))
 
   module _ (h : length text ≤ max_text) {old words : List ℕ} {r : Reading} (g : Gathered text old words r) where
-    pub refused_line : (r.wrong ≡ 0 → ⊥) → (converted.Wrong r.wrong ≡ conversion text) × (out ≡ bytes_converted text out)
+    pub refused_line : (r.wrong ≡ 0 → ⊥) → (Err (not_converted.Wrong r.wrong) ≡ conversion text) × (out ≡ bytes_converted text out)
     unfolding conversion bytes_converted
     refused_line z =
         let n : wrong_line text ≡ 0 → ⊥ = λ q. z (g.judged ∙ q) in (
-          rw (le-ltb max_text (length text) h, ne_eqb (wrong_line text) 0 n) (ap converted.Wrong g.judged),
+          rw (le-ltb max_text (length text) h, ne_eqb (wrong_line text) 0 n) (ap (λ n. Err (not_converted.Wrong n)) g.judged),
           rw (le-ltb max_text (length text) h, ne_eqb (wrong_line text) 0 n),
         )
 
     pub converted_text : r.wrong ≡ 0 → {m : ℕ} {b : List ℕ} → m ≡ 20 + row_bytes * (r.count - 1)
         → b ≡ overlay (word_bytes ((20 + row_bytes * (r.count - 1)) ∷ (r.count - 1) ∷ 20 ∷ take (row_width * (r.count - 1) + 2) words)) out
-        → (converted.Written m ≡ conversion text) × (b ≡ bytes_converted text out)
+        → (Ok m ≡ conversion text) × (b ≡ bytes_converted text out)
     unfolding conversion bytes_converted
     converted_text z e q =
         let n : wrong_line text ≡ 0 = sym g.judged ∙ z in
         let s = e ∙ ap (λ k. 20 + row_bytes * k) (many g z) ∙ sym (length_file _ _ (triangles_of text)) in (
-          rw (le-ltb max_text (length text) h, eq-eqb (wrong_line text) 0 n) (ap converted.Written s),
+          rw (le-ltb max_text (length text) h, eq-eqb (wrong_line text) 0 n) (ap Ok s),
           rw (le-ltb max_text (length text) h, eq-eqb (wrong_line text) 0 n) (q ∙ ap (λ f. overlay f out) (file_words g z)),
         )

@@ -2,8 +2,9 @@
 -- nothing.
 use Rattle.std.specs.Prelude.{Bool, cond, List, ℕ, eqb, ltb, length}
 use Rattle.integers.specs.Lists.{overlay}
-use Rattle.mesh_text.specs.declared.Converted.{Converted}
-use Rattle.mesh_text.specs.declared.Converted.TheVariants as converted
+use Rattle.mesh_text.specs.declared.NotConverted.{NotConverted}
+use Rattle.std.specs.Prelude.{Result, Ok, Err}
+use Rattle.mesh_text.specs.declared.NotConverted.TheVariants as not_converted
 use Rattle.mesh_text.specs.Text.{wrong_line, file_of_text}
 
 -- a text of more bytes is not read; the most triangles, written with no byte to spare, take less
@@ -14,9 +15,9 @@ max_text = 262144
 abbrev pub too_long : List ℕ → Bool
 too_long text = ltb max_text (length text)
 
-unfoldable pub conversion : List ℕ → Converted
+unfoldable pub conversion : List ℕ → Result ℕ NotConverted
 conversion text =
-    cond (too_long text) converted.TooLong (cond (eqb (wrong_line text) 0) (converted.Written (length (file_of_text text))) (converted.Wrong (wrong_line text)))
+    cond (too_long text) (Err not_converted.TooLong) (cond (eqb (wrong_line text) 0) (Ok (length (file_of_text text))) (Err (not_converted.Wrong (wrong_line text))))
 
 -- a refusal changes nothing
 unfoldable pub bytes_converted : List ℕ → List ℕ → List ℕ

@@ -2,7 +2,7 @@
 -- three neighbours or `none`) .. with a refusal that names the line where the text is wrong").
 -- Assumes nothing.
 use Rattle.std.specs.Prelude.{Bool, false, cond, ℕ, ◌+◌, ◌*◌, eqb, ltb, length, get_or, drop}
-use mathlib.Core.List.{List, [], ◌∷◌, ◌++◌, map, flatten}
+use mathlib.Core.List.{List, [], ◌∷◌, map, flatten}
 use Rattle.mesh.specs.Mesh.{Mesh, max_triangles}
 use Rattle.table.specs.Stored.{word_bytes}
 use Rattle.mesh.specs.Rows.{row_bytes}

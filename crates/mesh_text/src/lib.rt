@@ -36,11 +36,9 @@ const GATHER_ROOM: usize = ROW * MAX_WRITTEN + 2;
 // How many words fewer the first line gives than a triangle's.
 const FEWER: usize = ROW - 2;
 
-// What a text was turned into: a file of so many bytes; or what it was refused by: its first wrong
-// line, counted from 1, or its length.
+// What a text is refused by: its first wrong line, counted from 1, or its length.
 #[derive(Clone, Copy)]
-pub enum Converted {
-    Written(usize),
+pub enum NotConverted {
     Wrong(usize),
     TooLong,
 }
@@ -100,10 +98,7 @@ fn take_line(line: &[u8], count: usize, words: &mut [u32]) -> Step
     ensures { Taken line.now count words.old words.new result }
 {
     if mesh_lines::passed_over(line) {
-        return Step {
-            right: true,
-            count: count,
-        };
+        return Step { right: true, count };
     }
     if put_line(line, count, words) {
         return Step {
@@ -113,7 +108,7 @@ fn take_line(line: &[u8], count: usize, words: &mut [u32]) -> Step
     }
     Step {
         right: false,
-        count: count,
+        count,
     }
 }
 
@@ -145,10 +140,7 @@ fn gather(text: &[u8], words: &mut [u32]) -> Reading
             count: 0,
         };
     }
-    Reading {
-        wrong: 0,
-        count: count,
-    }
+    Reading { wrong: 0, count }
 }
 
 // Writes the file of so many triangles whose words from the corner limit on are gathered; answers
@@ -166,21 +158,21 @@ fn write_file(count: usize, gathered: &[u32], out: &mut [u8]) -> usize
     total
 }
 
-// Turns a text into a mesh file on the front of the lent bytes. Refuses a text that is too long,
-// and then by its first wrong line, before the first store.
-pub fn to_mesh_file(text: &[u8], out: &mut [u8; FILE_ROOM]) -> Converted
+// Turns a text into a mesh file on the front of the lent bytes and answers how many bytes it has.
+// Refuses a text that is too long, and then by its first wrong line, before the first store.
+pub fn to_mesh_file(text: &[u8], out: &mut [u8; FILE_ROOM]) -> Result<usize, NotConverted>
     ensures told { result ≡ conversion text.now }
     ensures bytes { out.new ≡ bytes_converted text.now out.old }
 {
     if text.len() > MAX_TEXT {
-        return Converted::TooLong;
+        return Err(NotConverted::TooLong);
     }
     let mut words = [0u32; GATHER_ROOM];
     let read = gather(text, &mut words);
     if read.wrong != 0 {
-        return Converted::Wrong(read.wrong);
+        return Err(NotConverted::Wrong(read.wrong));
     }
     let count = read.count - 1;
     let size = ROW * count + 2;
-    Converted::Written(write_file(count, &words[..size], out))
+    Ok(write_file(count, &words[..size], out))
 }

@@ -1,8 +1,8 @@
 -- A line found by its number (`Sought`): what the loop keeps (`Seeking`), and how it begins, goes
 -- on and ends. Assumes nothing.
-use mathlib.Core.Path.{◌≡◌, refl, sym, ◌∙◌, ap}
-use mathlib.Core.Bool.{Bool, true, false, cond}
-use mathlib.Core.List.{List, [], ◌∷◌}
+use mathlib.Core.Path.{◌≡◌, sym, ◌∙◌, ap}
+use mathlib.Core.Bool.{true, false, cond}
+use mathlib.Core.List.{List}
 use Prim.Native.Nat.{ℕ, ◌+◌, ◌-◌, ◌≤◌, ◌<◌}
 use native.Mathlib.Omega.{arith}
 use borrow.Author.Tests.{lt-ltb, le-ltb}
@@ -13,8 +13,7 @@ use Rattle.fields.specs.declared.Run.TheVariants as run
 use Rattle.fields.proofs.Lines.{lines_none}
 use Rattle.mesh_text.specs.Text.{mark_end, lines_in}
 use Rattle.mesh_text.proofs.Gatherings.{lines_at}
-use Rattle.mesh_told.specs.declared.Found.{Found}
-use Rattle.mesh_told.specs.Told.{said_of, says, said_at, text_ends_word}
+use Rattle.mesh_told.specs.Told.{said_of, says, said_at}
 use Rattle.mesh_told.specs.Search.{Sought}
 
 -- what holds where the lines before place `from` are passed, of which `count` say something

@@ -4,7 +4,7 @@
 -- (`wrong-pieces`); by what the text was turned into (`told_written`, `told_wrong`, `told_long`).
 -- Assumes nothing.
 use mathlib.Core.Path.{◌≡◌, refl, sym, ◌∙◌, ap}
-use mathlib.Core.Bool.{Bool, true, false, cond}
+use mathlib.Core.Bool.{true, false, cond}
 use mathlib.Core.List.{List, [], ◌∷◌, ◌++◌}
 use Prim.Native.Nat.{ℕ, ◌+◌, ◌-◌, ◌≤◌, ◌<◌}
 use native.Mathlib.Omega.{arith}
@@ -23,8 +23,9 @@ use Rattle.mesh_wrong.specs.declared.Wanted.{Wanted}
 use Rattle.mesh_wrong.specs.declared.Wanted.TheVariants as wanted
 use Rattle.mesh_wrong.specs.Wanted.{wanted_at, wrong_field}
 use Rattle.mesh_text.specs.Text.{max_written, lines_in}
-use Rattle.mesh_text.specs.declared.Converted.{Converted}
-use Rattle.mesh_text.specs.declared.Converted.TheVariants as converted
+use Rattle.mesh_text.specs.declared.NotConverted.{NotConverted}
+use Rattle.std.specs.Prelude.{Result, Ok, Err}
+use Rattle.mesh_text.specs.declared.NotConverted.TheVariants as not_converted
 use Rattle.mesh_told.specs.declared.Found.{Found}
 use Rattle.mesh_told.specs.Told.{line_word, colon_word, ends_word, quote_word, stands_word, many_word, text_ends_word, long_word, shown_of, standing, should, said_of, says, said_at, wrong_told, told_of, standing_room, should_room, said_room, told_room}
 use Rattle.mesh_told.specs.Search.{Sought}
@@ -141,26 +142,26 @@ module _ {text : List ℕ} {n : ℕ} {f : Found} (s : Sought text n f) {a b : �
 
 -- ---- by what the text was turned into
 
-told_room_lem : (t : Converted) (text : List ℕ) → length (told_of t text) ≤ told_room
+told_room_lem : (t : Result ℕ NotConverted) (text : List ℕ) → length (told_of t text) ≤ told_room
 unfolding told_of
-told_room_lem (converted.Written n) text = omega arith
-told_room_lem (converted.Wrong n) text = wrong_room text n
-told_room_lem converted.TooLong text = omega arith
+told_room_lem (Ok n) text = omega arith
+told_room_lem (Err (not_converted.Wrong n)) text = wrong_room text n
+told_room_lem (Err not_converted.TooLong) text = omega arith
 
 -- what is put lies within the lent bytes
-told : (t : Converted) (text : List ℕ) {out out' : List ℕ} {r : ℕ} → told_room ≤ length out → PutText (told_of t text) 0 out out' r
+told : (t : Result ℕ NotConverted) (text : List ℕ) {out out' : List ℕ} {r : ℕ} → told_room ≤ length out → PutText (told_of t text) 0 out out' r
     → PutText (told_of t text) 0 out out' r × IsPrefixLen r out'
 told t text h p = (p, put_within p (omega (arith, told_room_lem t text)))
 
-pub told_written : {t : Converted} (text : List ℕ) {out : List ℕ} {n : ℕ} → t ≡ converted.Written n → PutText (told_of t text) 0 out out 0 × IsPrefixLen 0 out
+pub told_written : {t : Result ℕ NotConverted} (text : List ℕ) {out : List ℕ} {n : ℕ} → t ≡ Ok n → PutText (told_of t text) 0 out out 0 × IsPrefixLen 0 out
 unfolding told_of
 told_written text {out} e = (put_as (sym (ap (λ c. told_of c text) e)) (put_none out (omega arith)), (omega arith, refl))
 
-module _ {t : Converted} (text : List ℕ) {out : List ℕ} (h : told_room ≤ length out) where
-  pub told_wrong : {n r : ℕ} {out' : List ℕ} → t ≡ converted.Wrong n → PutText (wrong_told text n) 0 out out' r → PutText (told_of t text) 0 out out' r × IsPrefixLen r out'
+module _ {t : Result ℕ NotConverted} (text : List ℕ) {out : List ℕ} (h : told_room ≤ length out) where
+  pub told_wrong : {n r : ℕ} {out' : List ℕ} → t ≡ Err (not_converted.Wrong n) → PutText (wrong_told text n) 0 out out' r → PutText (told_of t text) 0 out out' r × IsPrefixLen r out'
   unfolding told_of
   told_wrong e p = told t text h (put_as (sym (ap (λ c. told_of c text) e)) p)
 
-  pub told_long : {r : ℕ} {out' : List ℕ} → t ≡ converted.TooLong → PutText long_word 0 out out' r → PutText (told_of t text) 0 out out' r × IsPrefixLen r out'
+  pub told_long : {r : ℕ} {out' : List ℕ} → t ≡ Err not_converted.TooLong → PutText long_word 0 out out' r → PutText (told_of t text) 0 out out' r × IsPrefixLen r out'
   unfolding told_of
   told_long e p = told t text h (put_as (sym (ap (λ c. told_of c text) e)) p)

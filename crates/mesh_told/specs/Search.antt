@@ -1,5 +1,5 @@
 -- A line found by its number. Assumes nothing.
-use Rattle.std.specs.Prelude.{◌≡◌, true, cond, List, ℕ, ◌-◌, ◌≤◌, length, take, drop}
+use Rattle.std.specs.Prelude.{◌≡◌, cond, List, ℕ, ◌-◌, ◌≤◌, length, take, drop}
 use Rattle.mesh_text.specs.Text.{lines_in}
 use Rattle.mesh_told.specs.declared.Found.{Found}
 use Rattle.mesh_told.specs.Told.{said_of, said_at, text_ends_word}

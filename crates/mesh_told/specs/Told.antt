@@ -8,8 +8,9 @@ use Rattle.mesh_wrong.specs.declared.Wanted.{Wanted}
 use Rattle.mesh_wrong.specs.declared.Wanted.TheVariants as wanted
 use Rattle.mesh_wrong.specs.Wanted.{wanted_at, wrong_field}
 use Rattle.mesh_text.specs.Text.{max_written, lines_in}
-use Rattle.mesh_text.specs.declared.Converted.{Converted}
-use Rattle.mesh_text.specs.declared.Converted.TheVariants as converted
+use Rattle.mesh_text.specs.declared.NotConverted.{NotConverted}
+use Rattle.std.specs.Prelude.{Result, Ok, Err}
+use Rattle.mesh_text.specs.declared.NotConverted.TheVariants as not_converted
 
 -- ---- words
 
@@ -123,10 +124,10 @@ said_at n k (l ∷ ls) = cond (ltb n 2) (said_of k l) (said_at (n - 1) (k + says
 unfoldable pub wrong_told : List ℕ → ℕ → List ℕ
 wrong_told text n = ((line_word ++ decimal n) ++ colon_word) ++ said_at n 0 (lines_in text)
 
-unfoldable pub told_of : Converted → List ℕ → List ℕ
-told_of (converted.Written length) text = []
-told_of (converted.Wrong n) text = wrong_told text n
-told_of converted.TooLong text = long_word
+unfoldable pub told_of : Result ℕ NotConverted → List ℕ → List ℕ
+told_of (Ok length) text = []
+told_of (Err (not_converted.Wrong n)) text = wrong_told text n
+told_of (Err not_converted.TooLong) text = long_word
 
 -- ---- room
 

@@ -12,7 +12,7 @@ ghost use Rattle.mesh_told.specs.Told.{shown_of, standing, should, said_of, says
 ghost use Rattle.mesh_told.specs.Search.{Sought};
 
 use fields::Run;
-use mesh_text::{Converted, MAX_WRITTEN};
+use mesh_text::{MAX_WRITTEN, NotConverted};
 use mesh_wrong::Wanted;
 
 // The bytes of the longest that is told of a text; a line's number has at most 20 digits.
@@ -34,10 +34,7 @@ pub struct Found {
 fn shown(n: usize) -> usize
     ensures { (result ≡ shown_of n) × (result ≤ n) }
 {
-    if n > MAX_SHOWN {
-        return MAX_SHOWN;
-    }
-    n
+    n.min(MAX_SHOWN)
 }
 
 // What stands at a wrong field.
@@ -91,10 +88,7 @@ fn put_said(line: &[u8], count: usize, out: &mut [u8], at: usize) -> usize
 fn says_something(line: &[u8]) -> usize
     ensures { (result ≡ says line.now) × (result ≤ 1) }
 {
-    if mesh_lines::passed_over(line) {
-        return 0;
-    }
-    1
+    if mesh_lines::passed_over(line) { 0 } else { 1 }
 }
 
 // Finds a line by its number, counted from 1.
@@ -109,9 +103,9 @@ fn find(text: &[u8], number: usize) -> Found
         if left < 2 {
             return Found {
                 there: true,
-                from: from,
-                end: end,
-                count: count,
+                from,
+                end,
+                count,
             };
         }
         count += says_something(&text[from..end]);
@@ -135,9 +129,7 @@ fn put_wrong(text: &[u8], number: usize, out: &mut [u8]) -> usize
     let at = text::put_bytes(b": ", out, named);
     let found = find(text, number);
     if found.there {
-        let from = found.from;
-        let end = found.end;
-        return put_said(&text[from..end], found.count, out, at);
+        return put_said(&text[found.from..found.end], found.count, out, at);
     }
     text::put_bytes(b"the text ends where limit should\n", out, at)
 }
@@ -145,13 +137,19 @@ fn put_wrong(text: &[u8], number: usize, out: &mut [u8]) -> usize
 // Puts what is told of a text on the front of the lent bytes and answers how many bytes it has,
 // none where a file was written. The last clause says again, in io's words, that they stand within
 // the lent ones, for a caller that lends them on.
-pub fn put_told(told: Converted, text: &[u8], out: &mut [u8; TOLD_ROOM]) -> usize
+pub fn put_told(told: Result<usize, NotConverted>, text: &[u8], out: &mut [u8; TOLD_ROOM]) -> usize
     ensures text { PutText (told_of told text.now) 0 out.old out.new result }
     ensures counted { IsPrefixLen result out.new }
 {
-    match told {
-        Converted::Written(_length) => 0,
-        Converted::Wrong(number) => put_wrong(text, number, out),
-        Converted::TooLong => text::put_bytes(b"the text is longer than 262,144 bytes\n", out, 0),
+    let Err(refused) = told else {
+        return 0;
+    };
+    match refused {
+        NotConverted::Wrong(number) => put_wrong(text, number, out),
+        NotConverted::TooLong => text::put_bytes(
+            b"the text is longer than 262,144 bytes\n",
+            out,
+            0,
+        ),
     }
 }

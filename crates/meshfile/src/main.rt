@@ -4,7 +4,7 @@
 // mesh_told/specs/Told.antt. Leans on mesh_text, mesh_told, input and io.
 #![tactic(auto)]
 
-use mesh_text::{Converted, FILE_ROOM};
+use mesh_text::FILE_ROOM;
 use mesh_told::TOLD_ROOM;
 
 // One byte more than the longest text, so that a longer one is told from it.
@@ -18,7 +18,7 @@ fn main(rt: HostRuntime) {
     let mut said = [0u8; TOLD_ROOM];
     let length = mesh_told::put_told(told, &text[..size], &mut said);
     io::write_all(2, &said[..length]);
-    if let Converted::Written(written) = told {
+    if let Ok(written) = told {
         input::write_output(&rt, &file[..written]);
     }
 }

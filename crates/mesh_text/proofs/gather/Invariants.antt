@@ -1,10 +1,8 @@
 -- `mesh_text::gather` meets its contract. The loop's invariant: `Going` of Gatherings. Assumes
 -- nothing.
 use Prim.Native.Nat.{◌-◌}
-use native.Mathlib.Omega.{arith}
-use borrow.Author.Rules.{rules}
 use lib.ListN.{length}
-use Rattle.mesh_text.proofs.Gatherings.{Going, going_begins, going_on, going_wrong, no_first_line, all_gathered}
+use Rattle.mesh_text.proofs.Gatherings.{Going}
 use Rattle.mesh_text.proofs.gather.Given as goal
 
 abbrev pub invariant-loop-at : goal.invariant-loop-at

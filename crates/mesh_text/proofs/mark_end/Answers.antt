@@ -1,7 +1,6 @@
 -- `mesh_text::mark_end` meets its contract, test by test. Assumes nothing.
 use native.Mathlib.Omega.{arith}
 use Rattle.mesh_text.proofs.Mark.{mark_short, first_other, second_other, third_other, marked}
-use borrow.Author.Rules.{rules}
 use Rattle.mesh_text.proofs.mark_end.Goals as goal
 
 pub returns-then-text-lt3 : goal.returns-then-text-lt3

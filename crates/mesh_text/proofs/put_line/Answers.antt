@@ -1,5 +1,4 @@
 -- `mesh_text::put_line` meets its contract. Assumes nothing.
-use borrow.Author.Rules.{rules}
 use Rattle.mesh_fields.proofs.Puts.{put_wrong}
 use Rattle.mesh_text.proofs.Gatherings.{fits_many, put_first, put_next}
 use Rattle.mesh_text.proofs.put_line.Goals as goal

@@ -1,6 +1,5 @@
 -- `mesh_text::take_line` meets its contract. Assumes nothing.
 use mathlib.Core.Path.{sym, ◌∙◌}
-use borrow.Author.Rules.{rules}
 use Rattle.mesh_text.proofs.Gatherings.{taken_passed, taken_right, taken_wrong}
 use Rattle.mesh_text.proofs.take_line.Goals as goal
 

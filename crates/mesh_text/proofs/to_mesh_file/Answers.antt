@@ -1,8 +1,5 @@
 -- `mesh_text::to_mesh_file` meets its contract. Assumes nothing.
-use mathlib.Core.Path.{refl, sym}
-use native.Mathlib.Omega.{arith}
-use borrow.Author.Rules.{rules}
-use Rattle.mesh_text.proofs.Writing.{gathered_room, gathered_length, refused_length, refused_line, converted_text}
+use Rattle.mesh_text.proofs.Writing.{refused_length, refused_line, converted_text}
 use Rattle.mesh_text.proofs.to_mesh_file.Goals as goal
 
 pub returns-then-text-gt-MAX_TEXT : goal.returns-then-text-gt-MAX_TEXT

@@ -1,7 +1,5 @@
 -- `mesh_text::write_file` meets its contract. Assumes nothing.
-use mathlib.Core.Path.{refl}
 use native.Mathlib.Omega.{arith}
-use borrow.Author.Rules.{rules}
 use Rattle.mesh_text.proofs.Writing.{put_file}
 use Rattle.mesh_text.proofs.write_file.Goals as goal
 

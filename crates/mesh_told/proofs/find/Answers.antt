@@ -1,10 +1,6 @@
 -- `mesh_told::find` meets its contract. The loop's invariant: `Seeking` of Finding. Assumes
 -- nothing.
-use Prim.Native.Nat.{◌-◌}
-use native.Mathlib.Omega.{arith}
-use borrow.Author.Rules.{rules}
-use lib.ListN.{length}
-use Rattle.mesh_told.proofs.Finding.{Seeking, seeking_begins, found, seeking_on, not_found}
+use Rattle.mesh_told.proofs.Finding.{found, seeking_on, not_found}
 use Rattle.mesh_told.proofs.find.Goals as goal
 
 pub returns-then-left-lt2 : goal.returns-then-left-lt2

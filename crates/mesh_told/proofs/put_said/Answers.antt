@@ -4,7 +4,6 @@ use native.Mathlib.Omega.{arith}
 use lib.ListN.{length}
 use Rattle.mesh_told.specs.Told.{said_room}
 use Rattle.mesh_told.proofs.Telling.{put_many, put_pieces, standing_after}
-use borrow.Author.Rules.{rules}
 use Rattle.mesh_told.proofs.put_said.Goals as goal
 
 pub returns-then-count-gt-MAX_WRITTEN : goal.returns-then-count-gt-MAX_WRITTEN

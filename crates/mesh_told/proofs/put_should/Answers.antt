@@ -2,7 +2,6 @@
 use mathlib.Core.Path.{sym, ap}
 use Rattle.mesh_told.specs.Told.{should}
 use Rattle.text.proofs.Puts.{put_as}
-use borrow.Author.Rules.{rules}
 use Rattle.mesh_told.proofs.put_should.Goals as goal
 
 pub returns-in-Name : goal.returns-in-Name

@@ -1,12 +1,9 @@
 -- `mesh_told::put_standing` meets its contract. Assumes nothing.
-use mathlib.Core.Path.{sym}
 use Prim.Native.Nat.{◌+◌, ◌≤◌}
 use native.Mathlib.Omega.{arith}
 use lib.ListN.{length}
-use lib.Seq.{length-take-le}
 use Rattle.mesh_told.specs.Told.{standing_room}
-use Rattle.mesh_told.proofs.Telling.{shown_few, put_ends, put_quoted}
-use borrow.Author.Rules.{rules}
+use Rattle.mesh_told.proofs.Telling.{put_ends, put_quoted}
 use Rattle.mesh_told.proofs.put_standing.Goals as goal
 
 pub returns-then-entry-eq0 : goal.returns-then-entry-eq0

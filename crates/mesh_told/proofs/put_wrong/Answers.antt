@@ -2,7 +2,6 @@
 use native.Mathlib.Omega.{arith}
 use Rattle.text.proofs.Sizes.{decimal_size}
 use Rattle.mesh_told.proofs.Telling.{line_told, end_told}
-use borrow.Author.Rules.{rules}
 use Rattle.mesh_told.proofs.put_wrong.Goals as goal
 
 pub put_word_decimal-named-requires : goal.put_word_decimal-named-requires
