@@ -78,5 +78,6 @@ number_above fault.CornerRoom = omega arith
 number_above fault.StartRoom = omega arith
 number_above fault.Place = omega arith
 
-pub refused_above : {T : Type 0} {r : Result T Fault} {f : Fault} → r ≡ Err f → 0 < told r
-refused_above {f = f} e = omega (arith, number_above f, ap told e)
+-- so a number that is a fault's is not 0
+pub not_0 : {n : ℕ} (f : Fault) → n ≡ number f → n ≡ 0 → ⊥
+not_0 f e z = absurd (omega (arith, e, z, number_above f))

@@ -6,11 +6,13 @@
 
 ghost use Rattle.std.specs.Prelude.{◌≡◌, false, ◌++◌, ◌∷◌, [], eqb};
 ghost use Rattle.integers.specs.Faults.{first_fault, fault_empty, fault_result};
+ghost use Rattle.faults.specs.Told.{told};
 ghost use Rattle.corners.specs.Corners.{off_range};
 ghost use Rattle.table.specs.Table.{bounds_list, part_count};
 ghost use Rattle.minkowski.specs.Pairs.{result_bounds};
 ghost use Rattle.minkowski_faults.specs.Kinds.{operand, operand_kinds};
 
+use faults::Fault;
 use table::IntRect;
 
 // Whether one of two numbers is not strictly between the limits.
@@ -34,7 +36,7 @@ fn operand_off(corners: &[i32], bounds: IntRect) -> bool
     corners::off_range(corners) || bounds_off(bounds)
 }
 
-// The first of 7, 2 and 9 that holds of two operands, each left before right; 0 for none.
+// The first of 7, 2 and 9 that holds of two operands, each left before right.
 pub fn operands_fault(
     left_starts: &[u32],
     left_corners: &[i32],
@@ -42,25 +44,25 @@ pub fn operands_fault(
     right_starts: &[u32],
     right_corners: &[i32],
     right_bounds: IntRect,
-) -> u32
+) -> Result<(), Fault>
     ensures { let left = operand left_starts.now left_corners.now left_bounds in
         let right = operand right_starts.now right_corners.now right_bounds in
-        result ≡ first_fault (operand_kinds left right) }
+        told result ≡ first_fault (operand_kinds left right) }
 {
     if table::rules_broken(left_starts, left_corners)
         || table::rules_broken(right_starts, right_corners)
     {
-        return integers::fault::RULES;
+        return Err(Fault::Rules);
     }
     if operand_off(left_corners, left_bounds) || operand_off(right_corners, right_bounds) {
-        return integers::fault::RANGE;
+        return Err(Fault::Range);
     }
     if table::bounds_broken(left_bounds, left_corners)
         || table::bounds_broken(right_bounds, right_corners)
     {
-        return integers::fault::BOUNDS;
+        return Err(Fault::Bounds);
     }
-    0
+    Ok(())
 }
 
 // The bounds of a sum: least with least, greatest with greatest; of a difference: left least less
@@ -88,18 +90,18 @@ pub fn result_bounds(left: IntRect, right: IntRect, reflected: bool) -> IntRect
 
 // The first of 10 and 20 that holds: `bounds` are the result's, and each operand has one part fewer
 // than starts.
-pub fn result_fault(bounds: IntRect, left_starts: &[u32], right_starts: &[u32]) -> u32
-    ensures { result ≡ first_fault (
+pub fn result_fault(bounds: IntRect, left_starts: &[u32], right_starts: &[u32]) -> Result<(), Fault>
+    ensures { told result ≡ first_fault (
         (fault_result, off_range (bounds_list bounds))
         ∷ (fault_empty, eqb (part_count left_starts.now) 0)
         ∷ (fault_empty, eqb (part_count right_starts.now) 0)
         ∷ []) }
 {
     if bounds_off(bounds) {
-        return integers::fault::RESULT;
+        return Err(Fault::Result);
     }
     if left_starts.len() <= 1 || right_starts.len() <= 1 {
-        return integers::fault::EMPTY;
+        return Err(Fault::Empty);
     }
-    0
+    Ok(())
 }

@@ -70,7 +70,7 @@ pub fn pairs_keyed(
     ensures { let x = call_of operation left_starts.now left_corners.now right_starts.now right_corners.now in
         Answers x starts.old corners.old result starts.new corners.new }
 {
-    let fault = minkowski_work::walks_fault(
+    let judged = minkowski_work::walks_fault(
         operation,
         left_starts,
         left_corners,
@@ -79,8 +79,8 @@ pub fn pairs_keyed(
         points,
         firsts,
     );
-    if fault != 0 {
-        return minkowski_answer::refusal(fault);
+    if let Err(fault) = judged {
+        return minkowski_answer::refusal(fault.number());
     }
     let reflected = operation.reflected;
     let bounds = minkowski_faults::result_bounds(operation.left, operation.right, reflected);

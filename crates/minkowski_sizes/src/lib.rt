@@ -133,7 +133,7 @@ pub fn tiny_pairs(
     ensures { let x = call_of operation left_starts.now left_corners.now right_starts.now right_corners.now in
         Answers x starts.old corners.old result starts.new corners.new }
 {
-    let fault = minkowski_faults::operands_fault(
+    let judged = minkowski_faults::operands_fault(
         left_starts,
         left_corners,
         operation.left,
@@ -141,8 +141,8 @@ pub fn tiny_pairs(
         right_corners,
         operation.right,
     );
-    if fault != 0 {
-        return minkowski_answer::refusal(fault);
+    if let Err(fault) = judged {
+        return minkowski_answer::refusal(fault.number());
     }
     pairs_in::<TINY_WORK, TINY_WORK>(
         operation,
@@ -185,7 +185,7 @@ pub fn small_pairs(
     ensures { let x = call_of operation left_starts.now left_corners.now right_starts.now right_corners.now in
         Answers x starts.old corners.old result starts.new corners.new }
 {
-    let fault = minkowski_faults::operands_fault(
+    let judged = minkowski_faults::operands_fault(
         left_starts,
         left_corners,
         operation.left,
@@ -193,8 +193,8 @@ pub fn small_pairs(
         right_corners,
         operation.right,
     );
-    if fault != 0 {
-        return minkowski_answer::refusal(fault);
+    if let Err(fault) = judged {
+        return minkowski_answer::refusal(fault.number());
     }
     if few_pairs(left_starts, left_corners, right_starts, right_corners) {
         pairs_in::<SMALL_WORK, SMALL_WORK>(
@@ -232,7 +232,7 @@ pub fn large_pairs(
     ensures { let x = call_of operation left_starts.now left_corners.now right_starts.now right_corners.now in
         Answers x starts.old corners.old result starts.new corners.new }
 {
-    let fault = minkowski_faults::operands_fault(
+    let judged = minkowski_faults::operands_fault(
         left_starts,
         left_corners,
         operation.left,
@@ -240,8 +240,8 @@ pub fn large_pairs(
         right_corners,
         operation.right,
     );
-    if fault != 0 {
-        return minkowski_answer::refusal(fault);
+    if let Err(fault) = judged {
+        return minkowski_answer::refusal(fault.number());
     }
     if few_pairs(left_starts, left_corners, right_starts, right_corners) {
         pairs_in::<ANY_POINTS, ANY_FIRSTS>(

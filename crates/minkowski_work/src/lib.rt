@@ -6,9 +6,11 @@
 #![tactic(auto)]
 
 ghost use Rattle.std.specs.Prelude.{◌≡◌, false, ◌+◌, ◌*◌, ◌/◌, length};
+ghost use Rattle.faults.specs.Told.{told};
 ghost use Rattle.table.specs.Table.{table_broken, part_count};
 ghost use Rattle.minkowski_work.specs.Scratch.{call_of, Answers, AcceptedWithRoom, WalksTold};
 
+use faults::Fault;
 use minkowski::{Operation, PairCounts};
 
 // How many corners all pairs have at most: R for each left one and L for each right one.
@@ -30,7 +32,7 @@ pub fn most_corners(
 }
 
 // Unrolls two operands that 7, 2 and 9 are not told of, each part to points once, and judges the
-// result: the first of 8, 10 and 20 that holds; 0 for none, and then the work buffers hold the
+// result: the first of 8, 10 and 20 that holds. Where none does, the work buffers hold the
 // walks of both.
 pub fn walks_fault(
     operation: Operation,
@@ -40,20 +42,20 @@ pub fn walks_fault(
     right_corners: &[i32],
     points: &mut [[i32; 2]],
     firsts: &mut [u32],
-) -> u32
+) -> Result<(), Fault>
     requires { let x = call_of operation left_starts.now left_corners.now right_starts.now right_corners.now in
         AcceptedWithRoom x points.old firsts.old }
     ensures { let x = call_of operation left_starts.now left_corners.now right_starts.now right_corners.now in
-        WalksTold x points.new firsts.new result }
+        WalksTold x points.new firsts.new (told result) }
 {
     let reflected = operation.reflected;
     points::put_start(firsts, 0, 0);
     if pair_unroll_all::unroll_all(left_starts, left_corners, false, 0, points, firsts) {
-        return integers::fault::WINDING;
+        return Err(Fault::Winding);
     }
     let left = left_starts.len() - 1;
     if pair_unroll_all::unroll_all(right_starts, right_corners, reflected, left, points, firsts) {
-        return integers::fault::WINDING;
+        return Err(Fault::Winding);
     }
     let bounds = minkowski_faults::result_bounds(operation.left, operation.right, reflected);
     minkowski_faults::result_fault(bounds, left_starts, right_starts)
@@ -77,7 +79,7 @@ pub fn pairs_over(
     ensures { let x = call_of operation left_starts.now left_corners.now right_starts.now right_corners.now in
         Answers x starts.old corners.old result starts.new corners.new }
 {
-    let fault = walks_fault(
+    let judged = walks_fault(
         operation,
         left_starts,
         left_corners,
@@ -86,8 +88,8 @@ pub fn pairs_over(
         points,
         firsts,
     );
-    if fault != 0 {
-        return minkowski_answer::refusal(fault);
+    if let Err(fault) = judged {
+        return minkowski_answer::refusal(fault.number());
     }
     let reflected = operation.reflected;
     let bounds = minkowski_faults::result_bounds(operation.left, operation.right, reflected);

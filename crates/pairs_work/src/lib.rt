@@ -7,10 +7,12 @@
 #![tactic(auto)]
 
 ghost use Rattle.std.specs.Prelude.{◌≡◌};
+ghost use Rattle.faults.specs.Told.{told};
 ghost use Rattle.minkowski_work.specs.Scratch.{call_of};
 ghost use Rattle.pairs_job.specs.Job.{job_fault};
 ghost use Rattle.pairs_work.specs.Begun.{Large, Places, Shapely, job_call, PairsTold, refused_begun, Begins, CallBegins};
 
+use faults::Fault;
 use minkowski::Operation;
 use pairs_job::{LEFT, LEFT_BOUNDS};
 use table::IntRect;
@@ -52,7 +54,7 @@ fn refused(fault: u32) -> Begun
     }
 }
 
-// The first fault of two operands in the order of pairs up to 20; 0 for none, and then the work
+// The first fault of two operands in the order of pairs up to 20; where there is none, the work
 // buffers hold the walks of both.
 fn pairs_fault(
     operation: Operation,
@@ -62,22 +64,19 @@ fn pairs_fault(
     right_corners: &[i32],
     points: &mut [[i32; 2]],
     firsts: &mut [u32],
-) -> u32
+) -> Result<(), Fault>
     requires { Large points.old firsts.old }
     ensures { let x = call_of operation left_starts.now left_corners.now right_starts.now right_corners.now in
-        PairsTold x points.new firsts.new result }
+        PairsTold x points.new firsts.new (told result) }
 {
-    let fault = minkowski_faults::operands_fault(
+    minkowski_faults::operands_fault(
         left_starts,
         left_corners,
         operation.left,
         right_starts,
         right_corners,
         operation.right,
-    );
-    if fault != 0 {
-        return fault;
-    }
+    )?;
     minkowski_work::walks_fault(
         operation,
         left_starts,
@@ -105,7 +104,7 @@ pub fn begin_operands(
     ensures { let x = call_of operation left_starts.now left_corners.now right_starts.now right_corners.now in
         CallBegins x points.new firsts.new numbers.new result }
 {
-    let fault = pairs_fault(
+    let judged = pairs_fault(
         operation,
         left_starts,
         left_corners,
@@ -114,8 +113,8 @@ pub fn begin_operands(
         points,
         firsts,
     );
-    if fault != 0 {
-        return refused(fault);
+    if let Err(fault) = judged {
+        return refused(fault.number());
     }
     let left = left_starts.len() - 1;
     let right = right_starts.len() - 1;
@@ -181,9 +180,8 @@ pub fn begin_job(
 ) -> Begun
     ensures { Begins (job_call bytes.now) (job_fault bytes.now) points.new firsts.new numbers.new result }
 {
-    let fault = pairs_job::shape_fault(bytes);
-    if fault != 0 {
-        return refused(fault);
+    if let Err(fault) = pairs_job::shape_fault(bytes) {
+        return refused(fault.number());
     }
     let mut left_starts = [0u32; STARTS];
     let mut left_corners = [0i32; corners::WIDTH * table::MAX_CORNERS];

@@ -1,6 +1,6 @@
 -- `minkowski_keyed::pairs_keyed` meets its contract: a refusal, or the answer of `hand_out`, which
 -- is that for the operands. Assumes nothing.
-use mathlib.Core.Path.{sym, ◌∙◌}
+use mathlib.Core.Path.{sym, ◌∙◌, ap}
 use native.Mathlib.Omega.{arith}
 use lib.ListN.{length}
 use Rattle.table.proofs.Rules.{sound}
@@ -10,13 +10,15 @@ use Rattle.minkowski_work.specs.Scratch.{call_of}
 use Rattle.minkowski_work.proofs.Faults.{walks_refused, room_decides}
 use Rattle.minkowski_work.proofs.Walked.{left_judged, right_judged, unrolleds, answered}
 use Rattle.minkowski_keyed.proofs.Numbers.{keyed}
+use Rattle.faults.specs.Told.{told}
+use Rattle.faults.proofs.Numbers.{not_0}
 use Rattle.minkowski_keyed.proofs.pairs_keyed.Goals as goal
 
-pub returns-then-fault-ne0 : goal.returns-then-fault-ne0
-returns-then-fault-ne0 c = let g = c.args in
+pub returns-in-Err : goal.returns-in-Err
+returns-in-Err c = let g = c.args in
     let x = call_of g.operation g.left_starts.now g.left_corners.now g.right_starts.now g.right_corners.now in
-    let e = walks_refused x.reflected x.left x.right (length g.starts.now) (length g.corners.now) c.requires.ready.accepted c.walks_fault-fault.ensures.told c.if-fault-ne0.true in
-    refused (pair_contours x.reflected x.left x.right) (result_bounds x.reflected x.left.bounds x.right.bounds) g.starts.now g.corners.now e c.if-fault-ne0.true c.refusal.ensures
+    let e = walks_refused x.reflected x.left x.right (length g.starts.now) (length g.corners.now) c.requires.ready.accepted (c.number.ensures ∙ ap told (sym c.in-Err.is) ∙ c.walks_fault-judged.ensures.told) (not_0 c.in-Err.fault c.number.ensures) in
+    refused (pair_contours x.reflected x.left x.right) (result_bounds x.reflected x.left.bounds x.right.bounds) g.starts.now g.corners.now e (not_0 c.in-Err.fault c.number.ensures) c.refusal.ensures
 
 pub result_bounds-bounds-requires : goal.result_bounds-bounds-requires
 result_bounds-bounds-requires c = let g = c.args in
@@ -41,23 +43,23 @@ overflow_sub-right c = let g = c.args in
 pub hand_out_keyed-requires-clause-walks : goal.hand_out_keyed-requires-clause-walks
 hand_out_keyed-requires-clause-walks c = let g = c.args in
     let x = call_of g.operation g.left_starts.now g.left_corners.now g.right_starts.now g.right_corners.now in
-    let t = c.walks_fault-fault.ensures in
-    let n = c.if-fault-ne0.false in
+    let t = c.walks_fault-judged.ensures in
+    let n = ap told c.in_default.is in
     let w = t.walked n in
     let e = c.requires.ready.accepted in unrolleds x w e c.most_corners-most.ensures
 
 pub hand_out_keyed-requires-clause-numbers : goal.hand_out_keyed-requires-clause-numbers
 hand_out_keyed-requires-clause-numbers c = let g = c.args in
     let x = call_of g.operation g.left_starts.now g.left_corners.now g.right_starts.now g.right_corners.now in
-    let t = c.walks_fault-fault.ensures in
-    let n = c.if-fault-ne0.false in
+    let t = c.walks_fault-judged.ensures in
+    let n = ap told c.in_default.is in
     let w = t.walked n in
     let e = c.requires.ready.accepted in keyed x e w (omega (arith, c.requires.ready.room.small, c.points-1.given)) (sym t.told ∙ n) (omega (arith, c.requires.numbers, c.points-1.given, c.number_walks.ensures.size)) c.number_walks.ensures.numbered
 
 pub returns : goal.returns
 returns c = let g = c.args in
     let x = call_of g.operation g.left_starts.now g.left_corners.now g.right_starts.now g.right_corners.now in
-    let w = c.walks_fault-fault.ensures in
-    let n = c.if-fault-ne0.false in
+    let w = c.walks_fault-judged.ensures in
+    let n = ap told c.in_default.is in
     let d = room_decides x.reflected x.left x.right (length g.starts.now) (length g.corners.now) c.requires.ready.accepted (sym w.told ∙ n) in
     answered x (w.walked n) d c.result_bounds-bounds.ensures c.hand_out_keyed.ensures
