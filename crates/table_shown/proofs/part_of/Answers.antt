@@ -5,7 +5,6 @@ use mathlib.Core.List.{List}
 use Prim.Native.Nat.{ℕ}
 use lib.ListN.{get_or}
 use native.Mathlib.Omega.{arith}
-use borrow.Author.Rules.{rules}
 use Rattle.corners.specs.Corners.{corner_place}
 use Rattle.corners.proofs.Corners.{length_points}
 use Rattle.table.proofs.Shown.{placed, numbers_between}
