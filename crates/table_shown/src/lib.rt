@@ -14,8 +14,8 @@ ghost use Rattle.table_shown.specs.Place.{part_place, shown_place};
 
 use faults::Fault;
 
-// The fault of asking for part k of the left or the right table. Both tables are
-// judged, also the one not asked for.
+// The fault of asking for part k of the left or the right table. Both tables are judged, also the
+// one not asked for.
 fn shown_fault(
     left_starts: &[u32],
     left_corners: &[i32],
@@ -28,10 +28,9 @@ fn shown_fault(
         left_starts.now left_corners.now
         right_starts.now right_corners.now right k }
 {
-    if table::rules_broken(left_starts, left_corners) {
-        return Err(Fault::Rules);
-    }
-    if table::rules_broken(right_starts, right_corners) {
+    if table::rules_broken(left_starts, left_corners)
+        || table::rules_broken(right_starts, right_corners)
+    {
         return Err(Fault::Rules);
     }
     if right {

@@ -1,8 +1,8 @@
 -- `walk_pick::lesser` meets its contract: the code's tests are the definition's. Assumes nothing.
 use mathlib.Core.Bool.{false}
 use mathlib.Core.Logic.{◌⊎◌, inl, inr}
-use Rattle.plane.specs.declared.Ordering.{Ordering}
-use Rattle.plane.specs.declared.Ordering.TheVariants.{Less, Equal}
+use Rattle.std.specs.declared.cmp.Ordering.{Ordering}
+use Rattle.std.specs.declared.cmp.Ordering.TheVariants.{Less, Equal}
 use mathlib.Core.Path.{◌≡◌, sym, ◌∙◌, ap}
 use Rattle.plane.specs.Plane.{is_greater}
 use Rattle.walk_pick.proofs.Picks.{zero_first, zero_second, not_after, after}
