@@ -1,5 +1,5 @@
--- `placement::is_among` meets its contract. The loop's invariant is `AmongTurn` of Contour, the
--- measure the corners left. Assumes nothing.
+-- `placement::is_among` meets its contract. The loop's invariant is `AmongTurn` of Contour. Assumes
+-- nothing.
 use native.Mathlib.Omega.{arith}
 use borrow.Author.Rules.{rules}
 use mathlib.Core.Path.{◌≡◌, sym, ◌∙◌}

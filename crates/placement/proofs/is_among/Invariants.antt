@@ -1,5 +1,5 @@
--- `placement::is_among` meets its contract. The loop's invariant is `AmongTurn` of Contour, the
--- measure the corners left. Assumes nothing.
+-- `placement::is_among` meets its contract. The loop's invariant is `AmongTurn` of Contour. Assumes
+-- nothing.
 use Rattle.plane.specs.Machine.{point}
 use Rattle.corners.specs.Corners.{points_of}
 use Rattle.placement.proofs.Contour.{AmongTurn}

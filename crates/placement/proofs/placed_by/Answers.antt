@@ -1,5 +1,5 @@
--- `placement::placed_by` meets its contract. The loop's invariant is `ByTurn` of Contours, the
--- measure the contours left. Assumes nothing.
+-- `placement::placed_by` meets its contract. The loop's invariant is `ByTurn` of Contours. Assumes
+-- nothing.
 use mathlib.Core.Path.{◌≡◌, sym, ◌∙◌, subst}
 use mathlib.Core.Bool.{Bool, true, false, cond}
 use Prim.Native.Nat.{◌<◌}

@@ -1,5 +1,5 @@
--- `placement::placed_by` meets its contract. The loop's invariant is `ByTurn` of Contours, the
--- measure the contours left. Assumes nothing.
+-- `placement::placed_by` meets its contract. The loop's invariant is `ByTurn` of Contours. Assumes
+-- nothing.
 use Rattle.plane.specs.Machine.{point}
 use Rattle.table.specs.Table.{table_parts}
 use Rattle.placement.proofs.Contours.{ByTurn}

@@ -1,5 +1,5 @@
--- `placement::placed_in` meets its contract. The loop's invariant is `InTurn` of Contour, the
--- measure the edges left. Assumes nothing.
+-- `placement::placed_in` meets its contract. The loop's invariant is `InTurn` of Contour. Assumes
+-- nothing.
 use mathlib.Core.Path.{◌≡◌, sym, ◌∙◌, subst}
 use mathlib.Core.Bool.{Bool, true, false, cond}
 use mathlib.Core.Logic.{◌⊎◌, inl, inr, ⊎_elim}
