@@ -1,12 +1,11 @@
 -- The pairs of two operands that are not refused: they can be walked (`walkable`), and what is told
 -- of their walks is told of them (`told_at`, `told_refused`). Assumes nothing.
 use mathlib.Core.Path.{◌≡◌, refl, sym, ◌∙◌, ap, subst}
-use mathlib.Core.Bool.{true, false}
-use mathlib.Core.List.{List, [], ◌∷◌, ◌++◌, flatten}
+use mathlib.Core.List.{List, flatten}
 use Prim.Native.Nat.{ℕ, ◌*◌, ◌/◌, ◌<◌}
 use native.Mathlib.Omega.{arith}
 use borrow.Author.Tests.{le-ltb, eq-eqb, ne_eqb, eqb-true}
-use lib.Dec.{eqb, ltb}
+use lib.Dec.{eqb}
 use lib.ListN.{length}
 use lib.IntN.{ℤ}
 use Rattle.integers.specs.Lists.{All}
@@ -14,11 +13,11 @@ use Rattle.integers.specs.Faults.{first_fault}
 use Rattle.integers.proofs.Order.{by_test}
 use Rattle.integers.proofs.Faults.{append_none, first_next, first_empty}
 use Rattle.integers.proofs.Elements.{all_map}
-use Rattle.plane.specs.Plane.{Pt, on_grid}
+use Rattle.plane.specs.Plane.{Pt}
 use Rattle.table.specs.Table.{starts_of, room_kinds, part_count}
 use Rattle.minkowski.specs.Pairs.{pair_contours, pair_kinds, pairs_fault}
 use Rattle.minkowski_pairs.proofs.Bounds.{result_within}
-use Rattle.minkowski_work.specs.Scratch.{Call, BothWalked}
+use Rattle.minkowski_work.specs.Scratch.{Call}
 use Rattle.minkowski_work.proofs.Faults.{operands_none}
 use Rattle.minkowski_work.proofs.Walked.{unrolleds, contours_in_lem}
 use Rattle.pair_walks.specs.Walks.{contours_in}

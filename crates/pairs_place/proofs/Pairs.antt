@@ -2,14 +2,14 @@
 -- (`pair_at`), and can be merged (`merging`); its corners on the front of a work buffer
 -- (`front_range`, `front_fits`). Assumes nothing.
 use mathlib.Core.Path.{◌≡◌, refl, sym, ◌∙◌, ap, ap₂, subst}
-use mathlib.Core.Bool.{true, false}
+use mathlib.Core.Bool.{Bool, true, false}
 use mathlib.Core.List.{List, [], ◌∷◌}
 use Prim.Native.Nat.{ℕ, zero, suc, ◌+◌, ◌*◌, ◌/◌, ◌%◌, ◌<◌, ◌≤◌}
 use native.Mathlib.Nat.{div-lt_iff_lt-mul, div-add-mod', mod-lt}
 use native.Mathlib.Omega.{arith}
 use lib.ListN.{length, get_or, take}
 use lib.IntN.{ℤ}
-use Rattle.integers.specs.Lists.{All, overlay}
+use Rattle.integers.specs.Lists.{overlay}
 use Rattle.integers.proofs.Elements.{all_get_d}
 use Rattle.integers.proofs.Overlay.{overlay_nil, take_overlay}
 use Rattle.integers.proofs.Tests.{both_true}
@@ -24,7 +24,15 @@ use Rattle.pair_walks.specs.Walks.{walk_in, lefts_in, rights_in, contours_in, pa
 use Rattle.pair_walks.proofs.Walks.{walk_short}
 use Rattle.pair_walks.proofs.Operands.{left_walk, right_walk, lefts_count, rights_count, contours_count}
 use Rattle.minkowski_order.proofs.Pairs.{pairs_at}
-use Rattle.pairs_place.specs.Place.{Gridded, Walkable, Placing, Merging}
+use Rattle.placement.specs.declared.Contact.{Contact}
+use Rattle.placement.specs.declared.Contact.TheVariants.{Apart, Touching, Overlapping}
+use Rattle.pairs_place.specs.Place.{Gridded, Walkable, Merging}
+
+-- whether what is told so far is that a contour was touched
+abbrev pub touching : Contact → Bool
+touching Apart = false
+touching Touching = true
+touching Overlapping = false
 
 -- ---- a pair by its number
 

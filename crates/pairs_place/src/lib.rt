@@ -54,35 +54,16 @@ fn placed_walks(
     ensures { result ≡ contact_by (point z) (contours_in firsts.now points.now left right) }
 {
     let pairs = left * right;
-    let mut touches = false;
-    let mut k: usize = 0;
-    while k < pairs {
-        let at = placed_pair(
-            firsts,
-            points,
-            numbers,
-            left,
-            right,
-            k / right,
-            k % right,
-            z,
-            work,
-        );
-        match at {
+    let mut contact = Contact::Apart;
+    for k in 0..pairs {
+        let (p, q) = (k / right, k % right);
+        match placed_pair(firsts, points, numbers, left, right, p, q, z, work) {
             Contact::Apart => {}
-            Contact::Touching => {
-                touches = true;
-            }
-            Contact::Overlapping => {
-                return Contact::Overlapping;
-            }
+            Contact::Touching => contact = Contact::Touching,
+            Contact::Overlapping => return Contact::Overlapping,
         }
-        k += 1;
     }
-    if touches {
-        return Contact::Touching;
-    }
-    Contact::Apart
+    contact
 }
 
 // The same of two operands begun, whose walks and their numbers lie in places for any two.
@@ -96,8 +77,7 @@ fn placed_begun(
     requires { Walkable firsts.now points.now numbers.now begun.left begun.right × OnGrid z }
     ensures { result ≡ contact_by (point z) (contours_in firsts.now points.now begun.left begun.right) }
 {
-    let left = begun.left;
-    let right = begun.right;
+    let Begun { left, right, .. } = begun;
     let mut work = [0i32; WORK];
     placed_walks(firsts, points, numbers, left, right, z, &mut work)
 }

@@ -1,6 +1,5 @@
 -- `pairs_place::place_operands` meets its contract: a refusal, or what is told of the walks.
 -- Assumes nothing.
-use borrow.Author.Rules.{rules}
 use Rattle.pairs_place.proofs.Operands.{told_refused, walkable, told_at}
 use Rattle.pairs_place.proofs.place_operands.Goals as goal
 

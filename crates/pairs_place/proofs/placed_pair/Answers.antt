@@ -6,7 +6,6 @@ use Rattle.corners.specs.Corners.{points_of, off_range}
 use Rattle.placement.specs.Placement.{contact_in}
 use Rattle.pair_lines.proofs.Pairs.{merged_front}
 use Rattle.pairs_place.proofs.Pairs.{front_range, front_fits}
-use borrow.Author.Rules.{rules}
 use Rattle.pairs_place.proofs.placed_pair.Goals as goal
 
 pub front-requires : goal.front-requires
