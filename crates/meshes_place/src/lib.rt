@@ -39,10 +39,10 @@ fn point_fault(bytes: &[u8]) -> u32
     if bytes.len() < 2 * WORD {
         return integers::fault::FILE;
     }
-    if plane::on_grid(place_at(bytes)) {
-        return 0;
+    if !plane::on_grid(place_at(bytes)) {
+        return integers::fault::RANGE;
     }
-    integers::fault::RANGE
+    0
 }
 
 // Where the right mesh, moved by the place, lies by the left one; or the fault: 13 or 2 of the
@@ -70,11 +70,9 @@ pub fn placed(bytes: &[u8]) -> Placed
     }
     let left = two.left;
     let right = two.right;
-    let left_bounds = left.bounds;
-    let right_bounds = right.bounds;
     let difference = Operation {
-        left: left_bounds,
-        right: right_bounds,
+        left: left.bounds,
+        right: right.bounds,
         reflected: true,
     };
     let z = place_at(bytes);

@@ -9,10 +9,10 @@ use Rattle.meshes_place.proofs.point_fault.Goals as goal
 pub returns-then-bytes : goal.returns-then-bytes
 returns-then-bytes c = too_short _ c.if-bytes.true
 
-pub returns-then-on_grid : goal.returns-then-on_grid
-returns-then-on_grid c = let h = c.if-bytes.false in
-    on_grid_lem _ h (sym (ap on_grid c.place_at.ensures) ∙ sym c.on_grid.ensures ∙ c.if-on_grid.true)
+pub returns-then-not-on_grid : goal.returns-then-not-on_grid
+returns-then-not-on_grid c = let h = c.if-bytes.false in
+    off_grid _ h (sym (ap on_grid c.place_at.ensures) ∙ sym c.on_grid.ensures ∙ c.if-not-on_grid.true)
 
 pub returns : goal.returns
 returns c = let h = c.if-bytes.false in
-    off_grid _ h (sym (ap on_grid c.place_at.ensures) ∙ sym c.on_grid.ensures ∙ c.if-on_grid.false)
+    on_grid_lem _ h (sym (ap on_grid c.place_at.ensures) ∙ sym c.on_grid.ensures ∙ c.if-not-on_grid.false)
