@@ -4,7 +4,6 @@
 // refusal's text is text's. Leans on std's `Env`, io, field_numbers and text.
 #![tactic(auto)]
 
-use field_numbers::Reading;
 use std::rt::Env;
 
 // The bytes of an argument that is read, and of a refusal: more than those of the greatest number
@@ -13,16 +12,14 @@ const ARGUMENT: usize = 16;
 
 const REFUSAL: usize = 32;
 
-const LAST_WORD: u32 = 4294967295;
-
 const STANDARD_ERROR: i32 = 2;
 
 // Argument i as a number of 32 bits; one that is missing or longer than the place for it is none.
-pub fn number_argument(rt: &impl Env, i: usize) -> Reading {
+pub fn number_argument(rt: &impl Env, i: usize) -> Option<u32> {
     let mut digits = [0u8; ARGUMENT];
     match rt.arg(i, &mut digits) {
-        Ok(n) => field_numbers::number(&digits[..n], LAST_WORD),
-        Err(_) => field_numbers::no_number(),
+        Ok(n) => field_numbers::number(&digits[..n], u32::MAX),
+        Err(_) => None,
     }
 }
 
