@@ -13,14 +13,14 @@ const JOB: usize = LONGEST + 1;
 fn main(rt: HostRuntime) {
     let from = commands::number_argument(&rt, 1);
     let to = commands::number_argument(&rt, 2);
-    if !from.right || !to.right {
+    let (Some(from), Some(to)) = (from, to) else {
         io::write_all(2, b"pairshard FROM TO <JOB >SHARD\n");
         return;
-    }
+    };
     let mut bytes = [0u8; JOB];
     let n = input::read_input(&rt, &mut bytes);
     let mut out = [0u8; LONGEST];
-    let shard = pairs_shard::cut(&bytes[..n], from.bits as usize, to.bits as usize, &mut out);
+    let shard = pairs_shard::cut(&bytes[..n], from as usize, to as usize, &mut out);
     if shard.fault != 0 {
         commands::tell_refused(shard.fault);
     }
