@@ -27,10 +27,8 @@ fn print_byte(b: u8) {
 
 // Writes the bytes in hexadecimal.
 fn print_bytes(bytes: &[u8]) {
-    let mut i = 0;
-    while i < bytes.len() {
-        print_byte(bytes[i]);
-        i += 1;
+    for b in bytes {
+        print_byte(*b);
     }
 }
 
@@ -87,9 +85,9 @@ fn print_one(record: &mut [u8]) {
     }
     if records::word(record, 1) == READ_TABLE {
         print_read(&record[at..], &mut starts[..s], &mut corners[..m]);
-        return;
+    } else {
+        print_written(&starts[..s], &corners[..m], &mut record[at..]);
     }
-    print_written(&starts[..s], &corners[..m], &mut record[at..]);
 }
 
 // A record of two tables: the left one's starts and numbers, and the right one's.
@@ -128,20 +126,18 @@ fn print_case(k: u64, record: &mut [u8]) {
     lines::print(b"case ", k, b", ");
     if records::word(record, 1) <= WRITE_TABLE {
         print_one(record);
-        return;
+    } else {
+        print_two(record);
     }
-    print_two(record);
 }
 
 fn main() {
-    let mut k: u64 = 0;
-    while k < records::MOST {
+    for k in 0..records::MOST {
         let mut buf = [0u8; RECORD];
         let n = records::read_record(&mut buf);
         if n == 0 {
             break;
         }
         print_case(k, &mut buf[..n]);
-        k += 1;
     }
 }

@@ -10,11 +10,9 @@ fn print_byte(b: u8) {
 
 // Writes the bytes, 16 on a line.
 fn print_bytes(bytes: &[u8]) {
-    let mut i = 0;
-    while i < bytes.len() {
-        print_byte(bytes[i]);
-        i += 1;
-        if i % 16 == 0 {
+    for (i, b) in bytes.iter().enumerate() {
+        print_byte(*b);
+        if i % 16 == 15 {
             io::write_all(1, b"\n");
         }
     }
