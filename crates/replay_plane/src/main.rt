@@ -14,13 +14,13 @@ const CROSS_PRODUCT: u32 = 0;
 
 const AREA_TWO: u32 = 1;
 
-// Writes a value. Below 0 it is one more below than what -1 less the value is.
+// Writes a value.
 fn print_value(n: i64) {
-    if n >= 0 {
-        lines::print(b"", n as u64, b"");
-        return;
+    if n < 0 {
+        lines::print(b"-", n.unsigned_abs(), b"");
+    } else {
+        lines::print(b"", n.unsigned_abs(), b"");
     }
-    lines::print(b"-", (-1 - n) as u64 + 1, b"");
 }
 
 // Writes a case's line.
@@ -34,20 +34,24 @@ fn print_told(k: u64, name: &[u8], told: Told) {
 
 // Asks about a, b, c and d, whose coordinates these are, and writes the line.
 fn print_asked(k: u64, kind: u32, p: [i32; 8]) {
-    if kind == CROSS_PRODUCT {
-        let told = boundary_plane::bezinkwolu_cross_product(
-            p[0], p[1], p[2], p[3], p[4], p[5], p[6], p[7],
-        );
-        print_told(k, b"cross_product", told);
-        return;
+    let [ax, ay, bx, by, cx, cy, dx, dy] = p;
+    match kind {
+        CROSS_PRODUCT => print_told(
+            k,
+            b"cross_product",
+            boundary_plane::bezinkwolu_cross_product(ax, ay, bx, by, cx, cy, dx, dy),
+        ),
+        AREA_TWO => print_told(
+            k,
+            b"area_two",
+            boundary_plane::bezinkwolu_area_two(ax, ay, bx, by, cx, cy),
+        ),
+        _ => print_told(
+            k,
+            b"angle_cmp",
+            boundary_plane::bezinkwolu_angle_cmp(ax, ay, bx, by, cx, cy, dx, dy),
+        ),
     }
-    if kind == AREA_TWO {
-        let told = boundary_plane::bezinkwolu_area_two(p[0], p[1], p[2], p[3], p[4], p[5]);
-        print_told(k, b"area_two", told);
-        return;
-    }
-    let told = boundary_plane::bezinkwolu_angle_cmp(p[0], p[1], p[2], p[3], p[4], p[5], p[6], p[7]);
-    print_told(k, b"angle_cmp", told);
 }
 
 // Takes the case out of its record and asks it.
@@ -58,14 +62,12 @@ fn print_case(k: u64, record: &[u8]) {
 }
 
 fn main() {
-    let mut k: u64 = 0;
-    while k < records::MOST {
+    for k in 0..records::MOST {
         let mut buf = [0u8; RECORD];
         let n = records::read_record(&mut buf);
         if n == 0 {
             break;
         }
         print_case(k, &buf[..n]);
-        k += 1;
     }
 }
