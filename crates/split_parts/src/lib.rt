@@ -28,9 +28,8 @@ pub fn to_convex_polygons_with_max_vertices(
     ensures { SplitAnswered strategy limit (rows_mesh mesh.now) starts.old corners.old
         result starts.new corners.new }
 {
-    let fault = mesh_faults::mesh_fault(mesh);
-    if fault != 0 {
-        return convex_gather::refusal(fault);
+    if let Err(fault) = mesh_faults::mesh_fault(mesh) {
+        return convex_gather::refusal(fault.number());
     }
     let n = mesh.len();
     if n <= TINY {
