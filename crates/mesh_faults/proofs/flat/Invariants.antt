@@ -7,4 +7,3 @@ use Rattle.mesh_faults.proofs.flat.Given as goal
 
 abbrev pub invariant-loop-row : goal.invariant-loop-row
 invariant-loop-row l = Pass (λ k t. le_z (triangle_area t) (pos 0)) l.mesh l.row-index
-

@@ -6,4 +6,3 @@ use Rattle.mesh_faults.proofs.off_grid.Given as goal
 
 abbrev pub invariant-loop-row : goal.invariant-loop-row
 invariant-loop-row l = Pass (λ k t. triangle_off t) l.mesh l.row-index
-
