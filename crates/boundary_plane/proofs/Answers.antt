@@ -1,5 +1,5 @@
--- What the functions of this crate share. In order: the test of several points, from the tests of
--- each, and what it tells; a point made of two numbers; the two answers, a value or the refusal.
+-- What the functions of this crate share. In order: what the test of several points tells; a point
+-- made of two numbers; the two answers, a value or the refusal.
 -- Assumes nothing.
 use mathlib.Core.Path.{◌≡◌, refl, sym, ◌∙◌}
 use mathlib.Core.Bool.{Bool, true, false, cond}
@@ -18,22 +18,6 @@ use Rattle.boundary_plane.specs.declared.Told.{Told}
 use Rattle.boundary_plane.specs.Told.{all_on, told}
 
 -- ---- several points
-
-pub on_last : (p : Pt) {s : Bool} → s ≡ on_grid p → s ≡ all_on (p ∷ [])
-unfolding all_on
-on_last p e = e ∙ of (on_grid p)
-  where
-    of : (t : Bool) → t ≡ cond t true false
-    of true = refl
-    of false = refl
-
-pub on_next : (p : Pt) (l : List Pt) {r s : Bool} → r ≡ on_grid p → r ≡ true → s ≡ all_on l → s ≡ all_on (p ∷ l)
-unfolding all_on
-on_next p l h e k = rw (sym h ∙ e) k
-
-pub off_grid : (p : Pt) (l : List Pt) {r : Bool} → r ≡ on_grid p → r ≡ false → false ≡ all_on (p ∷ l)
-unfolding all_on
-off_grid p l h e = rw (sym h ∙ e)
 
 -- the first point is on the grid, and so are the others
 first_on : (p : IntPoint) (l : List Pt) → all_on (point p ∷ l) ≡ true → OnGrid p × (all_on l ≡ true)

@@ -8,7 +8,8 @@ ghost use Rattle.std.specs.Prelude.{◌≡◌, [], ◌∷◌};
 ghost use Rattle.plane.specs.Machine.{point};
 ghost use Rattle.boundary_plane.specs.Told.{all_on, order_number, told_cross, told_area, told_angle};
 
-use plane::{IntPoint, Ordering};
+use plane::IntPoint;
+use std::cmp::Ordering;
 
 // The fault number, 0 for none, and the value, 0 where there is a fault.
 #[repr(C)]
@@ -19,36 +20,26 @@ pub struct Told {
 }
 
 // Whether all three points are on the grid.
+#[tactic(auto, unfolding(crate::specs::Told::all_on))]
 fn three_on_grid(a: IntPoint, b: IntPoint, c: IntPoint) -> bool
     ensures { result ≡ all_on (point a ∷ point b ∷ point c ∷ []) }
 {
-    if plane::on_grid(a) {
-        if plane::on_grid(b) {
-            return plane::on_grid(c);
-        }
-    }
-    false
+    plane::on_grid(a) && plane::on_grid(b) && plane::on_grid(c)
 }
 
 // Whether all four points are on the grid.
+#[tactic(auto, unfolding(crate::specs::Told::all_on))]
 fn four_on_grid(a: IntPoint, b: IntPoint, c: IntPoint, d: IntPoint) -> bool
     ensures { result ≡ all_on (point a ∷ point b ∷ point c ∷ point d ∷ []) }
 {
-    if plane::on_grid(a) {
-        return three_on_grid(b, c, d);
-    }
-    false
+    plane::on_grid(a) && three_on_grid(b, c, d)
 }
 
 // A comparison's answer as a number.
 fn order_number(o: Ordering) -> i64
     ensures { result ≡ order_number o }
 {
-    match o {
-        Ordering::Less => -1,
-        Ordering::Equal => 0,
-        Ordering::Greater => 1,
-    }
+    o as i64
 }
 
 // (b - a) cross (d - c).

@@ -8,8 +8,10 @@
 
 ghost use Rattle.std.specs.Prelude.{◌≡◌, false, ◌+◌, ◌*◌, ◌<◌, ◌≤◌, length};
 ghost use Rattle.integers.specs.Lists.{overlay};
+ghost use Rattle.faults.specs.Told.{told};
 ghost use Rattle.pairs_job.specs.Job.{bounds_at, starts_at, corners_at, table_words, counts_broken, right_place, job_length_broken, shape_fault, TableIn};
 
+use faults::Fault;
 use table::IntRect;
 use table_words::{WORD, word_at};
 
@@ -66,26 +68,26 @@ pub fn counts_broken(bytes: &[u8], k: usize) -> bool
         || word_at(bytes, k + 1) as usize > table::MAX_CORNERS
 }
 
-// The fault of a job's shape; 0 for none.
-pub fn shape_fault(bytes: &[u8]) -> u32
-    ensures { result ≡ shape_fault bytes.now }
+// The fault of a job's shape.
+pub fn shape_fault(bytes: &[u8]) -> Result<(), Fault>
+    ensures { told result ≡ shape_fault bytes.now }
 {
     if bytes.len() < WORD {
-        return integers::fault::FILE;
+        return Err(Fault::File);
     }
     if word_at(bytes, 0) > DIFFERENCE {
-        return integers::fault::FILE;
+        return Err(Fault::File);
     }
     if length_broken(bytes) {
-        return integers::fault::RULES;
+        return Err(Fault::Rules);
     }
     if counts_broken(bytes, LEFT) {
-        return integers::fault::RULES;
+        return Err(Fault::Rules);
     }
     if counts_broken(bytes, right_place(bytes)) {
-        return integers::fault::RULES;
+        return Err(Fault::Rules);
     }
-    0
+    Ok(())
 }
 
 // The bounds from word k on.

@@ -8,6 +8,7 @@
 
 ghost use Rattle.std.specs.Prelude.{◌≡◌, ◌++◌, map, ◌+◌, ◌*◌, ◌-◌, ◌≤◌, length, take, drop};
 ghost use Rattle.std.proofs.Math.Seq.{slice};
+ghost use Rattle.faults.specs.Told.{told};
 ghost use Rattle.io.specs.Counts.{IsPrefixLen};
 ghost use Rattle.table.specs.Stored.{words_of, word_bytes};
 ghost use Rattle.table_words.specs.Place.{put_words};
@@ -15,6 +16,7 @@ ghost use Rattle.text.specs.Put.{PutText};
 ghost use Rattle.pairs_job.specs.Job.{table_words};
 ghost use Rattle.pairs_shard.specs.Shard.{corner_place, shard_counts, shard_fault, cut_of, bytes_cut, Cuts, AtLeast};
 
+use faults::Fault;
 use pairs_job::{LEFT, LONGEST};
 use table_words::{put_word, word_at};
 
@@ -26,18 +28,15 @@ pub struct Shard {
     pub size: usize,
 }
 
-// The fault of cutting a job; 0 for none.
-fn shard_fault(bytes: &[u8]) -> u32
-    ensures { result ≡ shard_fault bytes.now }
+// The fault of cutting a job.
+fn shard_fault(bytes: &[u8]) -> Result<(), Fault>
+    ensures { told result ≡ shard_fault bytes.now }
 {
-    let fault = pairs_job::shape_fault(bytes);
-    if fault != 0 {
-        return fault;
-    }
+    pairs_job::shape_fault(bytes)?;
     if pairs_rules::table_broken(bytes, LEFT) {
-        return integers::fault::RULES;
+        return Err(Fault::Rules);
     }
-    0
+    Ok(())
 }
 
 // Writes `count` words from word `from` on, each less `base`, at word `at` of the lent bytes on.
@@ -99,9 +98,11 @@ pub fn cut(bytes: &[u8], from: usize, to: usize, out: &mut [u8; LONGEST]) -> Sha
     ensures bytes { out.new ≡ bytes_cut from to bytes.now out.old }
     ensures counted { IsPrefixLen result.size out.new }
 {
-    let fault = shard_fault(bytes);
-    if fault != 0 {
-        return Shard { fault, size: 0 };
+    if let Err(fault) = shard_fault(bytes) {
+        return Shard {
+            fault: fault.number(),
+            size: 0,
+        };
     }
     let past = to.min(word_at(bytes, LEFT) as usize);
     let first = from.min(past);

@@ -6,12 +6,14 @@
 #![tactic(auto)]
 
 ghost use Rattle.std.specs.Prelude.{◌≡◌, ◌+◌, ◌*◌, ◌<◌, ◌≤◌, length};
+ghost use Rattle.faults.specs.Told.{told};
 ghost use Rattle.io.specs.Counts.{IsPrefixLen};
 ghost use Rattle.table_words.specs.Place.{put_words};
 ghost use Rattle.text.specs.Put.{PutText};
 ghost use Rattle.pairs_job.specs.Job.{table_words};
 ghost use Rattle.tables_job.specs.Tables.{picked_of, extreme_of, bounds_words, operand_bytes, broken_at, tables_length_broken, tables_fault, made_of, bytes_made, Writable};
 
+use faults::Fault;
 use pairs_job::{LONGEST, table_size};
 use table_words::{WORD, signed_word, word_at};
 
@@ -102,26 +104,26 @@ fn length_broken(bytes: &[u8]) -> bool
     bytes.len() < WORD * (right + 2) || bytes.len() != WORD * (right + table_size(bytes, right))
 }
 
-// The fault of an operation and two stored tables; 0 for none.
-fn tables_fault(bytes: &[u8]) -> u32
-    ensures { result ≡ tables_fault bytes.now }
+// The fault of an operation and two stored tables.
+fn tables_fault(bytes: &[u8]) -> Result<(), Fault>
+    ensures { told result ≡ tables_fault bytes.now }
 {
     if bytes.len() < WORD {
-        return integers::fault::FILE;
+        return Err(Fault::File);
     }
     if word_at(bytes, 0) > pairs_job::DIFFERENCE {
-        return integers::fault::FILE;
+        return Err(Fault::File);
     }
     if length_broken(bytes) {
-        return integers::fault::RULES;
+        return Err(Fault::Rules);
     }
     if broken_at(bytes, LEFT) {
-        return integers::fault::RULES;
+        return Err(Fault::Rules);
     }
     if broken_at(bytes, LEFT + table_size(bytes, LEFT)) {
-        return integers::fault::RULES;
+        return Err(Fault::Rules);
     }
-    0
+    Ok(())
 }
 
 // Writes the pair job of two stored tables on the front of the lent bytes. Refuses with 13, 7, in
@@ -132,9 +134,11 @@ pub fn make_job(bytes: &[u8], out: &mut [u8; LONGEST]) -> Made
     ensures bytes { out.new ≡ bytes_made bytes.now out.old }
     ensures counted { IsPrefixLen result.size out.new }
 {
-    let fault = tables_fault(bytes);
-    if fault != 0 {
-        return Made { fault, size: 0 };
+    if let Err(fault) = tables_fault(bytes) {
+        return Made {
+            fault: fault.number(),
+            size: 0,
+        };
     }
     let right = LEFT + table_size(bytes, LEFT);
     text::put_bytes(&bytes[..WORD], out, 0);
