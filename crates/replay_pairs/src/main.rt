@@ -10,8 +10,7 @@ use records::HEAD;
 const RECORD: usize = HEAD + pairs_job::LONGEST + 1;
 
 fn main(rt: HostRuntime) {
-    let mut k: u64 = 0;
-    while k < records::MOST {
+    for k in 0..records::MOST {
         let mut buf = [0u8; RECORD];
         let n = records::read_record(&mut buf);
         if n < HEAD {
@@ -19,6 +18,5 @@ fn main(rt: HostRuntime) {
         }
         lines::print(b"case ", k, b":\n");
         pairs_print::print_job(&rt, &buf[HEAD..n]);
-        k += 1;
     }
 }

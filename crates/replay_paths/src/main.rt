@@ -37,7 +37,7 @@ const RECORD: usize = WORD * (FIRST + THREE * ITEMS + NUMBERS);
 
 // The 64 bits of two words, the lower first.
 fn joined(low: u32, high: u32) -> u64 {
-    low as u64 + 4294967296 * (high as u64)
+    (high as u64) << 32 | low as u64
 }
 
 // The 64 bits at word k.
@@ -51,10 +51,7 @@ fn bits(record: &[u8], k: usize) -> u64
 fn three(record: &[u8], k: usize) -> Row
     requires { k < 4294967292 }
 {
-    let first = bits(record, k);
-    let second = bits(record, k + WIDE);
-    let third = bits(record, k + WIDE + WIDE);
-    [first, second, third]
+    [bits(record, k), bits(record, k + WIDE), bits(record, k + 2 * WIDE)]
 }
 
 // Reads the record's items, as many as there are places, and answers how many.
@@ -62,36 +59,29 @@ fn read_items(record: &[u8], items: &mut [Row]) -> usize
     requires { length items.old ≤ 1100 }
     ensures { Counted result items.new }
 {
-    let count = records::word(record, 1) as usize;
-    let mut i: usize = 0;
-    while i < items.len() {
-        if i == count {
-            break;
-        }
-        items[i] = three(record, FIRST + THREE * i);
-        i += 1;
+    let count = items.len().min(records::word(record, 1) as usize);
+    for (i, item) in items[..count].iter_mut().enumerate() {
+        *item = three(record, FIRST + THREE * i);
     }
-    i
+    count
 }
 
 // The number of some bits.
 fn number_of(bits: u64) -> f64 {
     if bits % SIGN > INFINITY {
-        return 0.0 / 0.0;
+        f64::NAN
+    } else {
+        f64::from_bits(bits)
     }
-    f64::from_bits(bits)
 }
 
 // The record's frame.
 fn frame(record: &[u8]) -> Frame {
-    let of = three(record, FRAME);
-    let x = number_of(of[0]);
-    let y = number_of(of[1]);
-    let steps = number_of(of[2]);
+    let [x, y, steps] = three(record, FRAME);
     Frame {
-        x: x,
-        y: y,
-        steps: steps,
+        x: number_of(x),
+        y: number_of(y),
+        steps: number_of(steps),
     }
 }
 
@@ -116,14 +106,12 @@ fn print_case(k: u64, record: &[u8]) {
 }
 
 fn main() {
-    let mut k: u64 = 0;
-    while k < records::MOST {
+    for k in 0..records::MOST {
         let mut buf = [0u8; RECORD];
         let n = records::read_record(&mut buf);
         if n == 0 {
             break;
         }
         print_case(k, &buf[..n]);
-        k += 1;
     }
 }

@@ -56,14 +56,12 @@ fn print_case(k: u64, record: &[u8]) {
 }
 
 fn main() {
-    let mut k: u64 = 0;
-    while k < records::MOST {
+    for k in 0..records::MOST {
         let mut buf = [0u8; RECORD];
         let n = records::read_record(&mut buf);
         if n == 0 {
             break;
         }
         print_case(k, &buf[..n]);
-        k += 1;
     }
 }
