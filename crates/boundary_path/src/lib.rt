@@ -48,10 +48,7 @@ fn is_finite(bits: u64) -> bool
 fn carried(kind: u64, other: u64, bits: u64) -> u64
     ensures { result ≡ cond (eqb kind other) 0 bits }
 {
-    if kind == other {
-        return 0;
-    }
-    bits
+    if kind == other { 0 } else { bits }
 }
 
 // Whether a row is a move or a line of finite numbers.
@@ -115,8 +112,7 @@ fn judge_drawn(rows: &[Row], frame: Frame, n: usize) -> Judged
 {
     let mut at = path::initial_point();
     let mut off = false;
-    let mut i: usize = 0;
-    while i < n {
+    for i in 0..n {
         let row = rows[i];
         if !is_next(row, i) {
             return path::broken();
@@ -126,7 +122,6 @@ fn judge_drawn(rows: &[Row], frame: Frame, n: usize) -> Judged
             return path::broken();
         }
         off = path::off_so_far(frame, off, at);
-        i += 1;
     }
     path::closed(off)
 }
@@ -152,11 +147,9 @@ fn write_rows(rows: &[Row], frame: Frame, n: usize, corners: &mut [i32])
     ensures { corners.new ≡ write_from frame (take n (items_of rows.now)) initial_point 0 corners.old }
 {
     let mut at = path::initial_point();
-    let mut i: usize = 0;
-    while i < n {
+    for i in 0..n {
         at = reach_row(at, rows[i]);
         path::write_corner(frame, at, i, corners);
-        i += 1;
     }
 }
 

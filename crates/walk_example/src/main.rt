@@ -3,19 +3,12 @@
 // is its file `stdout`. Leans on walk_pair, walk_next and lines.
 #![tactic(auto)]
 
-ghost use Rattle.std.specs.Prelude.{◌≡◌, true, ◌<◌};
+ghost use Rattle.std.specs.Prelude.{◌<◌, IfSome};
 ghost use Rattle.pair.specs.Pair.{steps_left};
 
 use pair::{ConvexSum, Place};
 use plane::IntPoint;
 use walk::{Next, Paired};
-
-// Whether a corner was handed out, and where both walks stand.
-#[derive(Clone, Copy)]
-pub struct Progress {
-    pub on: bool,
-    pub at: ConvexSum,
-}
 
 fn print_corner(p: IntPoint) {
     io::write_all(1, b"corner");
@@ -24,34 +17,32 @@ fn print_corner(p: IntPoint) {
     io::write_all(1, b"\n");
 }
 
-// Steps the pair once and writes what the call told. A corner takes a step, so that a pair comes to
-// its end.
-fn print_next(left: &[i32], right: &[i32], at: ConvexSum) -> Progress
-    ensures { result.on ≡ true → steps_left result.at < steps_left at }
+// Steps the pair once and writes what the call told; answers where both walks stand after a corner,
+// which takes a step, so that a pair comes to its end.
+fn print_next(left: &[i32], right: &[i32], at: ConvexSum) -> Option<ConvexSum>
+    ensures { IfSome result (λ t. steps_left t < steps_left at) }
 {
-    let step = walk_next::next(left, right, at);
-    match step {
+    match walk_next::next(left, right, at) {
         Next::Corner(p, t) => {
             print_corner(p);
-            Progress { on: true, at: t }
+            Some(t)
         }
-        Next::End(t) => {
+        Next::End(_) => {
             io::write_all(1, b"end\n");
-            Progress { on: false, at: t }
+            None
         }
-        Next::Refused(f, t) => {
+        Next::Refused(f, _) => {
             lines::print(b"refused ", f as u64, b"\n");
-            Progress { on: false, at: t }
+            None
         }
     }
 }
 
 // Steps the pair from s until no corner is handed out.
 fn print_pair(left: &[i32], right: &[i32], s: ConvexSum) {
-    let mut p = Progress { on: true, at: s };
-    while p.on {
-        let at = p.at;
-        p = print_next(left, right, at);
+    let mut at = s;
+    while let Some(next) = print_next(left, right, at) {
+        at = next;
     }
 }
 
@@ -70,12 +61,10 @@ fn stray() -> Place {
 
 fn main() {
     let k = [0i32, 0, 2, 0, 0, 2];
-    let pair = walk_pair::difference(&k, &k);
-    match pair {
+    match walk_pair::difference(&k, &k) {
         Paired::At(s) => {
             print_pair(&k, &k, s);
-            let b = s.b;
-            print_pair(&k, &k, ConvexSum { a: stray(), b: b });
+            print_pair(&k, &k, ConvexSum { a: stray(), ..s });
         }
         Paired::Refused(f) => lines::print(b"refused ", f as u64, b"\n"),
     }

@@ -16,7 +16,4 @@ use Rattle.boundary_path.proofs.Rows.{length_items, row_item}
 use Rattle.boundary_path.proofs.judge_drawn.Given as goal
 
 abbrev pub invariant-loop-i : goal.invariant-loop-i
-invariant-loop-i l = (l.i ≤ l.n) × Drawing l.frame (items_of l.rows) l.at l.off l.i
-
-abbrev pub decreases-loop-i : goal.decreases-loop-i
-decreases-loop-i l = l.n - l.i
+invariant-loop-i l = Drawing l.frame (items_of l.rows) l.at l.off l.i

@@ -18,6 +18,3 @@ use Rattle.boundary_path.proofs.write_rows.Given as goal
 
 abbrev pub invariant-loop-i : goal.invariant-loop-i
 invariant-loop-i l = Writing l.frame (take l.n (items_of l.rows)) initial_point l.initial.corners l.at l.i l.corners
-
-abbrev pub decreases-loop-i : goal.decreases-loop-i
-decreases-loop-i l = l.n - l.i
