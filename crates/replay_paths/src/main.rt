@@ -51,7 +51,11 @@ fn bits(record: &[u8], k: usize) -> u64
 fn three(record: &[u8], k: usize) -> Row
     requires { k < 4294967292 }
 {
-    [bits(record, k), bits(record, k + WIDE), bits(record, k + 2 * WIDE)]
+    [
+        bits(record, k),
+        bits(record, k + WIDE),
+        bits(record, k + WIDE + WIDE),
+    ]
 }
 
 // Reads the record's items, as many as there are places, and answers how many.
