@@ -1,6 +1,6 @@
 -- What each function of the boundary tells: the fault number and the value. Assumes nothing.
 use Rattle.std.specs.Prelude.{Bool, true, false, cond, List, [], ◌∷◌, ℤ, pos, negsuc}
-use Rattle.integers.specs.Faults.{fault_range}
+use Rattle.integers.specs.Faults.{fault_range, fault_triangles}
 use Rattle.std.specs.declared.cmp.Ordering.{Ordering}
 use Rattle.std.specs.declared.cmp.Ordering.TheVariants.{Less, Equal, Greater}
 use Rattle.plane.specs.Plane.{Pt, ◌-ᵖ◌, on_grid, cross, area_two, angle_cmp}
