@@ -7,6 +7,7 @@
 ghost use Rattle.std.specs.Prelude.{◌∷◌, [], ◌+◌, ◌*◌, ◌-◌, ◌<◌, ◌≤◌, ◌^◌, length};
 ghost use Rattle.pair_walks.specs.Walks.{contours_in};
 ghost use Rattle.pair_numbers.specs.Numbers.{Keyed};
+ghost use Rattle.pair_merge.specs.Putting.{CornersPut};
 ghost use Rattle.minkowski_rows.specs.Rows.{PairsRoom, PairsPut, AllPut};
 ghost use Rattle.minkowski_order.specs.Order.{pair_contour_at, most_edges, Used, More};
 ghost use Rattle.minkowski_chains.specs.Contours.{four_from, work_corners, PairRooms, PutOn, PutTo};
@@ -20,6 +21,17 @@ const SMALL: usize = 512;
 const SMALL_WORK: usize = corners::WIDTH * SMALL;
 
 const WORK: usize = corners::WIDTH * (2 * table::MAX_CONTOUR);
+
+// The first corners of a work buffer are put after the first `at` of `out`. One after another, for
+// the buffers may lie anywhere, and the copy of a slice would ask for memmove.
+fn copy_work(work: &[i32], count: usize, out: &mut [i32], at: usize)
+    requires { (2 * count ≤ length work.now) × (2 * (at + count) ≤ length out.old) }
+    ensures { CornersPut (work_corners count work.now) out.old at out.new (at + count) }
+{
+    for k in 0..count {
+        corners::put_corner(out, at + k, corners::corner_at(work, k));
+    }
+}
 
 // The first corners of a work buffer are put as the contour after the first n; answers how many
 // corners stand there then.
@@ -35,7 +47,7 @@ fn append_copied(
     ensures { let new = work_corners count work.now ∷ [] in
         PairsPut new starts.old n out.old at starts.new (n + 1) out.new result }
 {
-    corners::copy_corners(work, count, out, at);
+    copy_work(work, count, out, at);
     let k = at + count;
     points::put_start(starts, n + 1, k);
     k

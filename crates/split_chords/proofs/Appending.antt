@@ -1,20 +1,18 @@
--- A point copied after others (`row_appended`), a run of corners (`length_run`, `run_copied`);
--- a part ended (`room_point`, `room_run`, `room_end`, `part_ended`); parts appended in
+-- A point copied after others (`row_appended`), a run of corners one longer (`length_run`,
+-- `run_turn`); a part ended (`room_point`, `room_run`, `room_end`, `part_ended`); parts appended in
 -- turn (`Partway`: `partway_start`, `partway_room`, `partway_turn`, `partway_end`). Assumes
 -- nothing.
 use mathlib.Core.Path.{◌≡◌, refl, sym, ◌∙◌, ap, subst}
 use mathlib.Core.List.{List, [], ◌∷◌, ◌++◌, map, map-append, flatten, append_assoc, append-nil}
-use Prim.Native.Nat.{ℕ, ◌+◌, ◌-◌, ◌≤◌, ◌<◌, ◌^◌}
+use Prim.Native.Nat.{ℕ, ◌+◌, ◌≤◌, ◌<◌, ◌^◌}
 use native.Mathlib.Numerals.{add-one}
 use native.Mathlib.Omega.{arith}
 use lib.ListN.{length, get_or, set, take, drop, length-drop, length-map, length-set, get_or-map}
-use lib.Seq.{take-suc-set, length-take-le}
+use lib.Seq.{take-suc, take-suc-set, get_or-drop, length-take-le}
 use lib.IntN.{ℤ}
-use borrow.Rule.Slice.PartMut.{put_mid, same_len_mid}
-use Rattle.std.proofs.lemmas.Slice.{take-put_mid}
-use Rattle.integers.proofs.Elements.{map-take, map-drop}
 use Rattle.plane.specs.Plane.{Pt, O}
 use Rattle.points.specs.Points.{corner_of, corner_in, Appended, corners_in}
+use Rattle.points.proofs.Points.{appended_more}
 use Rattle.points.specs.declared.Tally.{Tally}
 use Rattle.points.specs.Gathered.{RoomFor, PartsAppended}
 use Rattle.points.proofs.Gathering.{none_appended, then_appended, part_appended, room_first, room_rest}
@@ -38,29 +36,17 @@ pub length_run : (contour : List (List ℤ)) (i n : ℕ) → i + n ≤ length co
 length_run contour i n h =
     length-take-le n (drop i (corners_in contour)) (omega (arith, length-drop i (corners_in contour), length-map contour corner_of))
 
--- the rows of a run, copied over those from count on
-module _ (contour points : List (List ℤ)) (i n count : ℕ) {new : List (List ℤ)} (h : i + n ≤ length contour) (r : count + n ≤ length points) (e : new ≡ take (i + n - i) (drop i contour)) where
-  long : length new ≡ n
-  long =
-      let k : i + n - i ≡ n = omega arith in
-      ap length e ∙ length-take-le (i + n - i) (drop i contour) (omega (arith, h, length-drop i contour)) ∙ k
+-- corners i .. i + n of the contour are corners i .. i + n - 1 and corner i + n
+pub run_more : (contour : List (List ℤ)) (i n : ℕ) → i + n < length contour → run_of contour i (n + 1) ≡ run_of contour i n ++ (corner_in contour (i + n) ∷ [])
+run_more contour i n h =
+    ap (λ k. run_of contour i k) (add-one n) ∙ take-suc (drop i (corners_in contour)) n O (omega (arith, length-drop i (corners_in contour), length-map contour corner_of))
+    ∙ ap (λ p. run_of contour i n ++ (p ∷ [])) (get_or-drop i (corners_in contour) n O ∙ corner_in_lem contour (i + n))
 
-  run_is : map corner_of new ≡ run_of contour i n
-  run_is =
-      let k : i + n - i ≡ n = omega arith in
-      ap (map corner_of) (e ∙ ap (λ m. take m (drop i contour)) k) ∙ map-take corner_of n (drop i contour) ∙ ap (take n) (map-drop corner_of i contour)
-
-  pub run_copied : Appended (run_of contour i n) points count (put_mid count (count + n - count) points new) (count + n)
-  run_copied =
-      let k : count + n - count ≡ n = omega arith in
-      let held : length (take (count + n - count) (drop count points)) ≡ n = length-take-le (count + n - count) (drop count points) (omega (arith, r, length-drop count points)) ∙ k in
-      record {
-        size = same_len_mid count (count + n - count) points new (long ∙ sym held);
-        count = omega (arith, length_run contour i n h);
-        written =
-            ap (map corner_of) (take-put_mid count (count + n - count) points new (count + n) (omega (arith, long)) (omega (arith, r)))
-            ∙ map-append corner_of (take count points) new ∙ ap (λ l. map corner_of (take count points) ++ l) run_is;
-      }
+module _ (contour : List (List ℤ)) (i : ℕ) {points : List (List ℤ)} {count : ℕ} where
+  -- the first k corners of a run are appended, and one more
+  pub run_turn : (k : ℕ) {points' points'' : List (List ℤ)} {n m : ℕ} → i + k < length contour → Appended (run_of contour i k) points count points' n → Appended (corner_in contour (i + k) ∷ []) points' n points'' m → Appended (run_of contour i (k + 1)) points count points'' m
+  run_turn k {points'' = points''} {m = m} h a b =
+      subst (λ l. Appended l points count points'' m) (sym (run_more contour i k h)) (appended_more a b)
 
 -- ---- one part
 

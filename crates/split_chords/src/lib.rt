@@ -22,7 +22,8 @@ pub fn append_point(contour: &[[i32; 2]], i: usize, points: &mut [[i32; 2]], cou
     count + 1
 }
 
-// And n corners from corner i on.
+// And n corners from corner i on, one after another: the buffers may lie anywhere, and the copy of
+// a slice would ask for memmove.
 pub fn append_run(
     contour: &[[i32; 2]],
     i: usize,
@@ -33,8 +34,11 @@ pub fn append_run(
     requires { (i + n ≤ length contour.now) × (count + n ≤ length points.old) }
     ensures { Appended (run_of contour.now i n) points.old count points.new result }
 {
-    points[count..count + n].copy_from_slice(&contour[i..i + n]);
-    count + n
+    let mut total = count;
+    for k in 0..n {
+        total = append_point(contour, i + k, points, total);
+    }
+    total
 }
 
 // The part whose points end at n ends: the next one starts there.
