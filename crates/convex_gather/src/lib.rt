@@ -13,12 +13,15 @@ use plane::IntPoint;
 use points::Tally;
 use table::Counts;
 
-// The first n starts, on the front of the lent ones.
+// The first n starts, on the front of the lent ones, one after another: the buffers may lie
+// anywhere, and the copy of a slice would ask for memmove.
 fn copy_starts(from: &[u32], n: usize, to: &mut [u32])
     requires { (n ≤ length from.now) × (n ≤ length to.old) }
     ensures { to.new ≡ overlay (take n from.now) to.old }
 {
-    to[..n].copy_from_slice(&from[..n]);
+    for i in 0..n {
+        to[i] = from[i];
+    }
 }
 
 // Point i as corner i. It is not read by `points::point_at`, which asks for points on the grid.

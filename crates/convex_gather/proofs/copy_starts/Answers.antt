@@ -1,13 +1,14 @@
--- `convex_gather::copy_starts` meets its contract: the front is the copy. Assumes nothing.
-use mathlib.Core.Path.{sym, ◌∙◌, ap}
-use mathlib.Core.List.{◌++◌}
-use lib.ListN.{take, drop}
-use lib.Seq.{length-take-le}
-use Rattle.integers.proofs.Overlay.{overlay_eq}
+-- `convex_gather::copy_starts` meets its contract. Assumes nothing.
+use mathlib.Core.Path.{refl, sym, ◌∙◌}
+use native.Mathlib.Omega.{arith}
+use lib.ListN.{length-set}
+use Rattle.integers.proofs.Overlay.{overlay_nil, copy_turn}
 use Rattle.convex_gather.proofs.copy_starts.Goals as goal
 
-pub returns : goal.returns
-returns c = let n = c.args.n in
-    let from = take n c.args.from.now in
-    let to = c.args.to.now in
-    ap (λ l. l ++ drop n to) c.copy_from_slice.ensures.after ∙ ap (λ k. from ++ drop k to) (sym (length-take-le n c.args.from.now c.requires.0)) ∙ sym (overlay_eq from to)
+pub loop-i-init : goal.loop-i-init
+loop-i-init c = (refl, sym (overlay_nil c.args.to.now))
+
+pub loop-i-preserved : goal.loop-i-preserved
+loop-i-preserved c = let h = c.loop-i-test.true in
+    let g = c.args in
+    (length-set c.loop-i.to c.loop-i.i _ ∙ c.loop-i.invariant.0, copy_turn g.from.now g.to.now 0 (omega (arith, h, c.requires.0)) (omega (arith, h, c.requires.1)) c.loop-i.invariant.1 refl)
