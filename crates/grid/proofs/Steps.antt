@@ -10,7 +10,7 @@ use lib.Count.{count_trailing_zeros}
 use lib.Dec.{T, T_not, leb, ltb, eqb, leb→le, le→leb, lt→ltb, eqb→eq}
 use lib.IntN.{ℤ, pos, negsuc}
 use lib.Pow.{pow-lt}
-use lib.Ieee.{Float, nan, inf, fin, binary64, fits, up, down, lt, le, minus, odd, of_fields, of_bits, to_bits, ones, top}
+use lib.Ieee.{Float, nan, inf, fin, binary64, fits, is_nan, up, down, lt, le, minus, odd, of_fields, of_bits, to_bits, ones, top}
 use lib.Ieee.Fits.{and_l, and_r, down_pos}
 use lib.Ieee.Bits.{of_bits-to_bits}
 use Rattle.integers.proofs.Tests.{differ, ≤-lt_z, le_z-≤}
@@ -111,12 +111,19 @@ least = each_below 11 (λ k. T (le (power 0) (power k))) (tt, (tt, (tt, (tt, (tt
 from_one : (x : Float) → T (step_count x) → T (le (power 0) x)
 from_one x t = let p = step_power x t in subst (λ y. T (le (power 0) y)) (sym p.2) (least p.0 p.1)
 
+-- what compares is no NaN
+pub no_nan : (x y : Float) → le x y ≡ true → T (not (is_nan x))
+unfolding le is_nan
+no_nan nan y h = differ h
+no_nan (inf s) y h = tt
+no_nan (fin s m e) y h = tt
+
 -- what is at least 1 is not below it
-not_below : (x : Float) → fits binary64 x ≡ true → le (power 0) x ≡ true → lt x (power 0) ≡ false
-not_below nan f h = unfold le in differ h
-not_below (inf true) f h = unfold le in differ h
-not_below (inf false) f h = unfold lt in refl
-not_below (fin s m e) f h =
+not_below : (x : Float) → fits binary64 x ≡ true → T (not (is_nan x)) → le (power 0) x ≡ true → lt x (power 0) ≡ false
+not_below nan f n h = unfold is_nan in absurd n
+not_below (inf true) f n h = unfold le in differ h
+not_below (inf false) f n h = unfold lt in refl
+not_below (fin s m e) f n h =
     let X : Number (fin s m e) = record { fitting = subst T (sym f) tt; finite = tt } in
     lt_multiple (fin s m e) (power 0) X one ∙ ≤-lt_z (le_z-≤ (multiple (power 0)) (multiple (fin s m e)) (sym (le_multiple one X) ∙ h))
 
@@ -129,4 +136,4 @@ module _ (x : Float) where
 
   pub step_bits : fits binary64 x ≡ true → le (power 0) x ≡ true → le x (power 10) ≡ true → no_digits x ≡ step_count x
   step_bits f l h = same_test (no_digits x) (step_count x)
-      (λ t. passed_step (subst T (sym f) tt) (record { low = subst (λ b. T (not b)) (sym (not_below x f l)) tt; high = subst T (sym h) tt; digits = t })) (λ t. (step_passed x t).digits)
+      (λ t. passed_step (subst T (sym f) tt) (record { low = subst (λ b. T (not b)) (sym (not_below x f (no_nan x (power 10) h) l)) tt; high = subst T (sym h) tt; digits = t })) (λ t. (step_passed x t).digits)

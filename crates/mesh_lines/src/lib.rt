@@ -80,9 +80,12 @@ fn put_limit(line: &[u8], words: &mut [u32]) -> bool
     ensures { Put (is_limit line.now) (number_or_none (field_of 1 line.now) ∷ []) 0 words.old words.new result }
 {
     let name = fields::field(line, 0);
-    let entry = fields::field(line, 1);
     mesh_fields::is_word(name, b"limit")
-        && mesh_fields::put_reading(mesh_fields::number_or_none(entry), 0, words)
+        && mesh_fields::put_reading(
+            mesh_fields::number_or_none(fields::field(line, 1)),
+            0,
+            words,
+        )
 }
 
 // Puts the split that is field 2.

@@ -38,8 +38,9 @@ fn belongs(heading: Option<IntVector>, e: IntVector) -> bool
         return true;
     }
     match plane::angle_cmp(begun, e) {
+        Ordering::Less => false,
         Ordering::Equal => true,
-        Ordering::Less | Ordering::Greater => false,
+        Ordering::Greater => false,
     }
 }
 

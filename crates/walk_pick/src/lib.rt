@@ -35,7 +35,8 @@ fn lesser(a: IntVector, b: IntVector) -> Step
         return Step::Second(b);
     }
     match plane::angle_cmp(a, b) {
-        Ordering::Less | Ordering::Equal => Step::First(a),
+        Ordering::Less => Step::First(a),
+        Ordering::Equal => Step::First(a),
         Ordering::Greater => Step::Second(b),
     }
 }
